@@ -1,0 +1,36 @@
+//! Lists of ids.
+ghost use Rattle.std.specs.Prelude.{◌≡◌, IfOk};
+
+use crate::memory::Memory;
+use std::alloc::Global;
+use std::collections::BTreeSet;
+use std::marker::Model;
+
+/// Ids, ascending.
+#[derive(Debug, Drop)]
+pub struct Ids {
+    items: Vec<u32>,
+}
+
+impl Model for Ids {
+    ghost use Rattle.std.specs.Prelude.{List, ℕ};
+
+    ghost Value = { List ℕ };
+
+    ghost view = { λ a. a.items.items };
+}
+
+impl Ids {
+    pub(crate) fn from_set(alloc: Global, set: &BTreeSet<u32>) -> Result<Ids, Memory>
+        ensures { IfOk result (λ ids. ids ≡ set.now.keys) }
+    {
+        let items = set.iter().copied().collect(alloc)?;
+        Ok(Ids { items })
+    }
+
+    pub fn items(&self) -> &[u32]
+        ensures { result.now ≡ self.now }
+    {
+        self.items.as_slice()
+    }
+}
