@@ -1,3 +1,0 @@
-mod Ascending
-mod GivingBack
-mod HoldersLaws
