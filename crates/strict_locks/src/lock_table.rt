@@ -21,14 +21,14 @@ pub struct LockTable {
 }
 
 impl Model for LockTable {
-    ghost use Rattle.strict_locks.specs.Locks.{Table, AreHeld};
-    ghost use Rattle.strict_locks.specs.Clients.{AreListed};
+    ghost use Rattle.strict_locks.specs.Locks.{Table};
+    ghost use Rattle.strict_locks.specs.Clients.{AreSound};
 
     ghost Value = { Table };
 
     ghost view = { λ a. a.locks.entries };
 
-    ghost invariant = { λ a. AreHeld a.locks.entries × AreListed a.locks.entries a.lists.entries };
+    ghost invariant = { λ a. AreSound a.locks.entries a.lists.entries };
 }
 
 impl LockTable {
@@ -98,7 +98,8 @@ impl LockTable {
 
     /// The least client that owns or shares the object, and `None` where nobody does.
     pub fn holder(&self, id: u32) -> Option<u8>
-        ensures { IsLeastOrNone (λ p. is_holder (holders_of self.now id) p ≡ true) result }
+        ensures least { IsLeastOrNone (λ p. is_holder (holders_of self.now id) p ≡ true) result }
+        ensures exclusive { IsExclusive (holders_of self.now id) }
     {
         objects::least_holder(&self.locks, id)
     }
