@@ -1,0 +1,4 @@
+mod Ascending
+mod GivingBack
+mod HoldersLaws
+mod IndexLaws
