@@ -1,5 +1,5 @@
 -- How what a journal keeps stands for a state of the reference machine.
-use Rattle.std.specs.Prelude.{◌≡◌, ℕ, ◌+◌, ◌<◌, ◌≤◌, Bool, true, false, not, ◌==◌, ◌&&◌, nat_lt, nat_le, List, length, count_by, Option, Some, None}
+use Rattle.std.specs.Prelude.{◌≡◌, ℕ, ◌+◌, ◌<◌, ◌≤◌, if◌then◌else◌, Bool, true, false, not, ◌==◌, ◌&&◌, nat_lt, nat_le, List, length, count_by, Option, Some, None}
 use Rattle.std.specs.List.{list_any}
 use Rattle.std.specs.Option.{option_map_or}
 use Rattle.std.specs.Ordering.{nat_cmp}
@@ -10,7 +10,9 @@ use Rattle.plain_model.specs.declared.calls.Reply.{Reply}
 use Rattle.plain_model.specs.Graphs.{object_at}
 use Rattle.plain_model.specs.ActiveTransaction.{ActiveTransaction}
 use Rattle.plain_model.specs.Machine.{State, step, transaction_of, own_graph, is_among, is_stored}
-use Rattle.plain_model.specs.History.{can_be_undone, undone_after, IsId}
+use Rattle.plain_model.specs.History.{can_be_undone, undoable, undone_after, after_undo, IsId}
+use Rattle.plain_model.specs.declared.calls.Call.TheVariants.{Abort}
+use Rattle.plain_model.specs.declared.calls.Reply.TheVariants.{Done}
 use Rattle.plain_laws.specs.Sound.{IsSoundState}
 use Rattle.strict_locks.specs.Locks.{holders_of, is_owner, is_sharer}
 use Rattle.core_store.specs.declared.contents.Contents.{Contents}
@@ -83,3 +85,11 @@ pub record Answers (w : TablesView) (s : State) (undone : ℕ → ℕ) (pass : �
 -- whatever state the tables stand for, the call is done as the machine does it
 abbrev pub Performs : TablesView → TablesView → ℕ → TransactionCall → Reply → Type 0
 Performs v w pass call reply = (s : State) (undone : ℕ → ℕ) → Stands v s undone → IsProper s → Answers w s undone pass call reply
+
+-- whatever state the tables stand for, one write of the client is undone
+abbrev pub UndoesOne : TablesView → TablesView → ℕ → Type 0
+UndoesOne v w pass = (s : State) (undone : ℕ → ℕ) → Stands v s undone → IsProper s → (undone pass < undoable s pass) × Stands w (after_undo s pass) (λ p. if p == pass then undone p + 1 else undone p)
+
+-- whatever state the tables stand for, all writes of the client are undone, and its abort is done
+abbrev pub EndsAbort : TablesView → TablesView → ℕ → Type 0
+EndsAbort v w pass = (s : State) (undone : ℕ → ℕ) → Stands v s undone → IsProper s → (undone pass ≡ undoable s pass) × Answers w s undone pass Abort Done

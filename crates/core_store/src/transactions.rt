@@ -1,10 +1,11 @@
 //! The transactions of the active clients.
 ghost use Rattle.std.specs.Prelude.{◌≡◌, ℕ, ◌+◌, ◌-◌, ◌^◌, ◌<◌, IfOk, IfErr, IfSome, OnOk, OnErr, Some, None, false};
+ghost use Rattle.std.specs.Option.{option_map_or};
 ghost use Rattle.std.specs.Ordering.{nat_cmp};
 ghost use Rattle.std.specs.BTreeMap.{insert_entry, is_at};
 ghost use Rattle.std.specs.Map.{remove_entry};
 ghost use Rattle.core_store.specs.Transactions.{Running, just_begun, loaded, running_at, owing, undoing};
-ghost use Rattle.core_store.specs.Refusals.{HasSubject, HasSource, subject_refusal};
+ghost use Rattle.core_store.specs.Refusals.{HasSubject, HasSource, subject_refusal, if_not_running};
 ghost use Rattle.core_store.specs.Tables.{changed_at};
 
 use crate::transaction::Transaction;
@@ -33,6 +34,17 @@ pub(crate) fn subject(transactions: &Transactions, pass: u8, r: u8) -> Result<u3
     }
 }
 
+/// The refusal where the client has no transaction, or one that is being undone.
+pub(crate) fn not_running(transactions: &Transactions, pass: u8) -> Option<Reply>
+    ensures { result ≡ if_not_running (running_at transactions.now.entries pass) }
+{
+    match transactions.get(&pass) {
+        None => Some(Reply::NoTxn),
+        Some(transaction) if transaction.is_aborting() => Some(Reply::Aborting),
+        Some(_) => None,
+    }
+}
+
 /// The id that a `Store` lays, or the refusal where its register is empty.
 pub(crate) fn source(transactions: &Transactions, pass: u8, from: Option<u8>) -> Result<u32, Reply>
     requires { IfSome from (λ f. f < 8) }
@@ -41,6 +53,16 @@ pub(crate) fn source(transactions: &Transactions, pass: u8, from: Option<u8>) ->
     match transactions.get(&pass) {
         Some(transaction) => transaction.source(from),
         None => Err(Reply::NoTxn),
+    }
+}
+
+/// How many writes of the client can be undone and aren't.
+pub(crate) fn left(transactions: &Transactions, pass: u8) -> usize
+    ensures { result ≡ option_map_or (λ t. t.left) (running_at transactions.now.entries pass) 0 }
+{
+    match transactions.get(&pass) {
+        Some(transaction) => transaction.left(),
+        None => 0,
     }
 }
 

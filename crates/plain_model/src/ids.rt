@@ -34,3 +34,13 @@ impl Ids {
         self.items.as_slice()
     }
 }
+
+impl From<Vec<u32>> for Ids {
+    ghost use Rattle.std.specs.Prelude.{◌≡◌};
+
+    ghost from_gives = { λ v ids. ids ≡ v.items };
+
+    fn from(items: Vec<u32>) -> Ids {
+        Ids { items }
+    }
+}

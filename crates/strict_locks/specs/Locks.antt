@@ -62,6 +62,10 @@ Nobody P = (p : ℕ) → ¬ P p
 abbrev pub IsLeastOrNone : (ℕ → Type 0) → Option ℕ → Type 0
 IsLeastOrNone P found = MatchOption found (Nobody P) (IsLeast P)
 
+-- the list names the objects that the client holds, and no others
+abbrev pub NamesExactly : Table → ℕ → List ℕ → Type 0
+NamesExactly table pass ids = (id : ℕ) → list_any (is_at (nat_cmp id)) ids ≡ is_holder (holders_of table id) pass
+
 -- ---- how the calls change the table
 
 -- the client shares the object too, and every other lock is as before

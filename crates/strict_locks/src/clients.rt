@@ -41,3 +41,13 @@ pub(crate) fn note(lists: &mut BTreeMap<u8, Vec<u32>>, pass: u8, id: u32)
         push_into_room(ids, id);
     }
 }
+
+/// The client's list.
+pub(crate) fn list(lists: &BTreeMap<u8, Vec<u32>>, pass: u8) -> &[u32]
+    ensures { result.now ≡ ids_of lists.now.entries pass }
+{
+    match lists.get(&pass) {
+        Some(ids) => ids.as_slice(),
+        None => &[],
+    }
+}

@@ -32,7 +32,7 @@ impl Model for LockTable {
 }
 
 impl LockTable {
-    ghost use Rattle.strict_locks.specs.Locks.{holders_of, is_holder, IsExclusive, StandsInWay, StandsInWayOfShare, StandsInWayOfOwn, Nobody, IsLeastOrNone, AddsShare, AddsOwner, DropsAll};
+    ghost use Rattle.strict_locks.specs.Locks.{holders_of, is_holder, IsExclusive, NamesExactly, StandsInWay, StandsInWayOfShare, StandsInWayOfOwn, Nobody, IsLeastOrNone, AddsShare, AddsOwner, DropsAll};
     ghost use Rattle.strict_locks.specs.Refusal.{IsRefusal};
 
     /// The table without a lock. It takes no memory.
@@ -84,6 +84,13 @@ impl LockTable {
         objects::own(&mut self.locks, self.alloc, pass, id)?;
         clients::note(&mut self.lists, pass, id);
         Ok(())
+    }
+
+    /// The objects that the client holds, each once. It takes no memory.
+    pub fn held(&self, pass: u8) -> &[u32]
+        ensures { NamesExactly self.now pass result.now }
+    {
+        clients::list(&self.lists, pass)
     }
 
     /// Gives all of the client's locks back. It takes no memory, and costs as much as the client
