@@ -27,15 +27,15 @@ use Rattle.plain_laws.proofs.Lookups.{object_at-after_writes, writes_at-other}
 use Rattle.plain_laws.proofs.States.{contrary, not_true, apart-now, unowned_unwritten}
 use Rattle.plain_laws.proofs.Legal.{sound-next, without_other}
 use Rattle.plain_laws.proofs.Transactions.{holds-shares_more, holds-owns_more}
-use Rattle.plain_laws.proofs.Alone.{AgreesHeld, IsWork, next_txn, work-active, work-committed, work-aborting, work_alone, Runs, Runs-push, Runs-begin}
+use Rattle.plain_laws.proofs.Alone.{AgreesHeld, IsWork, next_transaction, work-active, work-committed, work-aborting, work_alone, Runs, Runs-push, Runs-begin}
 use Rattle.plain_laws.proofs.Ways.{Way, refused, begins, succeeds, way, success-succeeds}
 
 -- ---- a commit leaves what others hold
 
 pub commit-leaves_held_proof : commit-leaves_held
-commit-leaves_held_proof s p q t u id h e f n held_references =
+commit-leaves_held_proof s p q t u id h e f n is_held =
     object_at-after_writes s.slots s.committed t.writes id ∙ writes_at-other s.slots id (object_at s.committed id) t.writes
-    (unowned_unwritten t id t.writes (h.transactions p t e).writes_owned (not_true (is_among id t.owned) (λ o. contrary (holds id u) held_references ((apart-now s p t h e q u f n id).0 o))))
+    (unowned_unwritten t id t.writes (h.transactions p t e).writes_owned (not_true (is_among id t.owned) (λ o. contrary (holds id u) is_held ((apart-now s p t h e q u f n id).0 o))))
 
 -- ---- the calls so far, with one more entry
 
@@ -88,7 +88,7 @@ told-by ids slots before e s n told each q u f a g agrees =
     (λ k. k g agrees)
     (each q u f a))
 
-held_more : (s : State) (t : ActiveTransaction) (call : TransactionCall) → IsWork call → (x : ℕ) → holds x t ≡ true → holds x (next_txn s t call) ≡ true
+held_more : (s : State) (t : ActiveTransaction) (call : TransactionCall) → IsWork call → (x : ℕ) → holds x t ≡ true → holds x (next_transaction s t call) ≡ true
 held_more s t Begin w x m = absurd w
 held_more s t Commit w x m = absurd w
 held_more s t Abort w x m = absurd w
@@ -103,7 +103,7 @@ told-work : (ids slots : ℕ) (before : List Entry) (s : State) (pass : ℕ) (t 
     → IsTold ids slots before s → IsTold ids slots (before ++ Call pass call reply ∷ []) (success s pass t call).1
 told-work ids slots before s pass t call reply w sl h h2 e f r told =
     let n = (success s pass t call).1 in
-    let u = next_txn s t call in
+    let u = next_transaction s t call in
     let placed = work-active s pass t call w in
     let same = work-committed s pass t call w in
     told-by ids slots before (Call pass call reply) s n told (λ q v k a.
