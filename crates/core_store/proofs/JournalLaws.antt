@@ -1,6 +1,7 @@
 -- One entry more keeps a journal sound.
 use Rattle.std.proofs.Common.{◌≡◌, ◌≢◌, ℕ, zero, suc, ◌+◌, ◌-◌, ◌<◌, ◌≤◌, List, [], ◌∷◌, ◌++◌, Bool, true, false, cond, refl, sym, ap, ◌∙◌, subst, Option, Some, None, inl, inr, ◌⊎◌, ⊎_elim, arith, length}
-use Rattle.std.specs.Prelude.{◌==◌, ◌&&◌, not, nat_lt, nat_le, replicate, is_some, IsSome, fold, filter, if◌then◌else◌}
+use Rattle.std.specs.Result.{is_err}
+use Rattle.std.specs.Prelude.{Result, Ok, Err, OnOk, ◌==◌, ◌&&◌, not, nat_lt, nat_le, replicate, is_some, IsSome, fold, filter, if◌then◌else◌}
 use Rattle.std.specs.List.{list_any, AllByRecursion}
 use Rattle.std.specs.Ordering.{nat_cmp}
 use Rattle.std.specs.BTreeMap.{is_at}
@@ -16,7 +17,7 @@ use Rattle.plain_model.specs.Graphs.{root, blank, has_object, object_at}
 use Rattle.plain_model.specs.ActiveTransaction.{ActiveTransaction}
 use Rattle.plain_model.specs.Machine.{State, opening_state, step, transaction_of, is_stored}
 use Rattle.plain_model.specs.History.{Moment, History, IsLegal, IsAllowed, IsId, with_entry, end_of, next, is_stopped, left_to_undo, undoable}
-use Rattle.plain_model.proofs.StepLaws.{is_stopped-call, step-plain, is_plain}
+use Rattle.plain_model.proofs.StepLaws.{is_stopped-call, step-plain, is_plain, end_of-ids, end_of-slots}
 use Rattle.plain_model.proofs.StepLemmas.{step-out}
 use Rattle.plain_model.proofs.HistoryLemmas.{IsLegal-with_entry, end_of-with_entry}
 use Rattle.plain_laws.specs.Sound.{IsSoundGraph, IsSoundState, Ascend}
@@ -35,11 +36,8 @@ use Rattle.core_store.specs.Journal.{Keeps}
 pub proper-end : (h : History) (v : TablesView) → Keeps h v → IsProper (end_of h).state
 proper-end h v k = record {
   sound = legal-sound_proof h k.opened k.legal;
-  ids = λ id e. subst (λ (n : ℕ). IsId n id) (sym (end_ids h)) (legal-ids_proof h k.bounded k.legal id e);
+  ids = λ id e. subst (λ (n : ℕ). IsId n id) (sym (end_of-ids h)) (legal-ids_proof h k.bounded k.legal id e);
 }
-  where
-    end_ids : (h : History) → (end_of h).state.ids ≡ h.ids
-    end_ids h = Rattle.plain_model.proofs.StepLaws.end_of-ids h
 
 -- ---- a call
 
@@ -128,3 +126,15 @@ there None e = absurd (cc)
 
 pub active-running : (h : History) (v : TablesView) (pass : ℕ) → Keeps h v → IsSome (transaction_of (end_of h).state pass) → IsSome (running_at v.transactions pass)
 active-running h v pass k e = there (running_at v.transactions pass) (active-same h v pass k ∙ present (transaction_of (end_of h).state pass) e)
+
+-- ---- out of memory is no reply of the machine
+
+pub never_memory : (s : State) (pass : ℕ) (call : TransactionCall) (reply : Reply) → reply ≡ (step s pass call).0 → reply ≢ Rattle.plain_model.specs.declared.calls.Reply.TheVariants.Memory
+never_memory s pass call reply e f =
+    let p : is_plain reply ≡ true = ap is_plain e ∙ step-plain s pass call in
+    let q : false ≡ true = sym (ap is_plain f) ∙ p in
+    cc
+
+pub on_ok : {T E : Type 0} {P : Type 0} (r : Result T E) (b : Bool) → b ≡ is_err r → b ≡ false → OnOk r P → P
+on_ok (Ok x) b e f h = h
+on_ok (Err x) b e f h = absurd (cc)
