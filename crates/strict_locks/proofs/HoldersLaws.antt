@@ -6,7 +6,7 @@ use Rattle.std.proofs.lemmas.Bool.Decides.{nat_tests}
 use Rattle.std.specs.Map.{lookup, set_value}
 use Rattle.std.proofs.lemmas.Map.Steps.{set_value_same}
 use Rattle.std.proofs.lemmas.Bool.{cond_both}
-use Rattle.strict_locks.specs.Locks.{Holders, Table, holders_of, no_holders, is_sharer, is_holder, IsExclusive, StandsInWayOfShare, StandsInWayOfOwn, Nobody, IsLeast, AreHeld}
+use Rattle.strict_locks.specs.Locks.{Holders, Table, holders_of, no_holders, is_sharer, Holds, IsExclusive, StandsInWayOfShare, StandsInWayOfOwn, Nobody, IsLeast, AreHeld}
 
 -- the object stays exclusive when a client owns it that nobody stands in the way of
 pub exclusive-own : (h : Holders) (pass : ℕ) → Nobody (StandsInWayOfOwn h pass) → IsExclusive (record h { owner = Some pass })
@@ -17,7 +17,7 @@ pub exclusive-share : (old new : Holders) (pass : ℕ) → Nobody (StandsInWayOf
 exclusive-share old new pass free owner sharers exclusive p q owns holds = let f = free p in let s = sharers q in let e = exclusive p q in grind (arith, nat_tests, f, s, e)
 
 -- an owner is the least holder
-pub least-owner : (h : Holders) (o : ℕ) → IsExclusive h → h.owner ≡ Some o → IsLeast (λ p. is_holder h p ≡ true) o
+pub least-owner : (h : Holders) (o : ℕ) → IsExclusive h → h.owner ≡ Some o → IsLeast (Holds h) o
 least-owner h o exclusive owner = (grind (arith, nat_tests), λ q holds. let e = exclusive o q in grind (arith, nat_tests))
 
 -- an owner that is another client is the least that stands in the way of owning
@@ -33,7 +33,7 @@ pub entries-same : (old new : Table) (id : ℕ) (h written : Holders) → lookup
 entries-same old new id h written found same writes = writes ∙ set_value_same (is_at (nat_cmp id)) old written (found ∙ ap Some (sym same))
 
 -- every object with an entry stays held when one gets a lock that somebody holds
-pub AreHeld-put : (old new : Table) (id : ℕ) (h : Holders) (p : ℕ) → is_holder h p ≡ true → ((q : ℕ) → lookup (is_at (nat_cmp q)) new ≡ cond (is_at (nat_cmp id) q) (Some h) (lookup (is_at (nat_cmp q)) old)) → AreHeld old → AreHeld new
+pub AreHeld-put : (old new : Table) (id : ℕ) (h : Holders) (p : ℕ) → Holds h p → ((q : ℕ) → lookup (is_at (nat_cmp q)) new ≡ cond (is_at (nat_cmp id) q) (Some h) (lookup (is_at (nat_cmp q)) old)) → AreHeld old → AreHeld new
 AreHeld-put old new id h p holds puts held x =
-    let P : Option Holders → Type 0 = λ o. IfSome o (λ g. (q : ℕ) × (is_holder g q ≡ true)) in
+    let P : Option Holders → Type 0 = λ o. IfSome o (λ g. (q : ℕ) × Holds g q) in
     subst P (sym (puts x)) (cond_both (is_at (nat_cmp id) x) (Some h) (lookup (is_at (nat_cmp x)) old) P (λ _. (p, holds)) (λ _. held x))

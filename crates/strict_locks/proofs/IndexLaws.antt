@@ -1,5 +1,5 @@
 -- Laws on the lists of the objects that the clients hold.
-use Rattle.std.proofs.Common.{◌≡◌, ℕ, true, false, cond, List, [], ◌∷◌, ◌++◌, Option, None, eqb, refl, sym, ap, ◌∙◌, subst}
+use Rattle.std.proofs.Common.{◌≡◌, ℕ, false, cond, List, [], ◌∷◌, ◌++◌, Option, None, eqb, refl, sym, ap, ◌∙◌, subst}
 use Rattle.std.specs.Cmp.{nat_cmp_total, eq_by_cmp_equiv}
 use Rattle.std.specs.Global.{Vec}
 use Rattle.std.specs.List.{list_any, IsDistinct}
@@ -9,7 +9,6 @@ use Rattle.std.specs.Map.{lookup}
 use Rattle.std.specs.Option.{option_map_or}
 use Rattle.std.proofs.lemmas.Bool.{cond_both, eqb-true}
 use Rattle.std.proofs.lemmas.Map.Keys.{IsDistinct-push}
-use Rattle.strict_locks.specs.Locks.{Table, holders_of, is_holder}
 use Rattle.strict_locks.specs.Clients.{Lists, ids_of, AddsId, AreDistinct, AreSound}
 
 distinct-none : IsDistinct (eq_by_cmp nat_cmp) []
@@ -25,11 +24,11 @@ pub AreDistinct-note : (old kept new : Lists) (pass id : ℕ) → AreDistinct ol
 AreDistinct-note old kept new pass id distinct same adds absent p =
     let P : List ℕ → Type 0 = λ ids. IsDistinct (eq_by_cmp nat_cmp) ids in
     subst P (sym (adds p)) (cond_both (eqb p pass) (ids_of kept p ++ id ∷ []) (ids_of kept p) P
-        (λ here.
-            let Lacks : ℕ → Type 0 = λ q. list_any (is_at (nat_cmp id)) (ids_of old q) ≡ false in
-            let lacks = ap (list_any (is_at (nat_cmp id))) (same p) ∙ subst Lacks (sym (eqb-true p pass here)) absent in
-            IsDistinct-push (eq_by_cmp_equiv nat_cmp_total) _ id (subst P (sym (same p)) (distinct p)) lacks)
-        (λ _. subst P (sym (same p)) (distinct p)))
+    (λ here.
+    let Lacks : ℕ → Type 0 = λ q. list_any (is_at (nat_cmp id)) (ids_of old q) ≡ false in
+    let lacks = ap (list_any (is_at (nat_cmp id))) (same p) ∙ subst Lacks (sym (eqb-true p pass here)) absent in
+    IsDistinct-push (eq_by_cmp_equiv nat_cmp_total) _ id (subst P (sym (same p)) (distinct p)) lacks)
+    (λ _. subst P (sym (same p)) (distinct p)))
 
 -- the lists stay without repeats when a client's list is taken away
 pub AreDistinct-remove : (old new : Lists) (pass : ℕ) → ((q : ℕ) → lookup (is_at (nat_cmp q)) new ≡ cond (is_at (nat_cmp pass) q) None (lookup (is_at (nat_cmp q)) old)) → AreDistinct old → AreDistinct new

@@ -2,3 +2,4 @@ mod Ascending
 mod GivingBack
 mod HoldersLaws
 mod IndexLaws
+pub mod LockLaws

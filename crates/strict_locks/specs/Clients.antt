@@ -6,12 +6,13 @@ use Rattle.std.specs.Option.{option_map_or}
 use Rattle.std.specs.Ordering.{nat_cmp, eq_by_cmp}
 use Rattle.std.specs.BTreeMap.{is_at}
 use Rattle.std.specs.Map.{lookup}
-use Rattle.strict_locks.specs.Locks.{Table, holders_of, is_holder, AreHeld}
+use Rattle.strict_locks.specs.Locks.{Table, holders_of, is_holder, Holds, AreHeld}
 
 -- the clients, ascending, each with the list of the objects that it holds
 abbrev pub Lists : Type 0
 Lists = List (ℕ × Vec ℕ)
 
+-- the objects that the client's list names
 abbrev pub ids_of : Lists → ℕ → List ℕ
 ids_of lists pass = option_map_or (λ ids. ids.items) (lookup (is_at (nat_cmp pass)) lists) []
 
@@ -39,4 +40,4 @@ pub record AreSound (table : Table) (lists : Lists) : Type 0 where
 
 -- the list names each object that the client holds
 abbrev pub NamesHeld : Table → ℕ → List ℕ → Type 0
-NamesHeld table pass ids = (id : ℕ) → is_holder (holders_of table id) pass ≡ true → list_any (is_at (nat_cmp id)) ids ≡ true
+NamesHeld table pass ids = (id : ℕ) → Holds (holders_of table id) pass → list_any (is_at (nat_cmp id)) ids ≡ true

@@ -15,25 +15,33 @@ pub record Holders : Type 0 where
 abbrev pub Table : Type 0
 Table = List (ℕ × Holders)
 
+-- who holds an object that has no entry
 abbrev pub no_holders : Holders
 no_holders = record { owner = None; sharers = [] }
 
+-- who holds the object
 abbrev pub holders_of : Table → ℕ → Holders
 holders_of table id = unwrap_or (lookup (is_at (nat_cmp id)) table) no_holders
 
+-- whether the client owns the object
 abbrev pub is_owner : Holders → ℕ → Bool
 is_owner h p = option_map_or (λ owner. owner == p) h.owner false
 
+-- whether the client shares the object, be it beside owning it
 abbrev pub is_sharer : Holders → ℕ → Bool
 is_sharer h p = list_any (is_at (nat_cmp p)) h.sharers
 
--- the client owns or shares the object
+-- whether the client owns or shares the object
 abbrev pub is_holder : Holders → ℕ → Bool
 is_holder h p = is_owner h p || is_sharer h p
 
+-- the client owns or shares the object
+abbrev pub Holds : Holders → ℕ → Type 0
+Holds h p = is_holder h p ≡ true
+
 -- an object that is owned has no holder but its owner
 abbrev pub IsExclusive : Holders → Type 0
-IsExclusive h = (p q : ℕ) → is_owner h p ≡ true → is_holder h q ≡ true → q ≡ p
+IsExclusive h = (p q : ℕ) → is_owner h p ≡ true → Holds h q → q ≡ p
 
 -- ---- when a lock is granted
 
@@ -43,7 +51,7 @@ StandsInWayOfShare h pass p = (p ≢ pass) × (is_owner h p ≡ true)
 
 -- the client p keeps another from owning the object: p owns or shares it
 abbrev pub StandsInWayOfOwn : Holders → ℕ → ℕ → Type 0
-StandsInWayOfOwn h pass p = (p ≢ pass) × (is_holder h p ≡ true)
+StandsInWayOfOwn h pass p = (p ≢ pass) × Holds h p
 
 -- in the way of owning, where `alone` is true, and else of sharing
 abbrev pub StandsInWay : Bool → Holders → ℕ → ℕ → Type 0
@@ -93,4 +101,4 @@ pub record GivesBack (old new : Table) (pass id : ℕ) : Type 0 where
 
 -- no object without a holder has an entry
 abbrev pub AreHeld : Table → Type 0
-AreHeld table = (id : ℕ) → IfSome (lookup (is_at (nat_cmp id)) table) (λ h. (p : ℕ) × (is_holder h p ≡ true))
+AreHeld table = (id : ℕ) → IfSome (lookup (is_at (nat_cmp id)) table) (λ h. (p : ℕ) × Holds h p)

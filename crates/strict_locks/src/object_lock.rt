@@ -2,7 +2,7 @@
 ghost use Rattle.std.specs.Prelude.{◌≡◌, ◌≢◌, ℕ, ◌||◌, ◌&&◌, ◌==◌, not, [], ◌∷◌, Some, None, OnOk, OnErr, IfOk, true};
 ghost use Rattle.std.specs.Ordering.{nat_cmp};
 ghost use Rattle.std.specs.BTreeSet.{contains};
-ghost use Rattle.strict_locks.specs.Locks.{is_owner, is_sharer, is_holder, IsExclusive, StandsInWayOfShare, StandsInWayOfOwn, Nobody, IsLeastOrNone};
+ghost use Rattle.strict_locks.specs.Locks.{is_owner, is_sharer, is_holder, Holds, IsExclusive, StandsInWayOfShare, StandsInWayOfOwn, Nobody, IsLeastOrNone};
 
 use std::alloc::{AllocError, Global};
 use std::collections::BTreeSet;
@@ -89,7 +89,7 @@ impl ObjectLock {
 
     /// The least client that holds the object.
     pub(crate) fn least_holder(&self) -> Option<u8>
-        ensures least { IsLeastOrNone (λ p. is_holder self.now p ≡ true) result }
+        ensures least { IsLeastOrNone (Holds self.now) result }
         ensures exclusive { IsExclusive self.now }
     {
         match self.owner {

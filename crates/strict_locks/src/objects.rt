@@ -1,6 +1,6 @@
 //! The lock of each object.
 ghost use Rattle.std.specs.Prelude.{◌≡◌, ◌≢◌, ℕ, OnOk, OnErr, IsSome, IfSome, true};
-ghost use Rattle.strict_locks.specs.Locks.{holders_of, is_holder, IsExclusive, StandsInWayOfShare, StandsInWayOfOwn, Nobody, IsLeastOrNone, AddsShare, AddsOwner, GivesBack, DropsAll, AreHeld};
+ghost use Rattle.strict_locks.specs.Locks.{holders_of, is_holder, Holds, IsExclusive, StandsInWayOfShare, StandsInWayOfOwn, Nobody, IsLeastOrNone, AddsShare, AddsOwner, GivesBack, DropsAll, AreHeld};
 ghost use Rattle.strict_locks.specs.Clients.{NamesHeld};
 
 use crate::object_lock::ObjectLock;
@@ -33,7 +33,7 @@ pub(crate) fn other_holder(locks: &BTreeMap<u32, ObjectLock>, pass: u8, id: u32)
 
 /// The least client that holds the object.
 pub(crate) fn least_holder(locks: &BTreeMap<u32, ObjectLock>, id: u32) -> Option<u8>
-    ensures least { IsLeastOrNone (λ p. is_holder (holders_of locks.now.entries id) p ≡ true) result }
+    ensures least { IsLeastOrNone (Holds (holders_of locks.now.entries id)) result }
     ensures exclusive { IsExclusive (holders_of locks.now.entries id) }
 {
     locks.get(&id)?.least_holder()

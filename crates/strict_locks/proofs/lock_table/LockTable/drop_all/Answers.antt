@@ -7,5 +7,5 @@ pub invariant_of-self : goal.invariant_of-self
 invariant_of-self c = record {
   held = c.give_back_all.ensures.held c.self.invariant.held;
   listed = grind (arith, common_steps);
-  distinct = AreDistinct-remove c.self.inside.lists.entries _ c.args.pass c.remove.ensures.updates.0 c.self.invariant.distinct
+  distinct = AreDistinct-remove c.self.inside.lists.entries _ c.args.pass c.remove.ensures.updates.0 c.self.invariant.distinct;
 }
