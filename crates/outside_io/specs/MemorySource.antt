@@ -17,7 +17,7 @@ pub record SourceState : Type 0 where
 abbrev pub FailsNext : SourceState → Type 0
 FailsNext s = Contains s.fails (raised s.calls)
 
--- after a read that failed: it is counted twice, and no byte is taken
+-- after a read that failed: it counts as a call and as a fault, and no byte is taken
 abbrev pub after_fault : SourceState → SourceState
 after_fault s = record s { calls = raised s.calls; faults = raised s.faults }
 

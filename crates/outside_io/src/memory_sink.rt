@@ -24,14 +24,21 @@ impl Model for MemorySink {
 
     ghost Value = { SinkState };
 
-    ghost view = { λ s. record { written = s.bytes.items; calls = s.calls; fails = s.fails.items; faults = s.faults; starved = s.starved } };
+    ghost view = { λ s. record {
+      written = s.bytes.items;
+      calls = s.calls;
+      fails = s.fails.items;
+      faults = s.faults;
+      starved = s.starved;
+    } };
 }
 
 impl MemorySink {
     /// Holds nothing yet, and fails the writes of these numbers. Writes are counted from 1 on, up to
     /// 2^64 - 1, where the count stands still.
     pub fn new(alloc: Global, fails: Vec<u64>) -> MemorySink
-        ensures { result ≡ record { written = []; calls = 0; fails = fails.items; faults = 0; starved = 0 } }
+        ensures { result
+            ≡ record { written = []; calls = 0; fails = fails.items; faults = 0; starved = 0 } }
     {
         MemorySink {
             bytes: Vec::new(alloc),
@@ -83,7 +90,8 @@ impl Sink for MemorySink {
 
         // Which writes fail: those on the list, and beside them only one that found no memory.
         ensures listed { FailsNext self.old → IsErr result × (self.new ≡ after_fault self.old) }
-        ensures unlisted { OnErr result (FailsNext self.old ⊎ ((0 < length piece.now) × (self.new ≡ after_starving self.old))) }
+        ensures unlisted { OnErr result (FailsNext self.old
+            ⊎ ((0 < length piece.now) × (self.new ≡ after_starving self.old))) }
     {
         self.calls = self.calls.saturating_add(1);
         if self.fails.contains(&self.calls) {
