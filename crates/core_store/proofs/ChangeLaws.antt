@@ -110,8 +110,8 @@ module _ (v w : TablesView) (s z : State) (undone after : ℕ → ℕ) (pass : �
     sharers = sharers;
     free = c.free;
     committed = λ id o e.
-      let g : object_at s.committed id ≡ Some o = ap (λ g. object_at g id) (sym c.graph) ∙ e in
-      h.committed id o g ∙ ap (λ x. object_of id x) (sym (c.versions id));
+        let g : object_at s.committed id ≡ Some o = ap (λ g. object_at g id) (sym c.graph) ∙ e in
+        h.committed id o g ∙ ap (λ x. object_of id x) (sym (c.versions id));
     written = written;
     writer = writer;
   }

@@ -150,17 +150,16 @@ ends-abort v w pass ids kept e zero_left names ends s undone h p =
     let z = without_transaction s pass in
     let here = transaction_of-without_same s pass p.sound.passes in
     let others : (q : ℕ) → q ≢ pass → transaction_of z q ≡ transaction_of s q = λ q n. transaction_of-without_other s pass q n in
-    let done : undone pass ≡ count_by can_be_undone t.writes = (let l = a.runs.left in omega (arith, l, zero_left)) in
-    (
+    let done : undone pass ≡ count_by can_be_undone t.writes = (let l = a.runs.left in omega (arith, l, zero_left)) in (
       done ∙ ap (λ o. option_map_or (λ (t : ActiveTransaction). count_by can_be_undone t.writes) o 0) (sym a.found),
       answers-from w s z undone pass Abort Done (step-abort s pass t a.found)
-      (Stands-end v w s z undone pass ids discarded discarding t h p a.found names ends refl refl refl here others
-      (λ k o g.
-      h.committed k o g ∙ ⊎_elim
-      (λ l. ap (λ (y : Version). object_of k y.committed) (sym (version-held v w s z undone pass ids discarded discarding t h p a.found names ends refl refl refl here others k l)))
-      (λ l. ap (λ (y : Version). object_of k y.committed) (sym (version-unheld v w s z undone pass ids discarded discarding t h p a.found names ends refl refl refl here others k l)))
-      (true_or_false (holds k t)))
-      (λ q k y n f m. refl)),
+          (Stands-end v w s z undone pass ids discarded discarding t h p a.found names ends refl refl refl here others
+          (λ k o g.
+          h.committed k o g ∙ ⊎_elim
+          (λ l. ap (λ (y : Version). object_of k y.committed) (sym (version-held v w s z undone pass ids discarded discarding t h p a.found names ends refl refl refl here others k l)))
+          (λ l. ap (λ (y : Version). object_of k y.committed) (sym (version-unheld v w s z undone pass ids discarded discarding t h p a.found names ends refl refl refl here others k l)))
+          (true_or_false (holds k t)))
+          (λ q k y n f m. refl)),
     )
 
 -- ---- an undo
@@ -175,8 +174,7 @@ undoes-one v pass n kept e some_left s undone h p =
     let put = puts-changed pass undoing kept v.transactions e in
     let l = a.runs.left in
     let one_more : after pass ≡ undone pass + 1 = ap (λ b. cond b (undone pass + 1) (undone pass)) (Rattle.plain_laws.proofs.Ids.test_same pass) in
-    let count : undoable s pass ≡ count_by can_be_undone t.writes = ap (λ o. option_map_or (λ (t : ActiveTransaction). count_by can_be_undone t.writes) o 0) a.found in
-    (
+    let count : undoable s pass ≡ count_by can_be_undone t.writes = ap (λ o. option_map_or (λ (t : ActiveTransaction). count_by can_be_undone t.writes) o 0) a.found in (
       omega (arith, l, some_left, count),
       Stands-change v w s (after_undo s pass) undone after pass (undoing kept) u h (record {
         same_ids = refl;

@@ -163,18 +163,18 @@ module _ (v w : TablesView) (s z : State) (undone : ℕ → ℕ) (pass : ℕ) (i
     free = λ k. ap (list_any (is_at (nat_cmp k))) ends.free ∙ (h.free k ∙ free_same k);
     committed = graph;
     written = λ q k y g m.
-      ⊎_elim
-      (λ (e : q ≡ pass). not_here q y e g)
-      (λ (n : q ≢ pass).
-      let a : transaction_of s q ≡ Some y = sym (z_others q n) ∙ g in
-      let x = h.written q k y a m in
-      let r : IsWrittenBy w z k y = record {
-        contents = x.contents;
-        here = ap (λ (x : Version). x.written) (version-unheld k (unheld q k y n a m)) ∙ x.here;
-        object = own q k y n a m ∙ x.object;
-      } in
-      r)
-      (same_or_apart q pass);
+        ⊎_elim
+        (λ (e : q ≡ pass). not_here q y e g)
+        (λ (n : q ≢ pass).
+        let a : transaction_of s q ≡ Some y = sym (z_others q n) ∙ g in
+        let x = h.written q k y a m in
+        let r : IsWrittenBy w z k y = record {
+          contents = x.contents;
+          here = ap (λ (x : Version). x.written) (version-unheld k (unheld q k y n a m)) ∙ x.here;
+          object = own q k y n a m ∙ x.object;
+        } in
+        r)
+        (same_or_apart q pass);
     writer = writer;
   }
     where

@@ -52,10 +52,13 @@ Keeps-call h v w pass call reply k performs out =
     let a = performs m.state m.undone k.stands (proper-end h v k) in
     let plain : is_plain reply ≡ true = ap is_plain a.machine ∙ step-plain m.state pass call in
     record {
-      legal = IsLegal-with_entry h (Call pass call reply) k.legal (k.running, record {
-        machine = inl a.machine;
-        undone = λ c d. absurd (done_abort m.state pass reply (a.machine ∙ ap (λ (x : TransactionCall). (step m.state pass x).0) c) (out c) d);
-      });
+      legal = IsLegal-with_entry h (Call pass call reply) k.legal (
+        k.running,
+        record {
+          machine = inl a.machine;
+          undone = λ c d. absurd (done_abort m.state pass reply (a.machine ∙ ap (λ (x : TransactionCall). (step m.state pass x).0) c) (out c) d);
+        },
+      );
       running = ap is_stopped (end_of-with_entry h (Call pass call reply)) ∙ is_stopped-call m pass call reply k.running plain;
       opened = k.opened;
       bounded = k.bounded;

@@ -101,8 +101,8 @@ module _ (v : TablesView) (s : State) (undone : ℕ → ℕ) (pass id : ℕ) (lo
         graph = refl;
         versions = λ x. refl;
         written = λ x m.
-          let k = h.written pass x t found (subst (λ ws. Rattle.std.specs.List.list_any (λ w. w.id == x) ws ≡ true) writes m) in
-          record { contents = k.contents; here = k.here; object = ap (λ ws. object_at (Rattle.plain_model.specs.Graphs.applied s.slots s.committed ws) x) writes ∙ k.object };
+            let k = h.written pass x t found (subst (λ ws. Rattle.std.specs.List.list_any (λ w. w.id == x) ws ≡ true) writes m) in
+            record { contents = k.contents; here = k.here; object = ap (λ ws. object_at (Rattle.plain_model.specs.Graphs.applied s.slots s.committed ws) x) writes ∙ k.object };
         untouched = λ q x y a f m. refl;
         writer = λ x c e. inr e;
         more = λ y f x m. subst (λ ws. Rattle.std.specs.List.list_any (λ w. w.id == x) ws ≡ true) (ap (λ (a : ActiveTransaction). a.writes) (some_same (transaction_of s pass) y t found f) ∙ sym writes) m;
@@ -122,8 +122,8 @@ performs-read v locks pass r slot into id sub adds free s undone h p =
     let seen : seen_slot s t id slot ≡ value = ap (λ o. option_map_or (λ (o : Object). slice_index o.slots slot) o 0) object in
     let u = with_register into (nonzero value) (with_shared id t) in
     let e : step s pass (Read r slot into) ≡ (Id value, with_transaction s pass u) =
-      step-read s pass t r slot into id m.found m.alive m.register_is (unblocked-shared v s undone pass id h p.sound free)
-      ∙ ap (λ (x : ℕ). let y : Reply × State = (Id x, with_transaction s pass (with_register into (nonzero x) (with_shared id t))) in y) seen in
+    step-read s pass t r slot into id m.found m.alive m.register_is (unblocked-shared v s undone pass id h p.sound free)
+    ∙ ap (λ (x : ℕ). let y : Reply × State = (Id x, with_transaction s pass (with_register into (nonzero x) (with_shared id t))) in y) seen in
     answers-from (record v { locks = locks; transactions = changed_at pass (loaded into (nonzero value)) v.transactions }) s (with_transaction s pass u) undone pass (Read r slot into) (Id value) e
     (Stands-share v s undone pass id locks (changed_at pass (loaded into (nonzero value)) v.transactions) sub.running (loaded into (nonzero value) sub.running) t u h p m.found adds
     (puts-changed pass (loaded into (nonzero value)) sub.running v.transactions sub.is)
@@ -141,8 +141,8 @@ performs-get v locks pass r id sub adds free s undone h p =
     let seen : seen_payload s t id ≡ value = ap (λ o. option_map_or (λ (o : Object). o.payload) o 0) object in
     let u = with_shared id t in
     let e : step s pass (GetPay r) ≡ (Pay value, with_transaction s pass u) =
-      step-get s pass t r id m.found m.alive m.register_is (unblocked-shared v s undone pass id h p.sound free)
-      ∙ ap (λ (x : ℕ). let y : Reply × State = (Pay x, with_transaction s pass u) in y) seen in
+    step-get s pass t r id m.found m.alive m.register_is (unblocked-shared v s undone pass id h p.sound free)
+    ∙ ap (λ (x : ℕ). let y : Reply × State = (Pay x, with_transaction s pass u) in y) seen in
     answers-from (record v { locks = locks }) s (with_transaction s pass u) undone pass (GetPay r) (Pay value) e
     (Stands-share v s undone pass id locks v.transactions sub.running sub.running t u h p m.found adds
     (record { here = sub.is; others = λ q n. refl })

@@ -95,40 +95,40 @@ module _ (v w : TablesView) (s z : State) (undone : ℕ → ℕ) (pass id : ℕ)
     other_sharers = λ k q n. adds.sharers k q;
     graph = z_committed;
     versions = λ k.
-      ⊎_elim
-      (λ (e : k ≡ id). subst (λ y. (version_at w.versions y).committed ≡ (version_at v.versions y).committed) (sym e) (ap (λ (y : Version). y.committed) here))
-      (λ (n : k ≢ id). ap (λ (y : Version). y.committed) (apart k n))
-      (same_or_apart k id);
+        ⊎_elim
+        (λ (e : k ≡ id). subst (λ y. (version_at w.versions y).committed ≡ (version_at v.versions y).committed) (sym e) (ap (λ (y : Version). y.committed) here))
+        (λ (n : k ≢ id). ap (λ (y : Version). y.committed) (apart k n))
+        (same_or_apart k id);
     written = λ k m.
-      ⊎_elim
-      (λ (e : k ≡ id). subst (λ y. IsWrittenBy w z y u) (sym e) (record {
-        contents = next;
-        here = ap (λ (y : Version). y.written) here;
-        object = ap (λ g. object_at g id) (own-more s z t u x z_slots z_committed writes) ∙ object;
-      }))
-      (λ (n : k ≢ id).
-      let other : (x.id == k) ≡ false = ne_eqb x.id k (λ e. n (sym e ∙ x_id)) in
-      let old : writes_to k t ≡ true = ⊎_elim (λ a. a) (λ a. contradict (x.id == k) a other) (any-push_cases (λ (y : Write). y.id == k) t.writes x (subst (λ ws. list_any (λ (y : Write). y.id == k) ws ≡ true) writes m)) in
-      let i = h.written pass k t found old in
-      let r : IsWrittenBy w z k u = record {
-        contents = i.contents;
-        here = ap (λ (y : Version). y.written) (apart k n) ∙ i.here;
-        object = ap (λ g. object_at g k) (own-more s z t u x z_slots z_committed writes) ∙ (after-other s.slots (own_graph s t) x k other ∙ i.object);
-      } in
-      r)
-      (same_or_apart k id);
+        ⊎_elim
+        (λ (e : k ≡ id). subst (λ y. IsWrittenBy w z y u) (sym e) (record {
+          contents = next;
+          here = ap (λ (y : Version). y.written) here;
+          object = ap (λ g. object_at g id) (own-more s z t u x z_slots z_committed writes) ∙ object;
+        }))
+        (λ (n : k ≢ id).
+        let other : (x.id == k) ≡ false = ne_eqb x.id k (λ e. n (sym e ∙ x_id)) in
+        let old : writes_to k t ≡ true = ⊎_elim (λ a. a) (λ a. contradict (x.id == k) a other) (any-push_cases (λ (y : Write). y.id == k) t.writes x (subst (λ ws. list_any (λ (y : Write). y.id == k) ws ≡ true) writes m)) in
+        let i = h.written pass k t found old in
+        let r : IsWrittenBy w z k u = record {
+          contents = i.contents;
+          here = ap (λ (y : Version). y.written) (apart k n) ∙ i.here;
+          object = ap (λ g. object_at g k) (own-more s z t u x z_slots z_committed writes) ∙ (after-other s.slots (own_graph s t) x k other ∙ i.object);
+        } in
+        r)
+        (same_or_apart k id);
     untouched = λ q k y n f m.
-      ⊎_elim
-      (λ (e : k ≡ id). contradict (holds id y) (owner-holds id y (writer-owns s q id y p.sound f (subst (λ a. writes_to a y ≡ true) e m))) (alone q y f n))
-      (λ (a : k ≢ id). ap (λ (y : Version). y.written) (apart k a))
-      (same_or_apart k id);
+        ⊎_elim
+        (λ (e : k ≡ id). contradict (holds id y) (owner-holds id y (writer-owns s q id y p.sound f (subst (λ a. writes_to a y ≡ true) e m))) (alone q y f n))
+        (λ (a : k ≢ id). ap (λ (y : Version). y.written) (apart k a))
+        (same_or_apart k id);
     writer = λ k c e.
-      ⊎_elim
-      (λ (a : k ≡ id). inl (subst (λ ws. list_any (λ (y : Write). y.id == k) ws ≡ true) (sym writes) (any-push_here (λ (y : Write). y.id == k) t.writes x (subst (λ b. (x.id == b) ≡ true) (x_id ∙ sym a) (test_same x.id)))))
-      (λ (n : k ≢ id). inr (ap (λ (y : Version). y.written) (sym (apart k n)) ∙ e))
-      (same_or_apart k id);
+        ⊎_elim
+        (λ (a : k ≡ id). inl (subst (λ ws. list_any (λ (y : Write). y.id == k) ws ≡ true) (sym writes) (any-push_here (λ (y : Write). y.id == k) t.writes x (subst (λ b. (x.id == b) ≡ true) (x_id ∙ sym a) (test_same x.id)))))
+        (λ (n : k ≢ id). inr (ap (λ (y : Version). y.written) (sym (apart k n)) ∙ e))
+        (same_or_apart k id);
     more = λ y f k m.
-      let same = some_same (transaction_of s pass) y t found f in
-      subst (λ ws. list_any (λ (y : Write). y.id == k) ws ≡ true) (sym writes) (any-push_more (λ (y : Write). y.id == k) t.writes x (subst (λ (a : ActiveTransaction). writes_to k a ≡ true) same m));
+        let same = some_same (transaction_of s pass) y t found f in
+        subst (λ ws. list_any (λ (y : Write). y.id == k) ws ≡ true) (sym writes) (any-push_more (λ (y : Write). y.id == k) t.writes x (subst (λ (a : ActiveTransaction). writes_to k a ≡ true) same m));
     free = free;
   })

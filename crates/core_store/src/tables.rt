@@ -3,11 +3,11 @@ ghost use Rattle.std.specs.Prelude.{◌≡◌, ℕ, ◌+◌, ◌^◌, ◌<◌, �
 ghost use Rattle.core_store.specs.Tables.{owed_by};
 ghost use Rattle.core_store.specs.Transactions.{running_at};
 
-use crate::contents::{self, Contents, Version};
 use crate::abort_step::AbortStep;
-use crate::{free_ids, locks};
+use crate::contents::{self, Contents, Version};
 use crate::transaction::Transaction;
 use crate::transactions::{self, Transactions};
+use crate::{free_ids, locks};
 use plain_model::{Call, Memory, Reply};
 use std::alloc::Global;
 use std::collections::{BTreeMap, BTreeSet};

@@ -1,4 +1,6 @@
 //! The table of the locks that clients hold until their transactions end.
+ghost use Rattle.std.specs.List.{IsDistinct};
+ghost use Rattle.std.specs.Ordering.{nat_cmp, eq_by_cmp};
 ghost use Rattle.std.specs.Prelude.{◌≡◌, ℕ, [], OnOk, OnErr, IfErr, true};
 
 use crate::object_lock::ObjectLock;
@@ -96,7 +98,8 @@ impl LockTable {
 
     /// The objects that the client holds, each once. It takes no memory.
     pub fn held(&self, pass: u8) -> &[u32]
-        ensures { NamesExactly self.now pass result.now }
+        ensures exact { NamesExactly self.now pass result.now }
+        ensures once { IsDistinct (eq_by_cmp nat_cmp) result.now }
     {
         clients::list(&self.lists, pass)
     }

@@ -21,13 +21,13 @@ invariant_of-self-in-Ended c = record {
 pub returns-in-Undone-clause-undone : goal.returns-in-Undone-clause-undone
 returns-in-Undone-clause-undone c = λ _. (
   subst (λ (v : JournalView). 0 < left_to_undo (end_of v.history) c.args.pass) c.self.view_is
-  (undone-left (history_of c.self.inside) (view_of c.self.inside.tables) (view_of c.abort_step.new.self) c.args.pass c.self.invariant.keeps (c.in-Undone.ensures.undone refl)),
+      (undone-left (history_of c.self.inside) (view_of c.self.inside.tables) (view_of c.abort_step.new.self) c.args.pass c.self.invariant.keeps (c.in-Undone.ensures.undone refl)),
   rw (← c.self.view_is, c.push_into_room.ensures.items) refl,
 )
 
 pub returns-in-Ended-clause-ended : goal.returns-in-Ended-clause-ended
 returns-in-Ended-clause-ended c = λ _. (
   subst (λ (v : JournalView). left_to_undo (end_of v.history) c.args.pass ≡ 0) c.self.view_is
-  (ended-left (history_of c.self.inside) (view_of c.self.inside.tables) (view_of c.abort_step.new.self) c.args.pass c.self.invariant.keeps (c.in-Ended.ensures.ended refl)),
+      (ended-left (history_of c.self.inside) (view_of c.self.inside.tables) (view_of c.abort_step.new.self) c.args.pass c.self.invariant.keeps (c.in-Ended.ensures.ended refl)),
   rw (← c.self.view_is, c.push_into_room-in-Ended.ensures.items) refl,
 )

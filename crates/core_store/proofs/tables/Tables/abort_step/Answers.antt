@@ -15,11 +15,11 @@ overflow_sub-self c =
 pub invariant_of-self : goal.invariant_of-self
 invariant_of-self c = record {
   owes =
-    (let t = running-some _ c.requires in
-    let left = c.left.ensures ∙ ap (λ (o : Option Running). option_map_or (λ (t : Running). t.left) o 0) t.1 in
-    let some_left : 0 < t.0.left = omega (arith, left, c.if-left-gt0.true) in
-    let e = owed-undoing c.args.pass t.0 c.args.self.now.transactions.entries t.1 some_left in
-    rw c.undo.ensures (omega (arith, e, c.args.self.now.owes)));
+      (let t = running-some _ c.requires in
+      let left = c.left.ensures ∙ ap (λ (o : Option Running). option_map_or (λ (t : Running). t.left) o 0) t.1 in
+      let some_left : 0 < t.0.left = omega (arith, left, c.if-left-gt0.true) in
+      let e = owed-undoing c.args.pass t.0 c.args.self.now.transactions.entries t.1 some_left in
+      rw c.undo.ensures (omega (arith, e, c.args.self.now.owes)));
 }
 
 pub returns-then-left-gt0-clause-undone : goal.returns-then-left-gt0-clause-undone
@@ -40,7 +40,7 @@ returns-clause-ended c = λ _.
     let t = running-some _ c.requires in
     let left = c.left.ensures ∙ ap (λ (o : Option Running). option_map_or (λ (t : Running). t.left) o 0) t.1 in
     let none_left : t.0.left ≡ 0 = omega (arith, left, c.if-left-gt0.false) in
-    ends-abort (view_of c.args.self.now) (view_of c.end.new.self) c.args.pass c.held.result.now t.0 t.1 none_left c.held.ensures (rw c.discard.ensures at c.end.ensures)
+    ends-abort (view_of c.args.self.now) (view_of c.end.new.self) c.args.pass c.held.result.now t.0 t.1 none_left c.held.ensures.exact (rw c.discard.ensures at c.end.ensures)
 
 pub returns-clause-owed : goal.returns-clause-owed
 returns-clause-owed c =

@@ -11,11 +11,11 @@ returns-then-contains_key-clause-ok c = performs-begin_twice _ c.args.pass (sym 
 pub invariant_of-self-2 : goal.invariant_of-self-2
 invariant_of-self-2 c = record {
   owes =
-    (let none = absent _ (sym c.contains_key.ensures ∙ c.if-contains_key.false) in
-    let entries = ap owed_by c.in_ok-insert.ensures.entries in
-    let more = owed-inserted c.args.pass c.new.result c.args.self.now.transactions.entries c.in_ok-insert.ensures.was_ordered none in
-    let zero_left : c.new.result.left ≡ 0 = ap (λ (t : Running). t.left) c.new.ensures in
-    omega (arith, entries, more, zero_left, c.args.self.now.owes));
+      (let none = absent _ (sym c.contains_key.ensures ∙ c.if-contains_key.false) in
+      let entries = ap owed_by c.in_ok-insert.ensures.entries in
+      let more = owed-inserted c.args.pass c.new.result c.args.self.now.transactions.entries c.in_ok-insert.ensures.was_ordered none in
+      let zero_left : c.new.result.left ≡ 0 = ap (λ (t : Running). t.left) c.new.ensures in
+      omega (arith, entries, more, zero_left, c.args.self.now.owes));
 }
 
 pub returns-clause-ok : goal.returns-clause-ok

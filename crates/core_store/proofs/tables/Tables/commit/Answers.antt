@@ -9,4 +9,4 @@ returns-in-Some-clause-done c = performs-commit_refused (view_of c.args.self.now
 
 pub returns-clause-done : goal.returns-clause-done
 returns-clause-done c =
-    performs-commit (view_of c.args.self.now) (view_of c.end.new.self) c.args.pass c.held.result.now (none_from _ (λ x e. c.in_default.not-Some x (c.not_running.ensures ∙ e))) c.held.ensures (rw c.publish.ensures at c.end.ensures)
+    performs-commit (view_of c.args.self.now) (view_of c.end.new.self) c.args.pass c.held.result.now (none_from _ (λ x e. c.in_default.not-Some x (c.not_running.ensures ∙ e))) c.held.ensures.exact (rw c.publish.ensures at c.end.ensures)

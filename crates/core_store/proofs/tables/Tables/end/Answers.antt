@@ -17,9 +17,9 @@ overflow_sub-self-in-Some c =
 pub invariant_of-self : goal.invariant_of-self
 invariant_of-self c = record {
   owes =
-    (let e = owed-removed c.args.pass c.in-Some.transaction c.args.self.now.transactions.entries (sym c.in-Some.ensures.value) in
-    let n = ap owed_by c.in-Some.ensures.entries in
-    omega (arith, e, n, c.args.self.now.owes, c.left.ensures));
+      (let e = owed-removed c.args.pass c.in-Some.transaction c.args.self.now.transactions.entries (sym c.in-Some.ensures.value) in
+      let n = ap owed_by c.in-Some.ensures.entries in
+      omega (arith, e, n, c.args.self.now.owes, c.left.ensures));
 }
 
 pub returns-in-Some : goal.returns-in-Some
@@ -30,7 +30,7 @@ returns-in-Some c = record {
   locks = c.drop_all.ensures;
   transactions = (let t = takes-updates c.args.self.now.transactions.entries c.remove.new.self.entries c.args.pass c.in-Some.ensures.updates.0 in record { here = t.here; others = t.others });
   owed = λ t e.
-    (let same = ap (λ (x : Running). x.left) (same_running _ t c.in-Some.transaction e (sym c.in-Some.ensures.value)) in
-    let least = owed-least c.args.pass c.in-Some.transaction c.args.self.now.transactions.entries (sym c.in-Some.ensures.value) in
-    omega (arith, same, least, c.args.self.now.owes, c.left.ensures));
+      (let same = ap (λ (x : Running). x.left) (same_running _ t c.in-Some.transaction e (sym c.in-Some.ensures.value)) in
+      let least = owed-least c.args.pass c.in-Some.transaction c.args.self.now.transactions.entries (sym c.in-Some.ensures.value) in
+      omega (arith, same, least, c.args.self.now.owes, c.left.ensures));
 }

@@ -19,6 +19,6 @@ pub returns-clause-ok : goal.returns-clause-ok
 returns-clause-ok c =
     let vs = c.args.self.now.versions.items in
     let value : c.current_of-value.result.payload ≡ (current (version_at vs c.in-Ok.id)).payload =
-      ap (λ (x : Contents). x.payload) (c.current_of-value.ensures ∙ ap (λ (x : List Version). current (version_at x c.in-Ok.id)) c.as_slice.ensures.value) in
+    ap (λ (x : Contents). x.payload) (c.current_of-value.ensures ∙ ap (λ (x : List Version). current (version_at x c.in-Ok.id)) c.as_slice.ensures.value) in
     let g = c.in_ok-owner.ensures.granted (ap Ok (none_from c.in_ok-owner.field-0 c.in_default.not-Some)) in
     rw value (performs-get (view_of c.args.self.now) c.share.new.locks c.args.pass c.args.r c.in-Ok.id c.in-Ok.ensures.ok g.0 g.1)

@@ -22,9 +22,9 @@ returns-in-Some-2-clause-ok c =
 pub invariant_of-self-2 : goal.invariant_of-self-2
 invariant_of-self-2 c = record {
   owes =
-    (let k = running-alive _ (none_from _ (λ x e. c.in_default.not-Some x (c.not_running.ensures ∙ e))) in
-    let e = owed-loaded c.args.pass c.args.into (Some c.in-Some-least.id) k.0 c.args.self.now.transactions.entries k.1 in
-    rw c.load.ensures (c.args.self.now.owes ∙ sym e));
+      (let k = running-alive _ (none_from _ (λ x e. c.in_default.not-Some x (c.not_running.ensures ∙ e))) in
+      let e = owed-loaded c.args.pass c.args.into (Some c.in-Some-least.id) k.0 c.args.self.now.transactions.entries k.1 in
+      rw c.load.ensures (c.args.self.now.owes ∙ sym e));
 }
 
 pub returns-clause-ok : goal.returns-clause-ok

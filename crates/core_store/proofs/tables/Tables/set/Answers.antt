@@ -24,7 +24,7 @@ pub returns-clause-ok : goal.returns-clause-ok
 returns-clause-ok c =
     let v = view_of c.args.self.now in
     let next : c.with_payload-next.result ≡ with_payload c.args.value (current (version_at v.versions c.in-Ok.id)) =
-      c.with_payload-next.ensures ∙ ap (λ (x : Contents). with_payload c.args.value x) (c.current_of.ensures ∙ ap (λ (x : List Version). current (version_at x c.in-Ok.id)) c.as_slice.ensures.value) in
+    c.with_payload-next.ensures ∙ ap (λ (x : Contents). with_payload c.args.value x) (c.current_of.ensures ∙ ap (λ (x : List Version). current (version_at x c.in-Ok.id)) c.as_slice.ensures.value) in
     let g = c.in_ok-holder.ensures.granted (ap Ok (none_from c.in_ok-holder.field-0 c.in_default.not-Some)) in
     let is = c.write.ensures ∙ ap (λ (x : Contents). after_write c.args.pass c.in-Ok.id x (record v { locks = c.own.new.locks })) next in
     subst (λ (w : TablesView). Performs v w c.args.pass (SetPay c.args.r c.args.value) Done) (sym is) (performs-set v c.own.new.locks c.args.pass c.args.r c.in-Ok.id c.args.value c.in-Ok.ensures.ok g.0 g.1)

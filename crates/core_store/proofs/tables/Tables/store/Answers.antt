@@ -27,7 +27,7 @@ pub returns-clause-ok : goal.returns-clause-ok
 returns-clause-ok c =
     let v = view_of c.args.self.now in
     let next : c.with_slot-next.result ≡ with_slot c.args.slot c.in-Ok-source.value (current (version_at v.versions c.in-Ok.id)) =
-      c.with_slot-next.ensures ∙ ap (λ (x : Contents). with_slot c.args.slot c.in-Ok-source.value x) (c.current_of.ensures ∙ ap (λ (x : List Version). current (version_at x c.in-Ok.id)) c.as_slice.ensures.value) in
+    c.with_slot-next.ensures ∙ ap (λ (x : Contents). with_slot c.args.slot c.in-Ok-source.value x) (c.current_of.ensures ∙ ap (λ (x : List Version). current (version_at x c.in-Ok.id)) c.as_slice.ensures.value) in
     let g = c.in_ok-holder.ensures.granted (ap Ok (none_from c.in_ok-holder.field-0 c.in_default.not-Some)) in
     let is = c.write.ensures ∙ ap (λ (x : Contents). after_write c.args.pass c.in-Ok.id x (record v { locks = c.own.new.locks })) next in
     subst (λ (w : TablesView). Performs v w c.args.pass (Store c.args.r c.args.slot c.args.«from») Done) (sym is)

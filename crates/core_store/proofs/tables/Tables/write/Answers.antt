@@ -13,7 +13,7 @@ owe-requires c =
 pub invariant_of-self : goal.invariant_of-self
 invariant_of-self c = record {
   owes =
-    (let t = running-some _ c.requires.active in
-    let e = owed-owing c.args.pass t.0 c.args.self.now.transactions.entries t.1 in
-    rw c.owe.ensures (ap (λ (n : ℕ). n + 1) c.args.self.now.owes ∙ sym e));
+      (let t = running-some _ c.requires.active in
+      let e = owed-owing c.args.pass t.0 c.args.self.now.transactions.entries t.1 in
+      rw c.owe.ensures (ap (λ (n : ℕ). n + 1) c.args.self.now.owes ∙ sym e));
 }
