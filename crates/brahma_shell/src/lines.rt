@@ -100,6 +100,7 @@ fn move_to_front(buffer: &mut [u8; BUFFER], start: usize, end: usize)
 }
 
 /// Reads lines out of one buffer, which it fills again only where no whole line is left over.
+#[derive(Drop)]
 pub(crate) struct LineReader {
     buffer: [u8; BUFFER],
     line_start: usize,
