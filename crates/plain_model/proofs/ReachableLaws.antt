@@ -1,14 +1,9 @@
 -- `Reachable` is the least set with its two rules.
-use Rattle.std.proofs.Common.{◌≡◌, ◌≢◌, ℕ, List, Some}
+use Rattle.std.proofs.Common.{ℕ, List}
 use Rattle.std.specs.Prelude.{Contains}
 use Rattle.plain_model.specs.declared.object.Object.{Object}
-use Rattle.plain_model.specs.Graphs.{object_at}
 use Rattle.plain_model.specs.Reachable.{Reachable, start, step}
-
--- a set that has the ids of `from` which the graph has, and what its members' slots name there
-pub record IsClosed (g : List Object) («from» : List ℕ) (P : ℕ → Type 0) : Type 0 where
-  pub starts : (x : ℕ) (o : Object) → Contains «from» x → object_at g x ≡ Some o → P x
-  pub steps : (x y : ℕ) (o p : Object) → P x → object_at g x ≡ Some o → Contains o.slots y → y ≢ 0 → object_at g y ≡ Some p → P y
+pub use Rattle.plain_model.specs.Reachable.{IsClosed}
 
 -- no set with these rules is smaller
 pub Reachable-least : (g : List Object) («from» : List ℕ) (P : ℕ → Type 0) → IsClosed g «from» P → {x : ℕ} → Reachable g «from» x → P x

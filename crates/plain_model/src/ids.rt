@@ -6,7 +6,7 @@ use std::alloc::Global;
 use std::collections::BTreeSet;
 use std::marker::Model;
 
-/// Ids, ascending.
+/// A list of ids, ascending.
 #[derive(Debug, Drop)]
 pub struct Ids {
     items: Vec<u32>,
@@ -21,6 +21,7 @@ impl Model for Ids {
 }
 
 impl Ids {
+    /// The ids of the set.
     pub(crate) fn from_set(alloc: Global, set: &BTreeSet<u32>) -> Result<Ids, Memory>
         ensures { IfOk result (λ ids. ids ≡ set.now.keys) }
     {
@@ -28,9 +29,20 @@ impl Ids {
         Ok(Ids { items })
     }
 
+    /// The ids, in their order.
     pub fn items(&self) -> &[u32]
         ensures { result.now ≡ self.now }
     {
         self.items.as_slice()
+    }
+}
+
+impl From<Vec<u32>> for Ids {
+    ghost use Rattle.std.specs.Prelude.{◌≡◌};
+
+    ghost from_gives = { λ v ids. ids ≡ v.items };
+
+    fn from(items: Vec<u32>) -> Ids {
+        Ids { items }
     }
 }

@@ -7,7 +7,7 @@ use crate::slots::Slots;
 use crate::write::Place;
 use std::alloc::Global;
 
-/// A stored object.
+/// An object: its id, which is at least 1, its slots and its payload.
 #[derive(Debug, Drop)]
 pub struct Object {
     pub id: u32,
@@ -31,6 +31,7 @@ impl Object {
         }
     }
 
+    /// An object with the same contents.
     pub(crate) fn copy(&self, alloc: Global) -> Result<Object, Memory>
         ensures { IfOk result (λ o. o ≡ self.now) }
     {

@@ -5,7 +5,7 @@ use crate::memory::Memory;
 use std::alloc::Global;
 use std::marker::Model;
 
-/// The slots of an object, each 0 or an id.
+/// The slots of an object, each 0, which names nothing, or an id.
 #[derive(Debug, Drop)]
 pub struct Slots {
     items: Vec<u32>,
@@ -20,6 +20,7 @@ impl Model for Slots {
 }
 
 impl Slots {
+    /// No slots. It takes no memory.
     pub fn new(alloc: Global) -> Slots
         ensures { result ≡ [] }
     {
@@ -28,7 +29,7 @@ impl Slots {
         }
     }
 
-    /// So many nulls.
+    /// So many null slots.
     pub(crate) fn null(alloc: Global, count: u8) -> Result<Slots, Memory>
         ensures { IfOk result (λ s. s ≡ replicate count 0) }
     {
@@ -36,6 +37,7 @@ impl Slots {
         Ok(Slots { items })
     }
 
+    /// The same slots.
     pub(crate) fn copy(&self, alloc: Global) -> Result<Slots, Memory>
         ensures { IfOk result (λ s. s ≡ self.now) }
     {
@@ -43,7 +45,7 @@ impl Slots {
         Ok(Slots { items })
     }
 
-    /// What the slot holds, or 0 past the end.
+    /// What the slot holds, or 0 where there is no such slot.
     pub(crate) fn get(&self, slot: u8) -> u32
         ensures { result ≡ slice_index self.now slot }
     {
@@ -54,6 +56,7 @@ impl Slots {
         }
     }
 
+    /// Sets the slot, where there is one.
     pub(crate) fn set(&mut self, slot: u8, value: u32)
         ensures { self.new ≡ slice_set self.old slot value }
     {
@@ -62,12 +65,14 @@ impl Slots {
         }
     }
 
+    /// What the slots hold, in their order.
     pub fn items(&self) -> &[u32]
         ensures { result.now ≡ self.now }
     {
         self.items.as_slice()
     }
 
+    /// Appends a slot. Out of memory leaves the slots as they were.
     pub fn push(&mut self, item: u32) -> Result<(), Memory>
         ensures ok { OnOk result (self.new ≡ self.old ++ item ∷ []) }
         ensures err { OnErr result (self.new ≡ self.old) }

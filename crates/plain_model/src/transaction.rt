@@ -11,7 +11,7 @@ use crate::write::Write;
 use std::alloc::Global;
 use std::marker::Model;
 
-/// An active transaction.
+/// An active transaction: its writes, locks and registers.
 #[derive(Debug, Drop)]
 pub struct Transaction {
     writes: Vec<Write>,
@@ -45,6 +45,7 @@ fn with_id(alloc: Global, ids: &[u32], id: u32) -> Result<Vec<u32>, Memory>
 }
 
 impl Transaction {
+    /// A transaction that has just begun.
     pub(crate) fn new(alloc: Global) -> Transaction
         ensures { result ≡ new_transaction }
     {
@@ -57,6 +58,7 @@ impl Transaction {
         }
     }
 
+    /// The id in the register, where it isn't empty.
     pub(crate) fn register(&self, r: u8) -> Option<u32>
         requires { r < 8 }
         ensures { result ≡ register self.now r }
@@ -64,7 +66,7 @@ impl Transaction {
         self.registers[r as usize]
     }
 
-    /// What is stored, or the refusal where the register is empty.
+    /// What a slot is to be set to: the id in the register, or 0 without one; or else the refusal of an empty register.
     pub(crate) fn source(&self, from: Option<u8>) -> Result<u32, Reply>
         requires { IfSome from (λ f. f < 8) }
         ensures ok { IfOk result (λ v. (option_map_or (if_empty self.now) from None ≡ None) × (v ≡ option_map_or (register_id self.now) from 0)) }
@@ -79,19 +81,21 @@ impl Transaction {
         }
     }
 
+    /// Whether it owns or shares the object.
     pub(crate) fn holds(&self, id: u32) -> bool
         ensures { result ≡ (is_among id self.now.owned || is_among id self.now.shared) }
     {
         self.owned.contains(&id) || self.shared.contains(&id)
     }
 
+    /// Whether it is being undone.
     pub(crate) fn is_aborting(&self) -> bool
         ensures { result ≡ self.now.aborting }
     {
         self.aborting
     }
 
-    /// The transaction after it owns the object and wrote to it.
+    /// The transaction after it owned the object and wrote to it.
     pub(crate) fn with_write(&self, alloc: Global, write: Write) -> Result<Transaction, Memory>
         requires { FitsPlace write.place write.value }
         ensures { IfOk result (λ t. t ≡ with_write write.id write.place write.value (with_owned write.id self.now)) }
@@ -109,14 +113,19 @@ impl Transaction {
         })
     }
 
-    /// The graph after the writes.
-    pub(crate) fn graph_after(&self, alloc: Global, slots: u8, graph: &Graph) -> Result<Graph, Memory>
+    /// The graph after its writes.
+    pub(crate) fn graph_after(
+        &self,
+        alloc: Global,
+        slots: u8,
+        graph: &Graph,
+    ) -> Result<Graph, Memory>
         ensures { IfOk result (λ g. g ≡ applied slots graph.now self.now.writes) }
     {
         graph.after(alloc, slots, self.writes.as_slice())
     }
 
-    /// The transaction after it shares the object.
+    /// The transaction after it shared the object.
     pub(crate) fn with_share(&self, alloc: Global, id: u32) -> Result<Transaction, Memory>
         ensures { IfOk result (λ t. t ≡ with_shared id self.now) }
     {
@@ -132,18 +141,21 @@ impl Transaction {
         })
     }
 
+    /// Whether it owns the object.
     pub(crate) fn owns(&self, id: u32) -> bool
         ensures { result ≡ is_among id self.now.owned }
     {
         self.owned.contains(&id)
     }
 
+    /// Marks it as being undone.
     pub(crate) fn mark(&mut self)
         ensures { self.new ≡ record self.old { aborting = true } }
     {
         self.aborting = true;
     }
 
+    /// Loads the id into the register, or empties it.
     pub(crate) fn load(&mut self, r: u8, value: Option<u32>)
         requires { r < 8 }
         ensures { self.new ≡ with_register r value self.old }
@@ -152,7 +164,7 @@ impl Transaction {
     }
 }
 
-/// What a register holds after a read: 0 empties it.
+/// What a register holds after a slot was read into it: 0 empties it.
 pub(crate) fn nonzero(id: u32) -> Option<u32>
     ensures { result ≡ nonzero id }
 {
