@@ -1,5 +1,6 @@
 //! Lists of ids.
 ghost use Rattle.std.specs.Prelude.{◌≡◌, IfOk};
+ghost use Rattle.plain_model.specs.Machine.{least_free};
 
 use crate::memory::Memory;
 use std::alloc::Global;
@@ -35,4 +36,17 @@ impl Ids {
     {
         self.items.as_slice()
     }
+}
+
+/// The least of the ids from 1 to `ids` that isn't stored.
+pub(crate) fn free_id(stored: &BTreeSet<u32>, ids: u32) -> Option<u32>
+    ensures { result ≡ least_free stored.now.keys 1 ids }
+{
+    for i in 0..ids {
+        let id = i + 1;
+        if !stored.contains(&id) {
+            return Some(id);
+        }
+    }
+    None
 }
