@@ -7,7 +7,7 @@ use std::alloc::Global;
 use std::collections::BTreeSet;
 use std::marker::Model;
 
-/// A list of ids, ascending.
+/// A list of ids.
 #[derive(Debug, Drop)]
 pub struct Ids {
     items: Vec<u32>,
@@ -35,6 +35,16 @@ impl Ids {
         ensures { result.now ≡ self.now }
     {
         self.items.as_slice()
+    }
+}
+
+impl From<Vec<u32>> for Ids {
+    ghost use Rattle.std.specs.Prelude.{◌≡◌};
+
+    ghost from_gives = { λ v ids. ids ≡ v.items };
+
+    fn from(items: Vec<u32>) -> Ids {
+        Ids { items }
     }
 }
 

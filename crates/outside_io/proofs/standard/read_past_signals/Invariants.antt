@@ -1,0 +1,6 @@
+-- An interrupted read consumed nothing.
+use Rattle.std.specs.Io.KnownBytes.{Keeps}
+use Rattle.outside_io.proofs.standard.read_past_signals.Given as goal
+
+abbrev pub invariant-tries : goal.invariant-tries
+invariant-tries g l = Keeps (g.R.Read.remaining l.initial.reader) (g.R.Read.remaining l.reader)

@@ -1,0 +1,39 @@
+-- Laws on the holders of one object.
+use Rattle.std.proofs.Common.{◌≡◌, ◌≢◌, ℕ, unwrap_or, IfSome, Option, subst, true, cond, Some, sym, ◌∙◌, ap, arith}
+use Rattle.std.specs.Ordering.{nat_cmp}
+use Rattle.std.specs.BTreeMap.{is_at}
+use Rattle.std.proofs.lemmas.Bool.Decides.{nat_tests}
+use Rattle.std.specs.Map.{lookup, set_value}
+use Rattle.std.proofs.lemmas.Map.Steps.{set_value_same}
+use Rattle.std.proofs.lemmas.Bool.{cond_both}
+use Rattle.strict_locks.specs.Locks.{Holders, Table, holders_of, no_holders, is_sharer, Holds, IsExclusive, StandsInWayOfShare, StandsInWayOfOwn, Nobody, IsLeast, AreHeld}
+
+-- the object stays exclusive when a client owns it that nobody stands in the way of
+pub exclusive-own : (h : Holders) (pass : ℕ) → Nobody (StandsInWayOfOwn h pass) → IsExclusive (record h { owner = Some pass })
+exclusive-own h pass free p q owns holds = let f = free q in grind (arith, nat_tests, f)
+
+-- the object stays exclusive when a client shares it that nobody stands in the way of
+pub exclusive-share : (old new : Holders) (pass : ℕ) → Nobody (StandsInWayOfShare old pass) → new.owner ≡ old.owner → ((p : ℕ) → is_sharer new p ≡ cond (is_at (nat_cmp pass) p) true (is_sharer old p)) → IsExclusive old → IsExclusive new
+exclusive-share old new pass free owner sharers exclusive p q owns holds = let f = free p in let s = sharers q in let e = exclusive p q in grind (arith, nat_tests, f, s, e)
+
+-- an owner is the least holder
+pub least-owner : (h : Holders) (o : ℕ) → IsExclusive h → h.owner ≡ Some o → IsLeast (Holds h) o
+least-owner h o exclusive owner = (grind (arith, nat_tests), λ q holds. let e = exclusive o q in grind (arith, nat_tests))
+
+-- an owner that is another client is the least that stands in the way of owning
+pub least-other_owner : (h : Holders) (pass o : ℕ) → IsExclusive h → h.owner ≡ Some o → o ≢ pass → IsLeast (StandsInWayOfOwn h pass) o
+least-other_owner h pass o exclusive owner other = let l = least-owner h o exclusive owner in ((other, l.0), λ q stands. l.1 q stands.1)
+
+-- who holds an object that has an entry
+pub holders_of-found : (table : Table) (id : ℕ) (h : Holders) → lookup (is_at (nat_cmp id)) table ≡ Some h → holders_of table id ≡ h
+holders_of-found table id h found = ap (λ o. unwrap_or o no_holders) found
+
+-- what was found, written back, changes nothing
+pub entries-same : (old new : Table) (id : ℕ) (h written : Holders) → lookup (is_at (nat_cmp id)) old ≡ Some h → written ≡ h → new ≡ set_value (is_at (nat_cmp id)) old written → new ≡ old
+entries-same old new id h written found same writes = writes ∙ set_value_same (is_at (nat_cmp id)) old written (found ∙ ap Some (sym same))
+
+-- every object with an entry stays held when one gets a lock that somebody holds
+pub AreHeld-put : (old new : Table) (id : ℕ) (h : Holders) (p : ℕ) → Holds h p → ((q : ℕ) → lookup (is_at (nat_cmp q)) new ≡ cond (is_at (nat_cmp id) q) (Some h) (lookup (is_at (nat_cmp q)) old)) → AreHeld old → AreHeld new
+AreHeld-put old new id h p holds puts held x =
+    let P : Option Holders → Type 0 = λ o. IfSome o (λ g. (q : ℕ) × Holds g q) in
+    subst P (sym (puts x)) (cond_both (is_at (nat_cmp id) x) (Some h) (lookup (is_at (nat_cmp x)) old) P (λ _. (p, holds)) (λ _. held x))

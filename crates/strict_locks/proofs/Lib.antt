@@ -1,0 +1,5 @@
+mod Ascending
+mod GivingBack
+mod HoldersLaws
+mod IndexLaws
+pub mod LockLaws

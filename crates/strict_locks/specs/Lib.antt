@@ -1,0 +1,3 @@
+pub mod Clients
+pub mod Locks
+pub mod Refusal

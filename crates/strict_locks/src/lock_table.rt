@@ -1,0 +1,218 @@
+//! The table of the locks that clients hold until their transactions end.
+ghost use Rattle.std.specs.List.{IsDistinct};
+ghost use Rattle.std.specs.Ordering.{nat_cmp, eq_by_cmp};
+ghost use Rattle.std.specs.Prelude.{◌≡◌, ℕ, [], OnOk, OnErr, IfErr, true};
+
+use crate::object_lock::ObjectLock;
+use crate::refusal::LockRefusal;
+use crate::{clients, objects};
+use std::alloc::Global;
+use std::collections::BTreeMap;
+use std::marker::Model;
+
+/// The locks that clients hold. A client keeps each lock until it gives all of its locks back.
+///
+/// A shared lock is granted exactly where no other client owns the object. An exclusive lock, or
+/// the upgrade to one, is granted exactly where no other client holds the object at all. A client
+/// that owns an object and shares it keeps both facts. No call waits.
+///
+/// `pass` is the client's number and `id` the object's. The table takes any number.
+#[derive(Debug, Drop)]
+pub struct LockTable {
+    alloc: Global,
+    locks: BTreeMap<u32, ObjectLock>,
+    lists: BTreeMap<u8, Vec<u32>>,
+}
+
+impl Model for LockTable {
+    ghost use Rattle.strict_locks.specs.Locks.{Table};
+    ghost use Rattle.strict_locks.specs.Clients.{AreSound};
+
+    ghost Value = { Table };
+
+    ghost view = { λ a. a.locks.entries };
+
+    ghost invariant = { λ a. AreSound a.locks.entries a.lists.entries };
+}
+
+impl LockTable {
+    ghost use Rattle.strict_locks.specs.Locks.{holders_of, Holds, IsExclusive, NamesExactly, StandsInWay, StandsInWayOfShare, StandsInWayOfOwn, Nobody, IsLeastOrNone, AddsShare, AddsOwner, DropsAll};
+    ghost use Rattle.strict_locks.specs.Refusal.{IsRefusal};
+
+    /// The table without a lock. It takes no memory.
+    pub fn new(alloc: Global) -> LockTable
+        ensures { result ≡ [] }
+    {
+        LockTable {
+            alloc,
+            locks: BTreeMap::new(alloc),
+            lists: BTreeMap::new(alloc),
+        }
+    }
+
+    /// Lets the client share the object.
+    ///
+    /// `Busy` comes exactly where another client owns the object, and names it. `Memory` says that
+    /// nobody stands in the way, but memory ran out. Both leave the table as it was.
+    pub fn share(&mut self, pass: u8, id: u32) -> Result<(), LockRefusal>
+        ensures granted { OnOk result (AddsShare self.old self.new pass id) }
+        ensures free { OnOk result (Nobody (StandsInWayOfShare (holders_of self.old id) pass)) }
+        ensures busy { IfErr result (IsRefusal (StandsInWayOfShare (holders_of self.old id) pass)) }
+        ensures err { OnErr result (self.new ≡ self.old) }
+    {
+        if let Some(owner) = objects::other_owner(&self.locks, pass, id) {
+            return Err(LockRefusal::Busy { pass: owner });
+        }
+        if objects::is_held_by(&self.locks, pass, id) {
+            objects::share(&mut self.locks, self.alloc, pass, id)?;
+            return Ok(());
+        }
+        clients::reserve(&mut self.lists, self.alloc, pass)?;
+        objects::share(&mut self.locks, self.alloc, pass, id)?;
+        clients::note(&mut self.lists, pass, id);
+        Ok(())
+    }
+
+    /// Lets the client own the object, or upgrades its shared lock.
+    ///
+    /// `Busy` comes exactly where another client holds the object, and names the least. `Memory`
+    /// says that nobody stands in the way, but memory ran out. Both leave the table as it was.
+    pub fn own(&mut self, pass: u8, id: u32) -> Result<(), LockRefusal>
+        ensures granted { OnOk result (AddsOwner self.old self.new pass id) }
+        ensures free { OnOk result (Nobody (StandsInWayOfOwn (holders_of self.old id) pass)) }
+        ensures busy { IfErr result (IsRefusal (StandsInWayOfOwn (holders_of self.old id) pass)) }
+        ensures err { OnErr result (self.new ≡ self.old) }
+    {
+        if let Some(holder) = objects::other_holder(&self.locks, pass, id) {
+            return Err(LockRefusal::Busy { pass: holder });
+        }
+        if objects::is_held_by(&self.locks, pass, id) {
+            objects::own(&mut self.locks, self.alloc, pass, id)?;
+            return Ok(());
+        }
+        clients::reserve(&mut self.lists, self.alloc, pass)?;
+        objects::own(&mut self.locks, self.alloc, pass, id)?;
+        clients::note(&mut self.lists, pass, id);
+        Ok(())
+    }
+
+    /// The objects that the client holds, each once. It takes no memory.
+    pub fn held(&self, pass: u8) -> &[u32]
+        ensures exact { NamesExactly self.now pass result.now }
+        ensures once { IsDistinct (eq_by_cmp nat_cmp) result.now }
+    {
+        clients::list(&self.lists, pass)
+    }
+
+    /// Gives all of the client's locks back. It takes no memory, and goes only over the objects
+    /// that the client holds.
+    pub fn drop_all(&mut self, pass: u8)
+        ensures { DropsAll self.old self.new pass }
+    {
+        if let Some(ids) = self.lists.remove(&pass) {
+            objects::give_back_all(&mut self.locks, pass, ids.as_slice());
+        }
+    }
+
+    /// The least client that owns or shares the object, and `None` where nobody does.
+    pub fn holder(&self, id: u32) -> Option<u8>
+        ensures least { IsLeastOrNone (Holds (holders_of self.now id)) result }
+        ensures exclusive { IsExclusive (holders_of self.now id) }
+    {
+        objects::least_holder(&self.locks, id)
+    }
+
+    /// The client that `own`, where `alone` is true, or `share` would name in `Busy`, and `None`
+    /// exactly where that lock would be granted.
+    pub fn blocks(&self, pass: u8, id: u32, alone: bool) -> Option<u8>
+        ensures { IsLeastOrNone (StandsInWay alone (holders_of self.now id) pass) result }
+    {
+        if alone {
+            objects::other_holder(&self.locks, pass, id)
+        } else {
+            objects::other_owner(&self.locks, pass, id)
+        }
+    }
+}
+
+#[cfg(test)]
+mod tests {
+    use super::*;
+    use std::process::Abort;
+
+    #[test]
+    fn sharing_stands_in_the_way_of_owning(rt: HostRuntime) {
+        let mut table = LockTable::new(rt.alloc());
+        assert_eq!(rt; table.share(1, 1), Ok(()));
+        assert_eq!(rt; table.own(2, 1), Err(LockRefusal::Busy { pass: 1 }));
+        assert_eq!(rt; table.blocks(2, 1, true), Some(1));
+        assert_eq!(rt; table.blocks(2, 1, false), None);
+        assert_eq!(rt; table.own(1, 1), Ok(()));
+        assert_eq!(rt; table.share(2, 1), Err(LockRefusal::Busy { pass: 1 }));
+        assert_eq!(rt; table.share(1, 1), Ok(()));
+        assert_eq!(rt; table.own(2, 2), Ok(()));
+        assert_eq!(rt; table.holder(1), Some(1));
+        assert_eq!(rt; table.holder(2), Some(2));
+        assert_eq!(rt; table.holder(3), None);
+    }
+
+    #[test]
+    fn upgrade_waits_for_the_other_sharers(rt: HostRuntime) {
+        let mut table = LockTable::new(rt.alloc());
+        for pass in [7, 3, 64, 5] {
+            assert_eq!(rt; table.share(pass, 8192), Ok(()));
+        }
+        assert_eq!(rt; table.own(3, 8192), Err(LockRefusal::Busy { pass: 5 }));
+        assert_eq!(rt; table.own(5, 8192), Err(LockRefusal::Busy { pass: 3 }));
+        assert_eq!(rt; table.holder(8192), Some(3));
+        for pass in [3, 64, 5] {
+            table.drop_all(pass);
+        }
+        assert_eq!(rt; table.holder(8192), Some(7));
+        assert_eq!(rt; table.own(7, 8192), Ok(()));
+        table.drop_all(7);
+        assert_eq!(rt; table.holder(8192), None);
+    }
+
+    /// The lock is granted, if need be at a second try after memory ran out and nothing changed.
+    fn grant(rt: &impl Abort, table: &mut LockTable, pass: u8, id: u32, alone: bool) {
+        let holder = table.holder(id);
+        let others = table.blocks(0, id, alone);
+        let mut answer = ask(table, pass, id, alone);
+        if answer == Err(LockRefusal::Memory) {
+            assert_eq!(rt; table.holder(id), holder);
+            assert_eq!(rt; table.blocks(0, id, alone), others);
+            answer = ask(table, pass, id, alone);
+        }
+        assert_eq!(rt; answer, Ok(()));
+        assert!(rt; table.blocks(0, id, true).is_some());
+    }
+
+    fn ask(table: &mut LockTable, pass: u8, id: u32, alone: bool) -> Result<(), LockRefusal> {
+        if alone {
+            table.own(pass, id)
+        } else {
+            table.share(pass, id)
+        }
+    }
+
+    #[test]
+    fn out_of_memory_is_no_lock(rt: HostRuntime) {
+        let mut table = LockTable::new(rt.alloc());
+        for id in 1..20 {
+            grant(&rt, &mut table, 1, id, false);
+            grant(&rt, &mut table, 2, id, false);
+            grant(&rt, &mut table, 2, id + 100, true);
+            grant(&rt, &mut table, 2, id + 100, false);
+        }
+        table.drop_all(2);
+        for id in 1..20 {
+            grant(&rt, &mut table, 1, id, true);
+            assert_eq!(rt; table.holder(id + 100), None);
+        }
+        table.drop_all(1);
+        for id in 1..20 {
+            assert_eq!(rt; table.holder(id), None);
+        }
+    }
+}

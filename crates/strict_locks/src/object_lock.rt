@@ -1,0 +1,130 @@
+//! The lock of one object.
+ghost use Rattle.std.specs.Prelude.{◌≡◌, ◌≢◌, ℕ, ◌||◌, ◌&&◌, ◌==◌, not, [], ◌∷◌, Some, None, OnOk, OnErr, IfOk, true};
+ghost use Rattle.std.specs.Ordering.{nat_cmp};
+ghost use Rattle.std.specs.BTreeSet.{contains};
+ghost use Rattle.strict_locks.specs.Locks.{is_owner, is_sharer, is_holder, Holds, IsExclusive, StandsInWayOfShare, StandsInWayOfOwn, Nobody, IsLeastOrNone};
+
+use std::alloc::{AllocError, Global};
+use std::collections::BTreeSet;
+use std::marker::Model;
+
+/// Who holds an object. Where it is owned, nobody but its owner holds it.
+#[derive(Debug, Drop)]
+pub(crate) struct ObjectLock {
+    owner: Option<u8>,
+    sharers: BTreeSet<u8>,
+}
+
+impl Model for ObjectLock {
+    ghost use Rattle.strict_locks.specs.Locks.{Holders, IsExclusive};
+
+    ghost Value = { Holders };
+
+    ghost view = { λ a. record { owner = a.owner; sharers = a.sharers.keys } };
+
+    ghost invariant = { λ a. IsExclusive (record { owner = a.owner; sharers = a.sharers.keys }) };
+}
+
+/// The least client of the set, but for this one.
+fn least_but(clients: &BTreeSet<u8>, pass: u8) -> Option<u8>
+    ensures { IsLeastOrNone (λ p. (p ≢ pass) × (contains nat_cmp clients.now p ≡ true)) result }
+{
+    for client in clients.iter() {
+        if *client != pass {
+            return Some(*client);
+        }
+    }
+    None
+}
+
+impl ObjectLock {
+    /// The lock of an object that this client alone shares.
+    pub(crate) fn shared_by(alloc: Global, pass: u8) -> Result<ObjectLock, AllocError>
+        ensures { IfOk result (λ lock. lock ≡ record { owner = None; sharers = pass ∷ [] }) }
+    {
+        let mut sharers = BTreeSet::new(alloc);
+        sharers.insert(pass)?;
+        Ok(ObjectLock {
+            owner: None,
+            sharers,
+        })
+    }
+
+    /// The lock of an object that this client owns.
+    pub(crate) fn owned_by(alloc: Global, pass: u8) -> ObjectLock
+        ensures { result ≡ record { owner = Some pass; sharers = [] } }
+    {
+        ObjectLock {
+            owner: Some(pass),
+            sharers: BTreeSet::new(alloc),
+        }
+    }
+
+    /// Whether the client owns or shares the object.
+    pub(crate) fn is_held_by(&self, pass: u8) -> bool
+        ensures { result ≡ is_holder self.now pass }
+    {
+        self.owner == Some(pass) || self.sharers.contains(&pass)
+    }
+
+    /// The client that keeps this one from sharing the object.
+    pub(crate) fn other_owner(&self, pass: u8) -> Option<u8>
+        ensures { IsLeastOrNone (StandsInWayOfShare self.now pass) result }
+    {
+        match self.owner {
+            Some(owner) if owner != pass => Some(owner),
+            _ => None,
+        }
+    }
+
+    /// The least client that keeps this one from owning the object.
+    pub(crate) fn other_holder(&self, pass: u8) -> Option<u8>
+        ensures { IsLeastOrNone (StandsInWayOfOwn self.now pass) result }
+    {
+        match self.owner {
+            Some(owner) if owner != pass => Some(owner),
+            _ => least_but(&self.sharers, pass),
+        }
+    }
+
+    /// The least client that holds the object.
+    pub(crate) fn least_holder(&self) -> Option<u8>
+        ensures least { IsLeastOrNone (Holds self.now) result }
+        ensures exclusive { IsExclusive self.now }
+    {
+        match self.owner {
+            Some(owner) => Some(owner),
+            None => self.sharers.first().copied(),
+        }
+    }
+
+    /// Adds the client to those that share the object. Out of memory leaves the lock as it was.
+    pub(crate) fn share(&mut self, pass: u8) -> Result<(), AllocError>
+        requires { Nobody (StandsInWayOfShare self.old pass) }
+        ensures owner { self.new.owner ≡ self.old.owner }
+        ensures sharers { OnOk result ((p : ℕ) → is_sharer self.new p ≡ (p == pass || is_sharer self.old p)) }
+        ensures err { OnErr result (self.new ≡ self.old) }
+    {
+        self.sharers.insert(pass)?;
+        Ok(())
+    }
+
+    /// Makes the client the owner of the object.
+    pub(crate) fn own(&mut self, pass: u8)
+        requires { Nobody (StandsInWayOfOwn self.old pass) }
+        ensures { self.new ≡ record self.old { owner = Some pass } }
+    {
+        self.owner = Some(pass);
+    }
+
+    /// Takes the client from the holders of the object.
+    pub(crate) fn give_back(&mut self, pass: u8)
+        ensures owner { (p : ℕ) → is_owner self.new p ≡ (not (p == pass) && is_owner self.old p) }
+        ensures sharers { (p : ℕ) → is_sharer self.new p ≡ (not (p == pass) && is_sharer self.old p) }
+    {
+        if self.owner == Some(pass) {
+            self.owner = None;
+        }
+        self.sharers.remove(&pass);
+    }
+}

@@ -1,0 +1,112 @@
+//! The lock of each object.
+ghost use Rattle.std.specs.Prelude.{◌≡◌, ◌≢◌, ℕ, OnOk, OnErr, IsSome, IfSome, true};
+ghost use Rattle.strict_locks.specs.Locks.{holders_of, is_holder, Holds, IsExclusive, StandsInWayOfShare, StandsInWayOfOwn, Nobody, IsLeastOrNone, AddsShare, AddsOwner, GivesBack, DropsAll, AreHeld};
+ghost use Rattle.strict_locks.specs.Clients.{NamesHeld};
+
+use crate::object_lock::ObjectLock;
+use std::alloc::{AllocError, Global};
+use std::collections::BTreeMap;
+
+/// Whether the client owns or shares the object.
+pub(crate) fn is_held_by(locks: &BTreeMap<u32, ObjectLock>, pass: u8, id: u32) -> bool
+    ensures { result ≡ is_holder (holders_of locks.now.entries id) pass }
+{
+    match locks.get(&id) {
+        Some(lock) => lock.is_held_by(pass),
+        None => false,
+    }
+}
+
+/// The client that keeps this one from sharing the object.
+pub(crate) fn other_owner(locks: &BTreeMap<u32, ObjectLock>, pass: u8, id: u32) -> Option<u8>
+    ensures { IsLeastOrNone (StandsInWayOfShare (holders_of locks.now.entries id) pass) result }
+{
+    locks.get(&id)?.other_owner(pass)
+}
+
+/// The least client that keeps this one from owning the object.
+pub(crate) fn other_holder(locks: &BTreeMap<u32, ObjectLock>, pass: u8, id: u32) -> Option<u8>
+    ensures { IsLeastOrNone (StandsInWayOfOwn (holders_of locks.now.entries id) pass) result }
+{
+    locks.get(&id)?.other_holder(pass)
+}
+
+/// The least client that holds the object.
+pub(crate) fn least_holder(locks: &BTreeMap<u32, ObjectLock>, id: u32) -> Option<u8>
+    ensures least { IsLeastOrNone (Holds (holders_of locks.now.entries id)) result }
+    ensures exclusive { IsExclusive (holders_of locks.now.entries id) }
+{
+    locks.get(&id)?.least_holder()
+}
+
+/// Adds the client to those that share the object. Out of memory leaves the locks as they were.
+pub(crate) fn share(
+    locks: &mut BTreeMap<u32, ObjectLock>,
+    alloc: Global,
+    pass: u8,
+    id: u32,
+) -> Result<(), AllocError>
+    requires { Nobody (StandsInWayOfShare (holders_of locks.old.entries id) pass) }
+    ensures adds { OnOk result (AddsShare locks.old.entries locks.new.entries pass id) }
+    ensures held { AreHeld locks.old.entries → AreHeld locks.new.entries }
+    ensures err { OnErr result (locks.new.entries ≡ locks.old.entries) }
+{
+    match locks.get_mut(&id) {
+        Some(lock) => lock.share(pass),
+        None => {
+            let lock = ObjectLock::shared_by(alloc, pass)?;
+            locks.insert(id, lock)?;
+            Ok(())
+        }
+    }
+}
+
+/// Makes the client the owner of the object. Out of memory leaves the locks as they were.
+pub(crate) fn own(
+    locks: &mut BTreeMap<u32, ObjectLock>,
+    alloc: Global,
+    pass: u8,
+    id: u32,
+) -> Result<(), AllocError>
+    requires { Nobody (StandsInWayOfOwn (holders_of locks.old.entries id) pass) }
+    ensures adds { OnOk result (AddsOwner locks.old.entries locks.new.entries pass id) }
+    ensures held { AreHeld locks.old.entries → AreHeld locks.new.entries }
+    ensures err { OnErr result (locks.new.entries ≡ locks.old.entries) }
+{
+    match locks.get_mut(&id) {
+        Some(lock) => {
+            lock.own(pass);
+            Ok(())
+        }
+        None => {
+            locks.insert(id, ObjectLock::owned_by(alloc, pass))?;
+            Ok(())
+        }
+    }
+}
+
+/// Takes the client from the holders of the object.
+fn give_back(locks: &mut BTreeMap<u32, ObjectLock>, pass: u8, id: u32)
+    ensures gives { GivesBack locks.old.entries locks.new.entries pass id }
+    ensures held { AreHeld locks.old.entries → AreHeld locks.new.entries }
+{
+    let Some(lock) = locks.get(&id) else {
+        return;
+    };
+    if lock.other_holder(pass).is_none() {
+        locks.remove(&id);
+    } else if let Some(lock) = locks.get_mut(&id) {
+        lock.give_back(pass);
+    }
+}
+
+/// Gives all of the client's locks back, of which the list names each.
+pub(crate) fn give_back_all(locks: &mut BTreeMap<u32, ObjectLock>, pass: u8, ids: &[u32])
+    requires { NamesHeld locks.old.entries pass ids.now }
+    ensures drops { DropsAll locks.old.entries locks.new.entries pass }
+    ensures held { AreHeld locks.old.entries → AreHeld locks.new.entries }
+{
+    for id in ids {
+        give_back(locks, pass, *id);
+    }
+}
