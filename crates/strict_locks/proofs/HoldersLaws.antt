@@ -1,11 +1,11 @@
 -- Laws on the holders of one object.
-use Rattle.std.proofs.Common.{◌≡◌, ◌≢◌, ℕ, unwrap_or, IfSome, Option, subst, true, cond, Some, sym, ◌∙◌, ap, arith}
+use Rattle.std.proofs.Common.{◌≡◌, ◌≢◌, ℕ, true, cond, Option, Some, unwrap_or, IfSome, sym, ◌∙◌, ap, subst, arith}
 use Rattle.std.specs.Ordering.{nat_cmp}
 use Rattle.std.specs.BTreeMap.{is_at}
-use Rattle.std.proofs.lemmas.Bool.Decides.{nat_tests}
 use Rattle.std.specs.Map.{lookup, set_value}
-use Rattle.std.proofs.lemmas.Map.Steps.{set_value_same}
 use Rattle.std.proofs.lemmas.Bool.{cond_both}
+use Rattle.std.proofs.lemmas.Bool.Decides.{nat_tests}
+use Rattle.std.proofs.lemmas.Map.Steps.{set_value_same}
 use Rattle.strict_locks.specs.Locks.{Holders, Table, holders_of, no_holders, is_sharer, Holds, IsExclusive, StandsInWayOfShare, StandsInWayOfOwn, Nobody, IsLeast, AreHeld}
 
 -- the object stays exclusive when a client owns it that nobody stands in the way of

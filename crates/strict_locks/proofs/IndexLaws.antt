@@ -1,5 +1,5 @@
 -- Laws on the lists of the objects that the clients hold.
-use Rattle.std.proofs.Common.{◌≡◌, ℕ, false, cond, List, [], ◌∷◌, ◌++◌, Option, None, eqb, refl, sym, ap, ◌∙◌, subst}
+use Rattle.std.proofs.Common.{◌≡◌, ℕ, true, false, cond, List, [], ◌∷◌, ◌++◌, Option, None, eqb, refl, sym, ap, ◌∙◌, subst}
 use Rattle.std.specs.Cmp.{nat_cmp_total, eq_by_cmp_equiv}
 use Rattle.std.specs.Global.{Vec}
 use Rattle.std.specs.List.{list_any, IsDistinct}
@@ -23,12 +23,11 @@ AreSound-none = record { held = λ id. tt; listed = λ id p. refl; distinct = λ
 pub AreDistinct-note : (old kept new : Lists) (pass id : ℕ) → AreDistinct old → ((p : ℕ) → ids_of kept p ≡ ids_of old p) → AddsId kept new pass id → list_any (is_at (nat_cmp id)) (ids_of old pass) ≡ false → AreDistinct new
 AreDistinct-note old kept new pass id distinct same adds absent p =
     let P : List ℕ → Type 0 = λ ids. IsDistinct (eq_by_cmp nat_cmp) ids in
-    subst P (sym (adds p)) (cond_both (eqb p pass) (ids_of kept p ++ id ∷ []) (ids_of kept p) P
-    (λ here.
     let Lacks : ℕ → Type 0 = λ q. list_any (is_at (nat_cmp id)) (ids_of old q) ≡ false in
-    let lacks = ap (list_any (is_at (nat_cmp id))) (same p) ∙ subst Lacks (sym (eqb-true p pass here)) absent in
-    IsDistinct-push (eq_by_cmp_equiv nat_cmp_total) _ id (subst P (sym (same p)) (distinct p)) lacks)
-    (λ _. subst P (sym (same p)) (distinct p)))
+    let kept_distinct : P (ids_of kept p) = subst P (sym (same p)) (distinct p) in
+    let lacks : eqb p pass ≡ true → list_any (is_at (nat_cmp id)) (ids_of kept p) ≡ false = λ here. ap (list_any (is_at (nat_cmp id))) (same p) ∙ subst Lacks (sym (eqb-true p pass here)) absent in
+    let noted : eqb p pass ≡ true → P (ids_of kept p ++ id ∷ []) = λ here. IsDistinct-push (eq_by_cmp_equiv nat_cmp_total) _ id kept_distinct (lacks here) in
+    subst P (sym (adds p)) (cond_both (eqb p pass) (ids_of kept p ++ id ∷ []) (ids_of kept p) P noted (λ _. kept_distinct))
 
 -- the lists stay without repeats when a client's list is taken away
 pub AreDistinct-remove : (old new : Lists) (pass : ℕ) → ((q : ℕ) → lookup (is_at (nat_cmp q)) new ≡ cond (is_at (nat_cmp pass) q) None (lookup (is_at (nat_cmp q)) old)) → AreDistinct old → AreDistinct new

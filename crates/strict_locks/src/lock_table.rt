@@ -1,5 +1,5 @@
 //! The table of the locks that clients hold until their transactions end.
-ghost use Rattle.std.specs.Prelude.{◌≡◌, ℕ, [], OnOk, OnErr, IfErr, true};
+ghost use Rattle.std.specs.Prelude.{◌≡◌, [], OnOk, OnErr, IfErr};
 
 use crate::object_lock::ObjectLock;
 use crate::refusal::LockRefusal;
