@@ -8,7 +8,7 @@ split_at-requires c =
     (blank_or_end _ _ (rw c.blank_start.ensures at n)).1
 
 pub returns : goal.returns
-returns c = 
+returns c =
     let n = rw c.blank_start.ensures at c.unwrap_or-end.ensures in
     rw (c.split_at.ensures.front, c.split_at.ensures.back) (fields_of-first c.args.bytes.now _ c.in-Some.start c.unwrap_or-end.result c.in-Some.ensures (take_rest c.args.bytes.now c.in-Some.start) n)
 
