@@ -1,7 +1,6 @@
 -- An abort undoes one write after another.
-use Rattle.std.proofs.Common.{◌≡◌, ℕ, zero, suc, ◌+◌, ◌-◌, ◌<◌, Bool, true, false, ◌==◌, cond, List, [], ◌∷◌, ◌++◌, Option, Some, None, replicate, append_assoc, refl, sym, ap, ◌∙◌, arith}
-use Rattle.std.specs.Prelude.{IsSome, count_by}
-use Rattle.std.specs.Option.{option_map_or}
+use Rattle.std.proofs.Common.{◌≡◌, ℕ, ◌+◌, ◌<◌, Bool, true, false, ◌==◌, cond, List, [], ◌∷◌, ◌++◌, Option, Some, None, replicate, append_assoc, refl, ap, ◌∙◌, arith}
+use Rattle.std.specs.Prelude.{IsSome}
 use Rattle.std.specs.Map.{lookup, set_value}
 use Rattle.std.specs.Ordering.{nat_cmp}
 use Rattle.std.specs.BTreeMap.{is_at}
@@ -12,7 +11,7 @@ use Rattle.plain_model.specs.declared.calls.Entry.{Entry}
 use Rattle.plain_model.specs.declared.calls.Entry.TheVariants.{Undo}
 use Rattle.plain_model.specs.ActiveTransaction.{ActiveTransaction}
 use Rattle.plain_model.specs.Machine.{State, transaction_of}
-use Rattle.plain_model.specs.History.{Moment, History, start_of, end_of, next, with_entry, after_undo, undoable, left_to_undo, can_be_undone}
+use Rattle.plain_model.specs.History.{Moment, History, start_of, end_of, next, with_entry, after_undo, undoable, left_to_undo}
 use Rattle.brahma_shell.specs.Replay.{with_entries}
 
 pub end_of-push : (h : History) (e : Entry) → end_of (with_entry h e) ≡ next (end_of h) e

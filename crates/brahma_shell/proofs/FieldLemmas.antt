@@ -1,13 +1,10 @@
 -- Where the first field of a line begins and ends, and what its digits spell.
 use Rattle.std.proofs.lemmas.Bool.{cases_lt}
-use Rattle.std.proofs.Common.{nat_lt, unwrap_or, add-zero, ⊎_elim, All, ◌≡◌, ◌≢◌, ℕ, zero, suc, ◌+◌, ◌*◌, ◌^◌, ◌<◌, ◌≤◌, Bool, true, false, not, cond, List, [], ◌∷◌, ◌++◌, Option, Some, None, MatchOption, take, drop, get_or, length, refl, sym, ap, ◌∙◌, arith}
-use Rattle.std.specs.List.{slice_split, position_from, prefix_len, filter, position, position_or_len, before_first, after_first}
-use Rattle.std.specs.Str.{all_ascii_digits}
-use Rattle.std.specs.Char.{is_ascii_digit}
-use Rattle.std.specs.Str.Parse.{digits_value}
+use Rattle.std.proofs.Common.{nat_lt, unwrap_or, add-zero, ⊎_elim, All, ◌≡◌, ℕ, suc, ◌+◌, ◌<◌, ◌≤◌, Bool, true, false, not, cond, List, [], ◌∷◌, Option, Some, None, MatchOption, take, drop, get_or, length, refl, sym, ap, ◌∙◌, arith}
+use Rattle.std.specs.List.{slice_split, position_from, prefix_len, filter, position, position_or_len}
 use Rattle.std.proofs.lemmas.Bool.Decides.{nat_tests}
 use Rattle.std.proofs.lemmas.Iterator.Adapters.{position_from-zero}
-use Rattle.std.proofs.lemmas.List.Splits.{slice_split-cons_yes, slice_split-cons_no, slice_split_first, slice_split_none}
+use Rattle.std.proofs.lemmas.List.Splits.{slice_split-cons_yes, slice_split_first, slice_split_none}
 use Rattle.std.proofs.lemmas.List.{drop_more, take_all, drop_all, length-drop, get_or-drop}
 use Rattle.std.proofs.lemmas.List.Sums.{passes_at_first, fails_before_first, prefix_len-le-length}
 use Rattle.brahma_shell.specs.Fields.{is_blank, is_empty, fields_of}

@@ -1,16 +1,14 @@
 -- What an abort line gives.
-use Rattle.std.proofs.Common.{◌≡◌, ◌⊎◌, ⊎_elim, ℕ, zero, suc, ◌+◌, ◌-◌, Bool, true, false, List, [], ◌∷◌, ◌++◌, Option, Some, None, replicate, append_assoc, refl, sym, ap, ◌∙◌}
+use Rattle.std.proofs.Common.{◌≡◌, ◌⊎◌, ⊎_elim, ℕ, zero, suc, false, List, [], ◌∷◌, ◌++◌, Option, Some, None, replicate, refl, ◌∙◌}
 use Rattle.std.specs.Prelude.{is_some}
 use Rattle.std.proofs.lemmas.List.{append-nil}
-use Rattle.std.proofs.lemmas.List.Concat.{flat_map-append}
 use Rattle.plain_model.specs.declared.calls.Call.TheVariants as call
-use Rattle.plain_model.specs.declared.calls.Reply.{Reply}
 use Rattle.plain_model.specs.declared.calls.Reply.TheVariants.{Done}
 use Rattle.plain_model.specs.declared.calls.Entry.{Entry}
 use Rattle.plain_model.specs.declared.calls.Entry.TheVariants as entry
 use Rattle.plain_model.specs.ActiveTransaction.{ActiveTransaction}
 use Rattle.plain_model.specs.Machine.{transaction_of}
-use Rattle.plain_model.specs.History.{Moment, History, end_of, with_entry, left_to_undo}
+use Rattle.plain_model.specs.History.{History, end_of, with_entry, left_to_undo}
 use Rattle.plain_model.specs.Text.{text_of, line_of}
 use Rattle.brahma_shell.specs.declared.grammar.Line.{Line}
 use Rattle.brahma_shell.specs.declared.grammar.Line.TheVariants.{Abort, Undo}

@@ -1,13 +1,13 @@
 -- Bytes that join a buffer behind those that are there.
 use Rattle.std.proofs.lemmas.Bool.{cases_lt}
-use Rattle.std.proofs.Common.{⊎_elim, ◌==◌, ◌≡◌, ℕ, ◌+◌, ◌-◌, ◌<◌, ◌≤◌, ◌⊎◌, List, [], ◌∷◌, ◌++◌, Option, Some, None, take, drop, get_or, length, append_assoc, refl, sym, ap, ◌∙◌, arith, slice_index, add_assoc}
-use Rattle.std.proofs.lemmas.List.{get_or_past, append-nil, nil_from_length, drop_more, take-append-drop, take-take, drop-take, drop-drop, get_or-drop, get_or-take, length-take-le, length-take}
+use Rattle.std.proofs.Common.{⊎_elim, ◌==◌, ◌≡◌, ℕ, ◌+◌, ◌-◌, ◌<◌, ◌≤◌, ◌⊎◌, List, [], ◌∷◌, ◌++◌, Option, Some, None, take, drop, length, append_assoc, sym, ap, ◌∙◌, arith, slice_index}
+use Rattle.std.proofs.lemmas.List.{get_or_past, append-nil, nil_from_length, drop_more, take-append-drop, take-take, drop-take, drop-drop, get_or-drop, get_or-take, length-take}
 use Rattle.std.specs.List.{position}
 use Rattle.std.specs.Io.KnownBytes.{prepend_known, Keeps, Consumes, IsAtEnd}
 use Rattle.brahma_shell.specs.Lines.{lines_of, line_feed, line_feeds}
 use Rattle.brahma_shell.specs.Grammar.{max_line}
 use Rattle.brahma_shell.specs.declared.lines.Found.{Found}
-use Rattle.brahma_shell.specs.declared.lines.Found.TheVariants.{Line, LastLine, LongLine, End}
+use Rattle.brahma_shell.specs.declared.lines.Found.TheVariants.{LastLine, End}
 use Rattle.brahma_shell.specs.Reading.{Finds, TakesLine, TakesLastLine, BeginsWithLongLine, IsDone, without_return}
 use Rattle.brahma_shell.proofs.LineLemmas.{line_feeds-append, no_place, at_place, whole_line, lines_of-whole, lines_of-long}
 

@@ -4,8 +4,7 @@ use Rattle.std.specs.Prelude.{IfSome}
 use Rattle.std.proofs.lemmas.List.{append-nil}
 use Rattle.std.specs.Io.KnownBytes.{Appends}
 use Rattle.core_store.specs.JournalView.{JournalView}
-use Rattle.plain_model.specs.declared.calls.Entry.{Entry}
-use Rattle.plain_model.specs.History.{Moment, History, start_of, moment_after}
+use Rattle.plain_model.specs.History.{Moment, History, start_of}
 use Rattle.brahma_shell.specs.Lines.{lines_of}
 use Rattle.brahma_shell.specs.Follows.{FollowsAll, FollowsSome, FollowsPart, IsPartOfFirst}
 use Rattle.brahma_shell.specs.Output.{AppendsFront}

@@ -1,13 +1,13 @@
 -- What the lines of a script ask, and which lines are refused.
 use Rattle.std.specs.Prelude.{ℕ, ◌≤◌, ◌==◌, ◌≢◌, Bool, false, if◌then◌else◌, List, [], ◌∷◌, length, Option, Some, None, IsSome, bytes_eq, codes, option_and_then}
-use Rattle.plain_model.specs.declared.calls.Call.{Call}
 use Rattle.plain_model.specs.declared.calls.Call.TheVariants as call
 use Rattle.plain_model.specs.Machine.{IsInRange}
 use Rattle.brahma_shell.specs.declared.verb.Verb.{Verb}
 use Rattle.brahma_shell.specs.declared.verb.Verb.TheVariants.{Begin, Read, Make, Store, Get, Set, Commit, Abort, Undo}
 use Rattle.brahma_shell.specs.declared.grammar.Line.{Line}
 use Rattle.brahma_shell.specs.declared.grammar.Line.TheVariants as line
-use Rattle.brahma_shell.specs.Fields.{fields_of, client_of, register_of, slot_of, payload_of, source_of}
+use Rattle.brahma_shell.specs.Fields.{fields_of}
+use Rattle.brahma_shell.specs.Numbers.{client_of, register_of, slot_of, payload_of, source_of}
 
 infixl 10 ◌>>=◌
 abbrev pub ◌>>=◌ : {A B : Type 0} → Option A → (A → Option B) → Option B

@@ -6,7 +6,6 @@ ghost use Rattle.brahma_shell.specs.Lines.{line_feed, line_feeds};
 ghost use Rattle.brahma_shell.specs.Reading.{Finds, IsFirstLineFeed, without_return};
 
 use outside_io::{ReadFailed, Source};
-use std::marker::Model;
 
 /// How many bytes the buffer has. A line that fills it is longer than any line may be.
 const BUFFER: usize = 4096;
@@ -48,8 +47,8 @@ fn read_behind<R: Source>(
     buffer: &mut [u8; BUFFER],
     end: usize,
 ) -> Result<usize, ReadFailed>
-    requires { end < 4096 }
-    ensures bound { IfOk result (λ n. end + n ≤ 4096) }
+    requires { end < BUFFER }
+    ensures bound { IfOk result (λ n. end + n ≤ BUFFER) }
     ensures kept { take end buffer.new ≡ take end buffer.old }
     ensures bytes { ReadConsumes (R.left source.old) (R.left source.new) result (drop end buffer.new) }
     ensures cause { HasCause (R.faults source.old) (R.faults source.new) result }
@@ -64,13 +63,13 @@ fn read_line_feed<R: Source>(
     buffer: &mut [u8; BUFFER],
     end: &mut usize,
 ) -> Result<Option<usize>, ReadFailed>
-    requires within { end.old ≤ 4096 }
+    requires within { end.old ≤ BUFFER }
     requires none { line_feeds (take end.old buffer.old) ≡ 0 }
-    ensures size { length buffer.new ≡ 4096 }
-    ensures within { end.new ≤ 4096 }
+    ensures size { length buffer.new ≡ BUFFER }
+    ensures within { end.new ≤ BUFFER }
     ensures bytes { Keeps (prepend_known (take end.old buffer.old) (R.left source.old)) (prepend_known (take end.new buffer.new) (R.left source.new)) }
     ensures found { IfOk result (IsFirstLineFeed buffer.new end.new) }
-    ensures all { IfOk result (λ i. IfNone i (end.new < 4096 → IsAtEnd (R.left source.new))) }
+    ensures all { IfOk result (λ i. IfNone i (end.new < BUFFER → IsAtEnd (R.left source.new))) }
     ensures failed { OnErr result (line_feeds (take end.new buffer.new) ≡ 0) }
     ensures cause { HasCause (R.faults source.old) (R.faults source.new) result }
 {
@@ -91,7 +90,7 @@ fn read_line_feed<R: Source>(
 /// Moves these bytes to the front of the buffer.
 fn move_to_front(buffer: &mut [u8; BUFFER], start: usize, end: usize)
     requires ordered { start ≤ end }
-    requires within { end ≤ 4096 }
+    requires within { end ≤ BUFFER }
     ensures { take (end - start) buffer.new ≡ slice_range buffer.old start end }
 {
     if start > 0 {

@@ -1,4 +1,4 @@
-use Rattle.std.proofs.Common.{◌≡◌, ℕ, ◌+◌, ◌-◌, List, take, drop, arith, ap, ◌∙◌}
+use Rattle.std.proofs.Common.{◌≡◌, ℕ, ◌+◌, ◌-◌, take, drop, arith, ap}
 use Rattle.brahma_shell.proofs.ReadLemmas.{Keeps-read, grown, none_behind, one_behind}
 use Rattle.brahma_shell.proofs.lines.read_line_feed.Goals as goal
 

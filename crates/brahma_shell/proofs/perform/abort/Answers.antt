@@ -1,10 +1,8 @@
-use Rattle.std.proofs.Common.{◌≡◌, ℕ, ◌+◌, ◌∙◌, sym, ap, refl, arith, List, ◌++◌, ◌∷◌, [], replicate}
-use Rattle.std.specs.Prelude.{IsSome}
+use Rattle.std.proofs.Common.{◌≡◌, ℕ, ◌+◌, ◌∙◌, ap, refl, arith}
 use Rattle.plain_model.specs.declared.calls.Entry.TheVariants.{Undo, Call}
 use Rattle.plain_model.specs.declared.calls.Call.TheVariants.{Abort}
 use Rattle.plain_model.specs.declared.calls.Reply.TheVariants.{Done}
-use Rattle.plain_model.specs.Machine.{transaction_of}
-use Rattle.plain_model.specs.History.{Moment, History, end_of, next, left_to_undo, with_entry}
+use Rattle.plain_model.specs.History.{History, end_of, next, left_to_undo, with_entry}
 use Rattle.brahma_shell.proofs.AbortLemmas.{left_to_undo-undo, still_active, end_of-push, with_undos, with_end}
 use Rattle.brahma_shell.proofs.perform.abort.Goals as goal
 

@@ -1,5 +1,4 @@
-use Rattle.std.proofs.Common.{◌≡◌, ◌∙◌}
-use Rattle.brahma_shell.specs.Replay.{answer_text}
+use Rattle.std.proofs.Common.{◌∙◌}
 use Rattle.brahma_shell.proofs.PerformLemmas.{does-line}
 use Rattle.brahma_shell.proofs.replay.do_line.Goals as goal
 

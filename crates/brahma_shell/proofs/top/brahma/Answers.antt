@@ -1,12 +1,11 @@
-use Rattle.std.proofs.Common.{◌≡◌, ◌++◌, refl, ap, ◌∙◌, arith, Err}
+use Rattle.std.proofs.Common.{refl, ap, arith, Err}
 use Rattle.std.specs.Io.KnownBytes.{Appends}
 use Rattle.core_store.specs.Fresh.{fresh_history}
 use Rattle.plain_model.specs.History.{History, end_of}
 use Rattle.plain_model.specs.Text.{text_of, stored_line}
-use Rattle.outside_io.specs.Causes.{Rose}
 use Rattle.brahma_shell.specs.Follows.{FollowsAll, FollowsSome}
 use Rattle.brahma_shell.specs.Output.{AppendsFront}
-use Rattle.brahma_shell.specs.Top.{IsOfFreshStore, whole_text}
+use Rattle.brahma_shell.specs.Top.{whole_text}
 use Rattle.brahma_shell.proofs.OutputLemmas.{Appends-trans}
 use Rattle.brahma_shell.proofs.TopLemmas.{EndsWith-after, AppendsFront-longer, AppendsFront-after, FollowsPart-none, FollowsSome-all, FollowsPart-all, of_journal, of_fresh}
 use Rattle.brahma_shell.proofs.top.brahma.Goals as goal

@@ -1,4 +1,4 @@
-use Rattle.std.proofs.Common.{◌≡◌, rules, codes, arith}
+use Rattle.std.proofs.Common.{◌≡◌, rules, codes}
 use Rattle.std.proofs.lemmas.Slice.Eq.{text_from_reads}
 use Rattle.brahma_shell.proofs.verb.verb_of.Goals as goal
 

@@ -1,8 +1,7 @@
-use Rattle.std.proofs.Common.{arith, ◌+◌, ◌≡◌, ◌-◌, ◌≤◌, ◌<◌, take, drop, length, Option, Some, None, List, ℕ, sym, ap, ◌∙◌, ⊎_elim}
+use Rattle.std.proofs.Common.{arith, ◌≡◌, ◌-◌, ◌<◌, take, length, ℕ, ap}
 use Rattle.std.proofs.lemmas.List.{length-take}
-use Rattle.std.specs.Io.KnownBytes.{prepend_known, Keeps}
 use Rattle.brahma_shell.specs.LineReader.{pending}
-use Rattle.brahma_shell.proofs.ReadLemmas.{TakesLine-cut, TakesLine-keeps, TakesLine-behind, Finds-all, BeginsWithLongLine-full}
+use Rattle.brahma_shell.proofs.ReadLemmas.{TakesLine-cut, TakesLine-behind, Finds-all, BeginsWithLongLine-full}
 use Rattle.brahma_shell.proofs.LineLemmas.{no_place, at_place}
 use Rattle.brahma_shell.proofs.lines.LineReader.advance.Goals as goal
 

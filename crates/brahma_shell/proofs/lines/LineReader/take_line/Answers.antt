@@ -1,4 +1,4 @@
-use Rattle.std.proofs.Common.{arith, ◌+◌, ◌≡◌, ◌-◌, ◌≤◌, take, drop, add_assoc, length}
+use Rattle.std.proofs.Common.{arith, ◌+◌, ◌-◌, ◌≤◌, drop, add_assoc}
 use Rattle.std.proofs.lemmas.List.{length-take}
 use Rattle.brahma_shell.proofs.ReadLemmas.{range-drop}
 use Rattle.brahma_shell.proofs.lines.LineReader.take_line.Goals as goal

@@ -1,0 +1,120 @@
+//! Whole runs, with the output and the status that were worked out by hand.
+use crate::{Words, brahma};
+use outside_io::{MemorySink, MemorySource};
+use plain_model::Memory;
+use std::alloc::Global;
+use std::test::Fail;
+
+/// The status and the output of `replay` on a script, where these reads and writes fail.
+fn replayed(
+    alloc: Global,
+    script: &str,
+    failing_read: Option<u64>,
+    failing_write: Option<u64>,
+) -> Result<(u8, Vec<u8>), Memory> {
+    let mut words = Words::new(alloc);
+    words.push("replay")?;
+    run(alloc, &words, script, failing_read, failing_write)
+}
+
+/// The status and the output of a command.
+fn run(
+    alloc: Global,
+    words: &Words,
+    script: &str,
+    failing_read: Option<u64>,
+    failing_write: Option<u64>,
+) -> Result<(u8, Vec<u8>), Memory> {
+    let bytes = Vec::from_slice(alloc, script.as_bytes())?;
+    let mut source = MemorySource::new(bytes, calls(alloc, failing_read)?);
+    let mut sink = MemorySink::new(alloc, calls(alloc, failing_write)?);
+    let (status, _) = brahma(alloc, words, &mut source, &mut sink);
+    Ok((status, Vec::from_slice(alloc, sink.bytes())?))
+}
+
+/// The list of this call, or of none.
+fn calls(alloc: Global, failing: Option<u64>) -> Result<Vec<u64>, Memory> {
+    let mut calls = Vec::new(alloc);
+    if let Some(call) = failing {
+        calls.push(call)?;
+    }
+    Ok(calls)
+}
+
+#[test]
+fn scripts(rt: HostRuntime) -> Result<(), Fail> {
+    for (script, status, output) in [
+        ("", 0, "stored 1\n"),
+        (
+            "1 begin\n1 make 1\n1 store 0 0 1\n1 commit\n",
+            0,
+            "1 begin: ok\n1 make: 2\n1 store: ok\n1 commit: ok\nstored 1 2\n",
+        ),
+        ("1 begin\n1 stor", 3, "1 begin: ok\nrefused: line 2\n"),
+        (
+            "1 begin\n1 store 0 6 -\n",
+            3,
+            "1 begin: ok\nrefused: line 2\n",
+        ),
+        (
+            "1 begin\n1 store 8 0 -\n",
+            3,
+            "1 begin: ok\nrefused: line 2\n",
+        ),
+        (
+            "1 begin\n2 begin\n1 set 0 5\n2 set 0 6\n1 commit\n2 set 0 6\n2 commit\n2 begin\n2 get 0\n",
+            0,
+            "1 begin: ok\n2 begin: ok\n1 set: ok\n2 set: busy 1\n1 commit: ok\n2 set: ok\n2 commit: ok\n2 begin: ok\n2 get: 6\nstored 1\n",
+        ),
+        (
+            "1 begin\n2 begin\n1 get 0\n2 get 0\n1 set 0 7\n2 commit\n1 set 0 7\n1 commit\n",
+            0,
+            "1 begin: ok\n2 begin: ok\n1 get: 0\n2 get: 0\n1 set: busy 2\n2 commit: ok\n1 set: ok\n1 commit: ok\nstored 1\n",
+        ),
+        (
+            "1 read 0 0 1\n1 begin\n1 begin\n1 read 3 0 1\n1 set 0 9\n1 undo\n1 get 0\n1 abort\n1 commit\n1 abort\n",
+            0,
+            "1 read: notxn\n1 begin: ok\n1 begin: hastxn\n1 read: empty 3\n1 set: ok\n1 get: aborting\n1 abort: ok\n1 commit: notxn\n1 abort: notxn\nstored 1\n",
+        ),
+        (
+            "\t1  begin \r\n\n# a comment\n00000000000000000001 set 00 18446744073709551615\n1 get 0",
+            0,
+            "1 begin: ok\n1 set: ok\n1 get: 18446744073709551615\nstored 1\n",
+        ),
+        ("1 begin\r\r\n", 3, "refused: line 1\n"),
+        ("1 begin\r", 3, "refused: line 1\n"),
+    ] {
+        let (found, text) = replayed(rt.alloc(), script, None, None)?;
+        assert_eq!(rt; found, status, "{script}");
+        assert_eq!(rt; text.as_slice(), output.as_bytes(), "{script}");
+    }
+    Ok(())
+}
+
+#[test]
+fn faults(rt: HostRuntime) -> Result<(), Fail> {
+    let script = "1 begin\n";
+    let (status, text) = replayed(rt.alloc(), script, Some(2), None)?;
+    assert_eq!(rt; status, 4);
+    assert_eq!(rt; text.as_slice(), b"1 begin: ok\nrefused: read\n".as_slice());
+
+    let script = "1 begin\n1 make 1\n1 store 0 0 1\n1 commit\n";
+    let (status, text) = replayed(rt.alloc(), script, None, Some(2))?;
+    assert_eq!(rt; status, 5);
+    assert_eq!(rt; text.as_slice(), b"1 begin: ok\n".as_slice());
+    Ok(())
+}
+
+#[test]
+fn words(rt: HostRuntime) -> Result<(), Fail> {
+    let mut words = Words::new(rt.alloc());
+    let (status, text) = run(rt.alloc(), &words, "", None, None)?;
+    assert_eq!(rt; status, 2);
+    assert_eq!(rt; text.as_slice(), b"usage\n".as_slice());
+    words.push("replay")?;
+    words.push("now")?;
+    let (status, text) = run(rt.alloc(), &words, "1 begin\n", None, None)?;
+    assert_eq!(rt; status, 2);
+    assert_eq!(rt; text.as_slice(), b"usage\n".as_slice());
+    Ok(())
+}
