@@ -1,22 +1,22 @@
 -- From a step of the reference machine to an answer of the tables; refusals.
-use Rattle.std.proofs.Common.{◌≡◌, ◌≢◌, ℕ, ◌≤◌, Bool, true, false, refl, sym, ap, ◌∙◌, subst, Option, Some, None, List, ◌⊎◌, inl, inr}
+use Rattle.std.proofs.Common.{◌≡◌, ◌≢◌, ℕ, Bool, true, false, refl, sym, ap, ◌∙◌, subst, Option, Some, None, List, ◌⊎◌, inl, inr}
 use Rattle.std.specs.Prelude.{is_some, if◌then◌else◌, ◌||◌}
 use Rattle.std.specs.Option.{option_map_or}
 use Rattle.plain_model.specs.declared.calls.Call.{Call as TransactionCall}
 use Rattle.plain_model.specs.declared.calls.Reply.{Reply}
 use Rattle.plain_model.specs.declared.calls.Reply.TheVariants.{NoTxn, Aborting, EmptyRegister}
 use Rattle.plain_model.specs.ActiveTransaction.{ActiveTransaction}
-use Rattle.plain_model.specs.Machine.{State, step, transaction_of, refusal_in, refusal_out, or_else, if_aborting, if_empty, register, is_among, blocks_sharing, blocks_owning, least_other}
+use Rattle.plain_model.specs.Machine.{State, step, transaction_of, refusal_in, refusal_out, or_else, if_aborting, if_empty, register, is_among, blocks_sharing, blocks_owning}
 use Rattle.plain_model.specs.History.{undone_after, holds}
 use Rattle.plain_model.proofs.StepLemmas.{step-refused, step-out}
 use Rattle.plain_laws.specs.Sound.{IsSoundState}
-use Rattle.plain_laws.proofs.Locks.{NoOther, IsLeastOther, least_other-found, least_other-nobody}
+use Rattle.plain_laws.proofs.Locks.{least_other-found, least_other-nobody}
 use Rattle.strict_locks.specs.Locks.{holders_of, is_owner, is_sharer, is_holder, StandsInWayOfShare, StandsInWayOfOwn, Nobody, IsLeast}
-use Rattle.core_store.specs.Transactions.{Running, held_in, running_at}
+use Rattle.core_store.specs.Transactions.{Running, running_at}
 use Rattle.core_store.specs.Refusals.{if_no_register, subject_refusal, HasSubject}
 use Rattle.core_store.specs.Tables.{TablesView}
-use Rattle.core_store.specs.Stands.{IsRunning, owns_in, shares_in, Stands, IsProper, Answers, Performs}
-use Rattle.core_store.proofs.SeenLaws.{active-of, inactive-of, IsAlone, contradict}
+use Rattle.core_store.specs.Stands.{IsRunning, owns_in, shares_in, Stands, Answers}
+use Rattle.core_store.proofs.SeenLaws.{active-of, inactive-of, IsAlone}
 
 pub answers-from : (w : TablesView) (s z : State) (undone : ℕ → ℕ) (pass : ℕ) (call : TransactionCall) (reply : Reply) → step s pass call ≡ (reply, z) → Stands w z (undone_after undone pass call reply) → Answers w s undone pass call reply
 answers-from w s z undone pass call reply e h = record {

@@ -1,19 +1,19 @@
 -- A transaction begins.
-use Rattle.std.proofs.Common.{◌≡◌, ◌≢◌, ℕ, ◌+◌, List, [], Bool, true, false, cond, refl, sym, ap, ◌∙◌, Option, Some, None, inr, arith}
-use Rattle.std.specs.Prelude.{is_some, ◌==◌, if◌then◌else◌}
+use Rattle.std.proofs.Common.{◌≡◌, ◌≢◌, ℕ, ◌+◌, List, true, false, cond, refl, ap, ◌∙◌, Option, Some, None, inr, arith}
+use Rattle.std.specs.Prelude.{is_some, ◌==◌}
 use Rattle.std.proofs.lemmas.Bool.Decides.{nat_tests}
 use Rattle.plain_model.specs.declared.calls.Call.TheVariants.{Begin}
 use Rattle.plain_model.specs.declared.calls.Reply.TheVariants.{Done, HasTxn}
 use Rattle.plain_model.specs.ActiveTransaction.{ActiveTransaction}
-use Rattle.plain_model.specs.Machine.{State, transaction_of, with_transaction, new_transaction}
+use Rattle.plain_model.specs.Machine.{with_transaction, new_transaction}
 use Rattle.plain_model.specs.History.{undone_after}
 use Rattle.plain_model.proofs.StepLemmas.{step-begin_twice, step-begin}
 use Rattle.plain_laws.proofs.Locks.{transaction_of-with_same, transaction_of-with_other}
 use Rattle.core_store.specs.Transactions.{Running, just_begun, running_at}
 use Rattle.core_store.specs.Tables.{TablesView}
-use Rattle.core_store.specs.Stands.{owns_in, shares_in, Stands, IsProper, Answers, Performs}
+use Rattle.core_store.specs.Stands.{owns_in, shares_in, Performs}
 use Rattle.core_store.proofs.SeenLaws.{active-of, inactive-of}
-use Rattle.core_store.proofs.ChangeLaws.{Changes, Stands-change}
+use Rattle.core_store.proofs.ChangeLaws.{Stands-change}
 use Rattle.core_store.proofs.MapLaws.{PutsAt}
 use Rattle.core_store.proofs.AnswerLaws.{answers-from}
 

@@ -1,5 +1,5 @@
 -- One client's transaction changes, or begins.
-use Rattle.std.proofs.Common.{◌≡◌, ◌≢◌, ℕ, List, true, sym, ap, ap₂, ◌∙◌, subst, Option, Some, ⊎_elim, ◌⊎◌, length, ◌+◌}
+use Rattle.std.proofs.Common.{◌≡◌, ◌≢◌, ℕ, List, true, sym, ap, ap₂, ◌∙◌, subst, Some, ⊎_elim, ◌⊎◌, length, ◌+◌}
 use Rattle.std.specs.List.{list_any}
 use Rattle.std.specs.Ordering.{nat_cmp}
 use Rattle.std.specs.BTreeMap.{is_at}
@@ -10,7 +10,6 @@ use Rattle.plain_model.specs.Machine.{State, transaction_of, own_graph, is_among
 use Rattle.plain_laws.proofs.Entries.{same_or_apart, some_same}
 use Rattle.strict_locks.specs.Locks.{holders_of, is_owner, is_sharer}
 use Rattle.core_store.specs.declared.contents.Contents.{Contents}
-use Rattle.core_store.specs.declared.contents.Version.{Version}
 use Rattle.core_store.specs.Versions.{version_at, object_of}
 use Rattle.core_store.specs.Transactions.{Running, running_at}
 use Rattle.core_store.specs.Tables.{TablesView}

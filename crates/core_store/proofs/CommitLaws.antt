@@ -9,9 +9,9 @@ use Rattle.plain_model.specs.declared.calls.Reply.{Reply}
 use Rattle.plain_model.specs.declared.calls.Reply.TheVariants.{Done, NoTxn, Aborting, Full}
 use Rattle.plain_model.specs.Graphs.{object_at}
 use Rattle.plain_model.specs.ActiveTransaction.{ActiveTransaction}
-use Rattle.plain_model.specs.Machine.{State, step, transaction_of, without_transaction, after_commit_of, own_graph, is_among, refusal_in, refusal_out, or_else, if_aborting, free_id}
+use Rattle.plain_model.specs.Machine.{State, step, transaction_of, without_transaction, after_commit_of, own_graph, refusal_in, refusal_out, or_else, free_id}
 use Rattle.plain_model.specs.History.{holds, can_be_undone, undoable, after_undo}
-use Rattle.plain_model.proofs.StepLemmas.{step-refused, step-out, step-commit, step-abort, step-make_aborting}
+use Rattle.plain_model.proofs.StepLemmas.{step-refused, step-out, step-commit, step-abort}
 use Rattle.plain_laws.proofs.Entries.{same_or_apart, some_same}
 use Rattle.plain_laws.proofs.Ids.{true_or_false}
 use Rattle.plain_laws.proofs.Locks.{transaction_of-without_same, transaction_of-without_other, transaction_of-undo_same, transaction_of-undo_other, marked_aborting}
@@ -20,17 +20,17 @@ use Rattle.plain_laws.proofs.Serial.{commit-leaves_held_proof}
 use Rattle.strict_locks.specs.Locks.{NamesExactly}
 use Rattle.core_store.specs.declared.contents.Contents.{Contents}
 use Rattle.core_store.specs.declared.contents.Version.{Version}
-use Rattle.core_store.specs.Versions.{version_at, current, object_of, published, discarded, settled}
+use Rattle.core_store.specs.Versions.{version_at, object_of, published, discarded, settled}
 use Rattle.core_store.specs.Transactions.{Running, running_at, undoing}
 use Rattle.core_store.specs.Refusals.{if_not_running}
 use Rattle.core_store.specs.Tables.{TablesView, changed_at}
 use Rattle.core_store.specs.Steps.{Ends}
-use Rattle.core_store.specs.Stands.{IsRunning, owns_in, shares_in, writes_to, IsWrittenBy, HasWriter, Stands, IsProper, Performs, UndoesOne, EndsAbort}
-use Rattle.core_store.proofs.SeenLaws.{active-of, inactive-of, writer-owns, owner-holds, unwritten-object, contradict, HasActive}
-use Rattle.core_store.proofs.ChangeLaws.{Changes, Stands-change}
-use Rattle.core_store.proofs.MapLaws.{PutsAt, puts-changed}
-use Rattle.core_store.proofs.AnswerLaws.{answers-from, not_true}
-use Rattle.core_store.proofs.EndLaws.{IsSettling, publishing, discarding, version-held, version-unheld, Stands-end}
+use Rattle.core_store.specs.Stands.{IsRunning, owns_in, shares_in, writes_to, Stands, IsProper, Performs, UndoesOne, EndsAbort}
+use Rattle.core_store.proofs.SeenLaws.{active-of, inactive-of, writer-owns, owner-holds, unwritten-object, contradict}
+use Rattle.core_store.proofs.ChangeLaws.{Stands-change}
+use Rattle.core_store.proofs.MapLaws.{puts-changed}
+use Rattle.core_store.proofs.AnswerLaws.{answers-from}
+use Rattle.core_store.proofs.EndLaws.{publishing, discarding, version-held, version-unheld, Stands-end}
 
 -- ---- refusals
 

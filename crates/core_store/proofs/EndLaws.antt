@@ -6,29 +6,21 @@ use Rattle.std.specs.Ordering.{nat_cmp}
 use Rattle.std.specs.BTreeMap.{is_at}
 use Rattle.std.proofs.lemmas.Bool.{cases_lt}
 use Rattle.plain_model.specs.declared.object.Object.{Object}
-use Rattle.plain_model.specs.declared.calls.Call.TheVariants.{Commit, Abort}
-use Rattle.plain_model.specs.declared.calls.Reply.{Reply}
-use Rattle.plain_model.specs.declared.calls.Reply.TheVariants.{Done}
 use Rattle.plain_model.specs.Graphs.{object_at}
 use Rattle.plain_model.specs.ActiveTransaction.{ActiveTransaction}
 use Rattle.plain_model.specs.Machine.{State, transaction_of, without_transaction, after_commit_of, own_graph, is_among}
 use Rattle.plain_model.specs.History.{holds}
-use Rattle.plain_model.proofs.StepLemmas.{step-commit, step-abort}
-use Rattle.plain_laws.specs.Sound.{IsSoundState}
 use Rattle.plain_laws.proofs.Entries.{same_or_apart, some_same}
-use Rattle.plain_laws.proofs.Ids.{at_eq, true_or_false, test_same, same_test}
-use Rattle.plain_laws.proofs.Locks.{transaction_of-without_same, transaction_of-without_other}
-use Rattle.plain_laws.proofs.Outcomes.{object_at-after_writes-same_proof}
-use Rattle.plain_laws.proofs.Serial.{commit-leaves_held_proof}
-use Rattle.strict_locks.specs.Locks.{Table, holders_of, is_owner, is_sharer, is_holder, DropsAll, NamesExactly}
+use Rattle.plain_laws.proofs.Ids.{at_eq, true_or_false, test_same}
+use Rattle.strict_locks.specs.Locks.{holders_of, is_owner, is_sharer, NamesExactly}
 use Rattle.core_store.specs.declared.contents.Contents.{Contents}
 use Rattle.core_store.specs.declared.contents.Version.{Version}
-use Rattle.core_store.specs.Versions.{blank_version, version_at, current, object_of, published, discarded, settled}
-use Rattle.core_store.specs.Transactions.{Running, running_at}
+use Rattle.core_store.specs.Versions.{blank_version, version_at, object_of, published, discarded, settled}
+use Rattle.core_store.specs.Transactions.{running_at}
 use Rattle.core_store.specs.Tables.{TablesView}
-use Rattle.core_store.specs.Steps.{TakesAt, Ends}
+use Rattle.core_store.specs.Steps.{Ends}
 use Rattle.core_store.specs.Stands.{Matches, owns_in, shares_in, writes_to, IsWrittenBy, HasWriter, Stands, IsProper}
-use Rattle.core_store.proofs.SeenLaws.{writer-owns, owner-holds, unwritten-object, contradict}
+use Rattle.core_store.proofs.SeenLaws.{writer-owns, owner-holds, contradict}
 use Rattle.core_store.proofs.AnswerLaws.{held_found}
 
 -- ---- versions that are settled

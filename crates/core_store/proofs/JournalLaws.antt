@@ -1,36 +1,23 @@
 -- One entry more keeps a journal sound.
-use Rattle.std.proofs.Common.{◌≡◌, ◌≢◌, ℕ, zero, suc, ◌+◌, ◌-◌, ◌<◌, ◌≤◌, List, [], ◌∷◌, ◌++◌, Bool, true, false, cond, refl, sym, ap, ◌∙◌, subst, Option, Some, None, inl, inr, ◌⊎◌, ⊎_elim, arith, length}
+use Rattle.std.proofs.Common.{◌≡◌, ◌≢◌, ℕ, ◌<◌, Bool, true, false, refl, sym, ap, ◌∙◌, subst, Option, Some, None, inl, arith}
 use Rattle.std.specs.Result.{is_err}
-use Rattle.std.specs.Prelude.{Result, Ok, Err, OnOk, ◌==◌, ◌&&◌, not, nat_lt, nat_le, replicate, is_some, IsSome, fold, filter, if◌then◌else◌}
-use Rattle.std.specs.List.{list_any, AllByRecursion}
-use Rattle.std.specs.Ordering.{nat_cmp}
-use Rattle.std.specs.BTreeMap.{is_at}
-use Rattle.std.proofs.lemmas.List.{length-replicate}
-use Rattle.plain_model.specs.declared.object.Object.{Object}
+use Rattle.std.specs.Prelude.{Result, Ok, Err, OnOk, is_some, IsSome}
 use Rattle.plain_model.specs.declared.calls.Call.{Call as TransactionCall}
 use Rattle.plain_model.specs.declared.calls.Call.TheVariants.{Abort}
 use Rattle.plain_model.specs.declared.calls.Reply.{Reply}
 use Rattle.plain_model.specs.declared.calls.Reply.TheVariants.{Done, NoTxn}
-use Rattle.plain_model.specs.declared.calls.Entry.{Entry}
 use Rattle.plain_model.specs.declared.calls.Entry.TheVariants.{Call, Undo}
-use Rattle.plain_model.specs.Graphs.{root, blank, has_object, object_at}
 use Rattle.plain_model.specs.ActiveTransaction.{ActiveTransaction}
-use Rattle.plain_model.specs.Machine.{State, opening_state, step, transaction_of, is_stored}
-use Rattle.plain_model.specs.History.{Moment, History, IsLegal, IsAllowed, IsId, with_entry, end_of, next, is_stopped, left_to_undo, undoable}
-use Rattle.plain_model.proofs.StepLaws.{is_stopped-call, step-plain, is_plain, end_of-ids, end_of-slots}
+use Rattle.plain_model.specs.Machine.{State, step, transaction_of}
+use Rattle.plain_model.specs.History.{Moment, History, IsId, with_entry, end_of, is_stopped, left_to_undo}
+use Rattle.plain_model.proofs.StepLaws.{is_stopped-call, step-plain, is_plain, end_of-ids}
 use Rattle.plain_model.proofs.StepLemmas.{step-out}
 use Rattle.plain_model.proofs.HistoryLemmas.{IsLegal-with_entry, end_of-with_entry}
-use Rattle.plain_laws.specs.Sound.{IsSoundGraph, IsSoundState, Ascend}
-use Rattle.plain_laws.proofs.Ids.{at_eq, true_or_false}
-use Rattle.plain_laws.proofs.Legal.{legal-sound_proof, sound-root_proof}
+use Rattle.plain_laws.proofs.Legal.{legal-sound_proof}
 use Rattle.plain_laws.proofs.Bounds.{legal-ids_proof}
-use Rattle.core_store.specs.Fresh.{fresh_history}
-use Rattle.core_store.specs.FreeIds.{AreFrom2, taken}
-use Rattle.core_store.specs.Steps.{IsFreshOf}
 use Rattle.core_store.specs.Tables.{TablesView}
 use Rattle.core_store.specs.Transactions.{Running, running_at}
-use Rattle.core_store.specs.Versions.{blank_version, version_at, object_of}
-use Rattle.core_store.specs.Stands.{Matches, is_free, Stands, IsProper, Answers, Performs, UndoesOne, EndsAbort}
+use Rattle.core_store.specs.Stands.{Matches, Stands, IsProper, Performs, UndoesOne, EndsAbort}
 use Rattle.core_store.specs.Journal.{Keeps}
 
 pub proper-end : (h : History) (v : TablesView) → Keeps h v → IsProper (end_of h).state

@@ -1,35 +1,34 @@
 -- A transaction makes an object.
-use Rattle.std.proofs.Common.{◌≡◌, ◌≢◌, ℕ, ◌+◌, ◌<◌, ◌≤◌, List, [], ◌∷◌, ◌++◌, Bool, true, false, cond, refl, sym, ap, ◌∙◌, subst, Option, Some, None, inl, inr, ◌⊎◌, ⊎_elim, arith}
-use Rattle.std.specs.Prelude.{◌==◌, ◌||◌, ◌&&◌, not, nat_lt, nat_le, count_by, slice_set, replicate}
+use Rattle.std.proofs.Common.{◌≡◌, ℕ, ◌<◌, ◌≤◌, List, [], ◌∷◌, Bool, true, false, cond, refl, sym, ap, ◌∙◌, Option, Some, None, inl, inr, ◌⊎◌, arith}
+use Rattle.std.specs.Prelude.{◌==◌, ◌||◌, ◌&&◌, not, nat_lt, nat_le, slice_set}
 use Rattle.std.specs.List.{list_any}
 use Rattle.std.specs.Ordering.{nat_cmp}
 use Rattle.std.specs.BTreeMap.{is_at}
 use Rattle.std.proofs.lemmas.Bool.Decides.{nat_tests}
 use Rattle.std.proofs.lemmas.List.Sums.{sum_by_push}
-use Rattle.plain_model.specs.declared.object.Object.{Object}
 use Rattle.plain_model.specs.declared.write.Place.TheVariants.{Whole}
 use Rattle.plain_model.specs.declared.write.Write.{Write}
 use Rattle.plain_model.specs.declared.calls.Call.TheVariants.{Make}
 use Rattle.plain_model.specs.declared.calls.Reply.{Reply}
-use Rattle.plain_model.specs.declared.calls.Reply.TheVariants.{Id, Busy, Full}
-use Rattle.plain_model.specs.Graphs.{object_at, blank, after_write as graph_after_write}
+use Rattle.plain_model.specs.declared.calls.Reply.TheVariants.{Id, Full}
+use Rattle.plain_model.specs.Graphs.{object_at, blank}
 use Rattle.plain_model.specs.ActiveTransaction.{ActiveTransaction}
-use Rattle.plain_model.specs.Machine.{State, transaction_of, with_transaction, with_register, with_owned, with_write, own_graph, made, free_id, is_stored}
+use Rattle.plain_model.specs.Machine.{State, transaction_of, with_register, with_owned, with_write, own_graph, made, free_id, is_stored}
 use Rattle.plain_model.specs.History.{can_be_undone, IsId, holds}
 use Rattle.plain_model.proofs.StepLemmas.{step-make, step-make_full}
 use Rattle.plain_laws.proofs.Ids.{test_same, true_or_false, at_eq}
 use Rattle.plain_laws.proofs.Locks.{transaction_of-with_same, transaction_of-with_other, free-found, free-full, stored-insert}
-use Rattle.plain_laws.proofs.Lookups.{place_at, object_at-after_writes}
-use Rattle.strict_locks.specs.Locks.{Table, holders_of, StandsInWayOfOwn, Nobody, IsLeast, AddsOwner}
-use Rattle.core_store.specs.Versions.{blank_contents, version_at, object_of, rewritten}
-use Rattle.core_store.specs.Transactions.{Running, running_at, loaded}
+use Rattle.plain_laws.proofs.Lookups.{object_at-after_writes}
+use Rattle.strict_locks.specs.Locks.{Table, holders_of, StandsInWayOfOwn, IsLeast, AddsOwner}
+use Rattle.core_store.specs.Versions.{blank_contents, rewritten}
+use Rattle.core_store.specs.Transactions.{running_at, loaded}
 use Rattle.core_store.specs.FreeIds.{IsLeastOf}
 use Rattle.core_store.specs.Refusals.{if_not_running}
 use Rattle.core_store.specs.Tables.{TablesView, changed_at}
-use Rattle.core_store.specs.Stands.{IsRunning, is_free, Stands, IsProper, Performs}
+use Rattle.core_store.specs.Stands.{is_free, Stands, IsProper, Performs}
 use Rattle.core_store.proofs.SeenLaws.{contradict}
 use Rattle.core_store.proofs.MapLaws.{puts-changed}
-use Rattle.core_store.proofs.AnswerLaws.{answers-from, not_true, alone-owned, found_holder, held_found}
+use Rattle.core_store.proofs.AnswerLaws.{answers-from, not_true, found_holder, held_found}
 use Rattle.core_store.proofs.WriteLaws.{Stands-write}
 use Rattle.core_store.proofs.CommitLaws.{running-alive, alive-of}
 

@@ -1,7 +1,7 @@
 -- The transactions after a change of one of them.
-use Rattle.std.proofs.Common.{◌≡◌, ◌≢◌, ℕ, ◌+◌, ◌-◌, ◌<◌, ◌≤◌, List, [], ◌∷◌, Bool, true, false, cond, refl, sym, ap, ◌∙◌, subst, Option, Some, None, arith, ⊎_elim}
-use Rattle.std.specs.Prelude.{◌==◌, sum_by, unwrap_or, option_map, is_some, IsSome}
-use Rattle.std.specs.Map.{lookup, set_value, remove_entry, values_of, keys_of}
+use Rattle.std.proofs.Common.{◌≡◌, ◌≢◌, ℕ, ◌+◌, ◌<◌, ◌≤◌, List, [], ◌∷◌, true, false, cond, refl, sym, ap, ◌∙◌, Option, Some, None, arith, ⊎_elim}
+use Rattle.std.specs.Prelude.{unwrap_or, option_map, IsSome}
+use Rattle.std.specs.Map.{set_value, remove_entry, keys_of}
 use Rattle.std.specs.List.Sorted.{IsStrictlySortedBy}
 use Rattle.std.proofs.lemmas.Cmp.{nat_cmp_total}
 use Rattle.std.specs.Ordering.{nat_cmp}

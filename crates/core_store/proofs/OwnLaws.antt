@@ -1,20 +1,16 @@
 -- The calls that own an object and write it.
-use Rattle.std.proofs.Common.{◌≡◌, ◌≢◌, ℕ, ◌+◌, ◌<◌, ◌≤◌, List, [], ◌∷◌, ◌++◌, Bool, true, false, cond, refl, sym, ap, ◌∙◌, subst, Option, Some, None, arith, Result, Ok, Err, ⊎_elim}
-use Rattle.std.specs.Prelude.{◌==◌, ◌||◌, ◌&&◌, not, nat_lt, nat_le, option_map, count_by, slice_set, unwrap_or, if◌then◌else◌, replicate, MatchResult, slice_get, All, slice_index_or}
+use Rattle.std.proofs.Common.{◌≡◌, ℕ, ◌+◌, ◌≤◌, List, [], ◌∷◌, ◌++◌, Bool, true, cond, refl, sym, ap, ◌∙◌, subst, Option, Some, None, arith, Result, Ok, Err}
+use Rattle.std.specs.Prelude.{count_by, unwrap_or, MatchResult, slice_index_or}
 use Rattle.std.specs.Option.{option_map_or}
-use Rattle.std.specs.List.{list_any}
-use Rattle.std.specs.Ordering.{nat_cmp}
-use Rattle.std.specs.BTreeMap.{is_at}
 use Rattle.std.proofs.lemmas.List.Sums.{sum_by_push}
 use Rattle.plain_model.specs.declared.object.Object.{Object}
 use Rattle.plain_model.specs.declared.write.Place.{Place}
 use Rattle.plain_model.specs.declared.write.Place.TheVariants.{Slot, Payload, Whole}
 use Rattle.plain_model.specs.declared.write.Write.{Write}
-use Rattle.plain_model.specs.declared.calls.Call.{Call as TransactionCall}
-use Rattle.plain_model.specs.declared.calls.Call.TheVariants.{Store, SetPay, Make}
+use Rattle.plain_model.specs.declared.calls.Call.TheVariants.{Store, SetPay}
 use Rattle.plain_model.specs.declared.calls.Reply.{Reply}
-use Rattle.plain_model.specs.declared.calls.Reply.TheVariants.{Done, Id, Busy, EmptyRegister}
-use Rattle.plain_model.specs.Graphs.{object_at, set_place, blank, after_write as graph_after_write}
+use Rattle.plain_model.specs.declared.calls.Reply.TheVariants.{Done, Busy, EmptyRegister}
+use Rattle.plain_model.specs.Graphs.{object_at, set_place, after_write as graph_after_write}
 use Rattle.plain_model.specs.ActiveTransaction.{ActiveTransaction}
 use Rattle.plain_model.specs.Machine.{State, transaction_of, with_transaction, with_owned, with_write, own_graph, if_busy, if_empty, or_else, blocks_owning, register, register_id, step}
 use Rattle.plain_model.specs.History.{can_be_undone, IsId}
@@ -25,14 +21,14 @@ use Rattle.plain_laws.proofs.Lookups.{place_at, object_at-after_writes}
 use Rattle.strict_locks.specs.Locks.{Table, holders_of, StandsInWayOfOwn, Nobody, IsLeast, AddsOwner}
 use Rattle.core_store.specs.declared.contents.Contents.{Contents}
 use Rattle.core_store.specs.Versions.{version_at, current, object_of, with_slot, with_payload}
-use Rattle.core_store.specs.Transactions.{Running, running_at, owing, held_in}
+use Rattle.core_store.specs.Transactions.{Running, running_at, owing}
 use Rattle.core_store.specs.Refusals.{subject_refusal, HasSubject, HasSource, source_of, if_no_register}
-use Rattle.core_store.specs.Tables.{TablesView, changed_at}
+use Rattle.core_store.specs.Tables.{TablesView}
 use Rattle.core_store.specs.Steps.{after_write}
 use Rattle.core_store.specs.Stands.{IsRunning, Stands, IsProper, Performs}
 use Rattle.core_store.proofs.SeenLaws.{seen-version, owner-holds, contradict}
-use Rattle.core_store.proofs.MapLaws.{PutsAt, puts-changed}
-use Rattle.core_store.proofs.AnswerLaws.{answers-from, not_true, step-subject, machine-subject, IsHeldByNone, alone-owned, unblocked-owned, blocked-owned}
+use Rattle.core_store.proofs.MapLaws.{puts-changed}
+use Rattle.core_store.proofs.AnswerLaws.{answers-from, not_true, step-subject, machine-subject, alone-owned, unblocked-owned, blocked-owned}
 use Rattle.core_store.proofs.WriteLaws.{Stands-write}
 
 -- ---- refusals

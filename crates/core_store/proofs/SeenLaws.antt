@@ -4,7 +4,7 @@ use Rattle.std.specs.Prelude.{◌==◌, ◌||◌}
 use Rattle.std.specs.List.{list_any, AllByRecursion}
 use Rattle.plain_model.specs.declared.object.Object.{Object}
 use Rattle.plain_model.specs.declared.write.Write.{Write}
-use Rattle.plain_model.specs.Graphs.{object_at, has_object, applied}
+use Rattle.plain_model.specs.Graphs.{object_at, has_object}
 use Rattle.plain_model.specs.ActiveTransaction.{ActiveTransaction}
 use Rattle.plain_model.specs.Machine.{State, transaction_of, own_graph, is_among}
 use Rattle.plain_model.specs.History.{holds}
@@ -14,11 +14,10 @@ use Rattle.plain_laws.proofs.Ids.{true_or_false, or_left}
 use Rattle.plain_laws.proofs.Known.{object_found}
 use Rattle.plain_laws.proofs.Lookups.{object_at-after_writes, writes_at-other}
 use Rattle.core_store.specs.declared.contents.Contents.{Contents}
-use Rattle.core_store.specs.declared.contents.Version.{Version}
 use Rattle.core_store.specs.Versions.{version_at, current, object_of}
 use Rattle.core_store.specs.Transactions.{Running, running_at}
 use Rattle.core_store.specs.Tables.{TablesView}
-use Rattle.core_store.specs.Stands.{IsRunning, Matches, writes_to, IsWrittenBy, HasWriter, Stands}
+use Rattle.core_store.specs.Stands.{IsRunning, Matches, writes_to, HasWriter, Stands}
 
 pub contradict : {X : Type 0} (b : Bool) → b ≡ true → b ≡ false → X
 contradict b t f = absurd (cc)

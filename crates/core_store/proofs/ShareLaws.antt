@@ -1,29 +1,27 @@
 -- A transaction shares an object and reads it.
 use Rattle.std.proofs.Common.{◌≡◌, ◌≢◌, ℕ, List, Bool, true, false, refl, sym, ap, ◌∙◌, subst, Option, Some, None, inl, inr, ⊎_elim}
-use Rattle.std.specs.Prelude.{◌==◌, ◌||◌, if◌then◌else◌, slice_index, slice_set, is_some}
+use Rattle.std.specs.Prelude.{◌==◌, ◌||◌, slice_index, slice_set}
 use Rattle.std.specs.Option.{option_map_or}
 use Rattle.plain_model.specs.declared.object.Object.{Object}
-use Rattle.plain_model.specs.declared.calls.Call.{Call as TransactionCall}
 use Rattle.plain_model.specs.declared.calls.Call.TheVariants.{Read, GetPay}
 use Rattle.plain_model.specs.declared.calls.Reply.{Reply}
 use Rattle.plain_model.specs.declared.calls.Reply.TheVariants.{Id, Pay, Busy}
 use Rattle.plain_model.specs.Graphs.{object_at, has_object}
 use Rattle.plain_model.specs.ActiveTransaction.{ActiveTransaction}
-use Rattle.plain_model.specs.Machine.{State, transaction_of, with_transaction, with_register, with_shared, with_id, nonzero, seen_slot, seen_payload, is_among, own_graph, if_busy, blocks_sharing, register_id, step}
+use Rattle.plain_model.specs.Machine.{State, transaction_of, with_transaction, with_register, with_shared, with_id, nonzero, seen_slot, seen_payload, is_among, if_busy, blocks_sharing, register_id, step}
 use Rattle.plain_model.proofs.StepLemmas.{step-read, step-read_busy, step-get, step-get_busy}
-use Rattle.plain_laws.specs.Sound.{IsSoundState}
 use Rattle.plain_laws.proofs.Entries.{same_or_apart, some_same}
 use Rattle.plain_laws.proofs.Ids.{among-added_same, among-added_more, among-added_cases}
 use Rattle.plain_laws.proofs.Legal.{registers-stored_proof}
 use Rattle.plain_laws.proofs.Locks.{transaction_of-with_same, transaction_of-with_other}
-use Rattle.strict_locks.specs.Locks.{Table, holders_of, is_owner, is_sharer, StandsInWayOfShare, Nobody, IsLeast, AddsShare}
-use Rattle.core_store.specs.Versions.{version_at, current, object_of}
+use Rattle.strict_locks.specs.Locks.{Table, holders_of, is_sharer, StandsInWayOfShare, Nobody, IsLeast, AddsShare}
+use Rattle.core_store.specs.Versions.{version_at, current}
 use Rattle.core_store.specs.Transactions.{Running, running_at, loaded}
 use Rattle.core_store.specs.Refusals.{subject_refusal, HasSubject}
 use Rattle.core_store.specs.Tables.{TablesView, changed_at}
-use Rattle.core_store.specs.Stands.{IsRunning, owns_in, shares_in, writes_to, IsWrittenBy, Stands, IsProper, Performs}
+use Rattle.core_store.specs.Stands.{IsRunning, owns_in, shares_in, Stands, IsProper, Performs}
 use Rattle.core_store.proofs.SeenLaws.{seen-version}
-use Rattle.core_store.proofs.ChangeLaws.{Changes, Stands-change, own-other}
+use Rattle.core_store.proofs.ChangeLaws.{Stands-change}
 use Rattle.core_store.proofs.MapLaws.{PutsAt, puts-changed}
 use Rattle.core_store.proofs.AnswerLaws.{answers-from, same_bool, step-subject, machine-subject, alone-shared, unblocked-shared, blocked-shared}
 

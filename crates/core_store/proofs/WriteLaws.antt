@@ -1,6 +1,6 @@
 -- A transaction owns an object and writes it.
-use Rattle.std.proofs.Common.{◌≡◌, ◌≢◌, ℕ, ◌+◌, ◌<◌, ◌≤◌, List, [], ◌∷◌, ◌++◌, Bool, true, false, refl, sym, ap, ap₂, ◌∙◌, subst, Option, Some, None, inl, inr, ⊎_elim, arith, length, length-set, get_or-set_same, get_or-set_other, ne_eqb, ◌⊎◌}
-use Rattle.std.specs.Prelude.{◌==◌, ◌||◌, slice_set, option_map}
+use Rattle.std.proofs.Common.{◌≡◌, ◌≢◌, ℕ, ◌<◌, ◌≤◌, List, [], ◌∷◌, ◌++◌, true, false, refl, sym, ap, ap₂, ◌∙◌, subst, Option, Some, None, inl, inr, ⊎_elim, arith, length, length-set, get_or-set_same, get_or-set_other, ne_eqb}
+use Rattle.std.specs.Prelude.{◌==◌}
 use Rattle.std.specs.List.{list_any}
 use Rattle.std.specs.Ordering.{nat_cmp}
 use Rattle.std.specs.BTreeMap.{is_at}
@@ -11,19 +11,18 @@ use Rattle.plain_model.specs.Graphs.{object_at, applied, after_write as graph_af
 use Rattle.plain_model.specs.ActiveTransaction.{ActiveTransaction}
 use Rattle.plain_model.specs.Machine.{State, transaction_of, with_id, is_among, own_graph}
 use Rattle.plain_model.specs.History.{holds}
-use Rattle.plain_laws.specs.Sound.{IsSoundState}
 use Rattle.plain_laws.proofs.Entries.{same_or_apart, some_same}
-use Rattle.plain_laws.proofs.Ids.{any-push_more, any-push_here, any-push_cases, test_same, or_left}
+use Rattle.plain_laws.proofs.Ids.{any-push_more, any-push_here, any-push_cases, test_same}
 use Rattle.plain_laws.proofs.Lookups.{object_at-after_writes, writes_at-other}
-use Rattle.strict_locks.specs.Locks.{Table, holders_of, is_owner, is_sharer, AddsOwner}
+use Rattle.strict_locks.specs.Locks.{holders_of, is_owner, AddsOwner}
 use Rattle.core_store.specs.declared.contents.Contents.{Contents}
 use Rattle.core_store.specs.declared.contents.Version.{Version}
-use Rattle.core_store.specs.Versions.{blank_version, version_at, current, object_of, rewritten}
-use Rattle.core_store.specs.Transactions.{Running, running_at}
+use Rattle.core_store.specs.Versions.{blank_version, version_at, object_of, rewritten}
+use Rattle.core_store.specs.Transactions.{Running}
 use Rattle.core_store.specs.Tables.{TablesView}
 use Rattle.core_store.specs.Stands.{IsRunning, owns_in, shares_in, writes_to, is_free, IsWrittenBy, Stands, IsProper}
 use Rattle.core_store.proofs.SeenLaws.{writer-owns, owner-holds, contradict}
-use Rattle.core_store.proofs.ChangeLaws.{Changes, Stands-change}
+use Rattle.core_store.proofs.ChangeLaws.{Stands-change}
 use Rattle.core_store.proofs.MapLaws.{PutsAt}
 use Rattle.core_store.proofs.AnswerLaws.{not_true, IsHeldByNone}
 use Rattle.core_store.proofs.ShareLaws.{among-here, among-apart}

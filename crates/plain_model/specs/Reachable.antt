@@ -9,7 +9,7 @@ pub data Reachable (g : List Object) («from» : List ℕ) : ℕ → Type 0 wher
   start : (x : ℕ) (o : Object) → Contains «from» x → object_at g x ≡ Some o → Reachable g «from» x
   step : (x y : ℕ) (o p : Object) → Reachable g «from» x → object_at g x ≡ Some o → Contains o.slots y → y ≢ 0 → object_at g y ≡ Some p → Reachable g «from» y
 
--- a set has these two rules; no set that has them is smaller than what is reachable
+-- a set of ids has these two rules; what is reachable is the least such set
 pub record IsClosed (g : List Object) («from» : List ℕ) (P : ℕ → Type 0) : Type 0 where
   pub starts : (x : ℕ) (o : Object) → Contains «from» x → object_at g x ≡ Some o → P x
   pub steps : (x y : ℕ) (o p : Object) → P x → object_at g x ≡ Some o → Contains o.slots y → y ≢ 0 → object_at g y ≡ Some p → P y

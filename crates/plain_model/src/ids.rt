@@ -1,12 +1,13 @@
 //! Lists of ids.
 ghost use Rattle.std.specs.Prelude.{◌≡◌, IfOk};
+ghost use Rattle.plain_model.specs.Machine.{least_free};
 
 use crate::memory::Memory;
 use std::alloc::Global;
 use std::collections::BTreeSet;
 use std::marker::Model;
 
-/// A list of ids, ascending.
+/// A list of ids.
 #[derive(Debug, Drop)]
 pub struct Ids {
     items: Vec<u32>,
@@ -45,4 +46,17 @@ impl From<Vec<u32>> for Ids {
     fn from(items: Vec<u32>) -> Ids {
         Ids { items }
     }
+}
+
+/// The least of the ids from 1 to `ids` that isn't stored.
+pub(crate) fn free_id(stored: &BTreeSet<u32>, ids: u32) -> Option<u32>
+    ensures { result ≡ least_free stored.now.keys 1 ids }
+{
+    for i in 0..ids {
+        let id = i + 1;
+        if !stored.contains(&id) {
+            return Some(id);
+        }
+    }
+    None
 }

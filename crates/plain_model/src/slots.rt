@@ -1,5 +1,5 @@
 //! The slots of an object.
-ghost use Rattle.std.specs.Prelude.{◌≡◌, ℕ, List, [], ◌∷◌, ◌++◌, OnOk, OnErr, IfOk, replicate, slice_set, slice_index};
+ghost use Rattle.std.specs.Prelude.{◌≡◌, [], ◌∷◌, ◌++◌, OnOk, OnErr, IfOk, replicate, slice_set, slice_index};
 
 use crate::memory::Memory;
 use std::alloc::Global;

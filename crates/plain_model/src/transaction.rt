@@ -1,5 +1,5 @@
 //! Active transactions.
-ghost use Rattle.std.specs.Prelude.{◌≡◌, ℕ, ◌<◌, IfOk, IfErr, IfSome, Some, None, ◌||◌, true};
+ghost use Rattle.std.specs.Prelude.{◌≡◌, ◌<◌, IfOk, IfErr, IfSome, Some, None, ◌||◌, true};
 ghost use Rattle.std.specs.Option.{option_map_or};
 ghost use Rattle.plain_model.specs.Graphs.{applied, FitsPlace};
 ghost use Rattle.plain_model.specs.Machine.{new_transaction, register, register_id, with_id, with_owned, with_register, with_write, is_among, if_empty, with_shared, nonzero};

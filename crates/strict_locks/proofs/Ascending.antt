@@ -8,6 +8,7 @@ use Rattle.std.proofs.lemmas.Bool.Decides.{nat_tests}
 use Rattle.std.proofs.lemmas.Map.Keys.{sorted_head, sorted_tail}
 use Rattle.strict_locks.specs.Locks.{IsLeast}
 
+-- whether the client is among them
 abbrev pub has : List ℕ → ℕ → Bool
 has clients p = list_any (is_at (nat_cmp p)) clients
 

@@ -1,12 +1,12 @@
 -- Laws on the holders of one object.
-use Rattle.std.proofs.Common.{◌≡◌, ◌≢◌, ℕ, unwrap_or, IfSome, Option, subst, true, cond, Some, sym, ◌∙◌, ap, arith}
+use Rattle.std.proofs.Common.{◌≡◌, ◌≢◌, ℕ, true, false, not, ◌&&◌, ◌==◌, cond, Option, None, Some, is_none, unwrap_or, IfSome, sym, ◌∙◌, ap, subst, arith}
 use Rattle.std.specs.Ordering.{nat_cmp}
 use Rattle.std.specs.BTreeMap.{is_at}
-use Rattle.std.proofs.lemmas.Bool.Decides.{nat_tests}
 use Rattle.std.specs.Map.{lookup, set_value}
-use Rattle.std.proofs.lemmas.Map.Steps.{set_value_same}
 use Rattle.std.proofs.lemmas.Bool.{cond_both}
-use Rattle.strict_locks.specs.Locks.{Holders, Table, holders_of, no_holders, is_sharer, Holds, IsExclusive, StandsInWayOfShare, StandsInWayOfOwn, Nobody, IsLeast, AreHeld}
+use Rattle.std.proofs.lemmas.Bool.Decides.{nat_tests}
+use Rattle.std.proofs.lemmas.Map.Steps.{set_value_same}
+use Rattle.strict_locks.specs.Locks.{Holders, Table, holders_of, no_holders, is_owner, is_sharer, Holds, IsExclusive, StandsInWayOfShare, StandsInWayOfOwn, Nobody, IsLeast, IsLeastOrNone, AreHeld}
 
 -- the object stays exclusive when a client owns it that nobody stands in the way of
 pub exclusive-own : (h : Holders) (pass : ℕ) → Nobody (StandsInWayOfOwn h pass) → IsExclusive (record h { owner = Some pass })
@@ -37,3 +37,8 @@ pub AreHeld-put : (old new : Table) (id : ℕ) (h : Holders) (p : ℕ) → Holds
 AreHeld-put old new id h p holds puts held x =
     let P : Option Holders → Type 0 = λ o. IfSome o (λ g. (q : ℕ) × Holds g q) in
     subst P (sym (puts x)) (cond_both (is_at (nat_cmp id) x) (Some h) (lookup (is_at (nat_cmp x)) old) P (λ _. (p, holds)) (λ _. held x))
+
+-- where another client holds the object, it still does so when this one has given its lock back
+pub another-left : (old new : Holders) (pass : ℕ) (found : Option ℕ) → IsLeastOrNone (StandsInWayOfOwn old pass) found → is_none found ≡ false → ((p : ℕ) → is_owner new p ≡ (not (p == pass) && is_owner old p)) → ((p : ℕ) → is_sharer new p ≡ (not (p == pass) && is_sharer old p)) → (p : ℕ) × Holds new p
+another-left old new pass None least some owners sharers = cc
+another-left old new pass (Some p) least some owners sharers = let o = owners p in let s = sharers p in (p, grind (arith, nat_tests))

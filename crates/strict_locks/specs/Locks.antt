@@ -99,6 +99,8 @@ pub record GivesBack (old new : Table) (pass id : ℕ) : Type 0 where
   pub sharers : (p : ℕ) → is_sharer (holders_of new id) p ≡ (not (p == pass) && is_sharer (holders_of old id) p)
   pub others : (x : ℕ) → x ≢ id → holders_of new x ≡ holders_of old x
 
+-- ---- what the table keeps
+
 -- no object without a holder has an entry
 abbrev pub AreHeld : Table → Type 0
 AreHeld table = (id : ℕ) → IfSome (lookup (is_at (nat_cmp id)) table) (λ h. (p : ℕ) × Holds h p)

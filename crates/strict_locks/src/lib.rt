@@ -1,7 +1,7 @@
 //! Strict two-phase locking: the table of the locks that clients hold until their transactions end.
 //!
 //! `LockTable` grants shared and exclusive locks on objects, or answers at once which client stands
-//! in the way. The way from a client to what it holds is a list a client, so that the end of a
+//! in the way. Each client has a list of the objects that it holds, so that the end of its
 //! transaction goes over its own locks alone.
 #![tactic(auto)]
 

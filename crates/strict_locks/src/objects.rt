@@ -1,5 +1,5 @@
 //! The lock of each object.
-ghost use Rattle.std.specs.Prelude.{◌≡◌, ◌≢◌, ℕ, OnOk, OnErr, IsSome, IfSome, true};
+ghost use Rattle.std.specs.Prelude.{◌≡◌, OnOk, OnErr};
 ghost use Rattle.strict_locks.specs.Locks.{holders_of, is_holder, Holds, IsExclusive, StandsInWayOfShare, StandsInWayOfOwn, Nobody, IsLeastOrNone, AddsShare, AddsOwner, GivesBack, DropsAll, AreHeld};
 ghost use Rattle.strict_locks.specs.Clients.{NamesHeld};
 
@@ -100,7 +100,7 @@ fn give_back(locks: &mut BTreeMap<u32, ObjectLock>, pass: u8, id: u32)
     }
 }
 
-/// Gives all of the client's locks back, of which the list names each.
+/// Gives all of the client's locks back. The list names each object that the client holds.
 pub(crate) fn give_back_all(locks: &mut BTreeMap<u32, ObjectLock>, pass: u8, ids: &[u32])
     requires { NamesHeld locks.old.entries pass ids.now }
     ensures drops { DropsAll locks.old.entries locks.new.entries pass }

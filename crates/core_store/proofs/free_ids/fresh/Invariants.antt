@@ -1,5 +1,3 @@
-use Rattle.std.proofs.Common.{◌≡◌, ℕ}
-use Rattle.std.specs.Prelude.{◌&&◌, nat_lt, nat_le}
 use Rattle.core_store.specs.FreeIds.{AreFrom2}
 use Rattle.core_store.proofs.free_ids.fresh.Given as goal
 

@@ -1,9 +1,9 @@
-use Rattle.std.proofs.Common.{◌≡◌, ℕ, ◌+◌, ◌<◌, ◌≤◌, refl, sym, ap, ◌∙◌, subst, arith}
+use Rattle.std.proofs.Common.{◌≡◌, ◌<◌, refl, subst, arith}
 use Rattle.plain_model.specs.History.{end_of, left_to_undo}
 use Rattle.core_store.specs.JournalView.{JournalView}
 use Rattle.core_store.specs.Journal.{history_of}
 use Rattle.core_store.specs.Views.{view_of}
-use Rattle.core_store.proofs.JournalLaws.{active-running, Keeps-undo, Keeps-abort, undone-left, ended-left}
+use Rattle.core_store.proofs.JournalLaws.{Keeps-undo, Keeps-abort, undone-left, ended-left}
 use Rattle.core_store.proofs.journal.Journal.abort_step.Goals as goal
 
 pub invariant_of-self : goal.invariant_of-self

@@ -1,5 +1,4 @@
-use Rattle.std.proofs.Common.{◌≡◌, ap, subst}
-use Rattle.plain_model.specs.History.{History}
+use Rattle.std.proofs.Common.{subst}
 use Rattle.plain_laws.specs.Serializable.{IsSerializable}
 use Rattle.plain_laws.proofs.Serializable.{IsSerializable-legal}
 use Rattle.core_store.specs.JournalView.{JournalView}

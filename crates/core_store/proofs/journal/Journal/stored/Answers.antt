@@ -1,4 +1,4 @@
-use Rattle.std.proofs.Common.{◌≡◌, ◌∙◌, ap, List, ℕ}
+use Rattle.std.proofs.Common.{◌∙◌, ap}
 use Rattle.plain_model.specs.History.{end_of}
 use Rattle.core_store.specs.JournalView.{JournalView}
 use Rattle.core_store.specs.Journal.{history_of}

@@ -1,4 +1,4 @@
-use Rattle.std.proofs.Common.{◌≡◌, ℕ, ◌+◌, ◌<◌, ◌-◌, ◌∙◌, sym, ap, arith, Option}
+use Rattle.std.proofs.Common.{◌≡◌, ◌<◌, ◌∙◌, ap, arith, Option}
 use Rattle.std.specs.Option.{option_map_or}
 use Rattle.core_store.specs.Transactions.{Running}
 use Rattle.core_store.specs.Views.{view_of}

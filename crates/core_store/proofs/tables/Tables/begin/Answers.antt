@@ -1,6 +1,6 @@
-use Rattle.std.proofs.Common.{◌≡◌, ◌∙◌, sym, ap, subst, arith, true, ℕ}
+use Rattle.std.proofs.Common.{◌≡◌, ◌∙◌, sym, ap, subst, arith}
 use Rattle.core_store.specs.Tables.{owed_by}
-use Rattle.core_store.specs.Transactions.{Running, just_begun}
+use Rattle.core_store.specs.Transactions.{Running}
 use Rattle.core_store.proofs.MapLaws.{PutsAt, puts-updates, owed-inserted}
 use Rattle.core_store.proofs.BeginLaws.{performs-begin_twice, performs-begin, absent}
 use Rattle.core_store.proofs.tables.Tables.begin.Goals as goal

@@ -1,7 +1,3 @@
-use Rattle.std.proofs.Common.{◌≡◌, ap, sym, subst}
-use Rattle.plain_model.specs.declared.calls.Call.{Call}
-use Rattle.plain_model.specs.declared.calls.Call.TheVariants.{Commit, Abort}
-use Rattle.core_store.specs.Stands.{Performs}
 use Rattle.core_store.specs.Views.{view_of}
 use Rattle.core_store.proofs.CommitLaws.{performs-abort_out}
 use Rattle.core_store.proofs.tables.Tables.call.Goals as goal

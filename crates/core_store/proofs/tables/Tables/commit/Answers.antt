@@ -1,4 +1,4 @@
-use Rattle.std.proofs.Common.{◌≡◌, ◌∙◌, sym}
+use Rattle.std.proofs.Common.{◌∙◌, sym}
 use Rattle.core_store.specs.Views.{view_of}
 use Rattle.core_store.proofs.MapLaws.{none_from}
 use Rattle.core_store.proofs.CommitLaws.{performs-commit, performs-commit_refused}

@@ -1,4 +1,4 @@
-use Rattle.std.proofs.Common.{◌≡◌, ℕ, ◌+◌, ◌-◌, ◌≤◌, Some, sym, ap, ◌∙◌, arith, refl}
+use Rattle.std.proofs.Common.{sym, ap, arith, refl}
 use Rattle.core_store.specs.Tables.{owed_by}
 use Rattle.core_store.specs.Transactions.{Running}
 use Rattle.core_store.proofs.MapLaws.{owed-removed, owed-least, takes-updates, same_running}

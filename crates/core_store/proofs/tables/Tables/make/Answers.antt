@@ -1,5 +1,4 @@
-use Rattle.std.proofs.Common.{◌≡◌, ℕ, List, Option, Some, Ok, ap, ◌∙◌, sym}
-use Rattle.core_store.specs.Transactions.{Running, loaded}
+use Rattle.std.proofs.Common.{Some, Ok, ap, ◌∙◌, sym}
 use Rattle.core_store.specs.declared.contents.Contents.{Contents}
 use Rattle.core_store.specs.Versions.{rewritten}
 use Rattle.core_store.specs.Views.{view_of}

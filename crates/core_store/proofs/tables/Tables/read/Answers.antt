@@ -1,8 +1,8 @@
-use Rattle.std.proofs.Common.{◌≡◌, ℕ, List, Option, Some, None, Ok, ap, sym, ◌∙◌, arith}
+use Rattle.std.proofs.Common.{◌≡◌, ℕ, List, Option, Ok, ap, sym, ◌∙◌}
 use Rattle.std.specs.Prelude.{slice_index}
 use Rattle.core_store.specs.declared.contents.Contents.{Contents}
 use Rattle.core_store.specs.declared.contents.Version.{Version}
-use Rattle.core_store.specs.Transactions.{Running, loaded}
+use Rattle.core_store.specs.Transactions.{loaded}
 use Rattle.core_store.specs.Versions.{current, version_at}
 use Rattle.core_store.specs.Tables.{changed_at}
 use Rattle.core_store.specs.Views.{view_of}

@@ -1,4 +1,4 @@
-use Rattle.std.proofs.Common.{◌≡◌, ℕ, List, Ok, ap, ◌∙◌, sym, subst}
+use Rattle.std.proofs.Common.{◌≡◌, List, Ok, ap, ◌∙◌, sym, subst}
 use Rattle.core_store.specs.declared.contents.Contents.{Contents}
 use Rattle.core_store.specs.declared.contents.Version.{Version}
 use Rattle.core_store.specs.Versions.{current, version_at, with_payload}

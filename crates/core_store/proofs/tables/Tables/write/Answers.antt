@@ -1,4 +1,4 @@
-use Rattle.std.proofs.Common.{◌≡◌, ℕ, ◌+◌, ◌<◌, ◌^◌, Option, Some, sym, ap, ◌∙◌, subst, arith, IfSome}
+use Rattle.std.proofs.Common.{ℕ, ◌+◌, ◌<◌, ◌^◌, Option, sym, ap, ◌∙◌, subst, arith, IfSome}
 use Rattle.core_store.specs.Transactions.{Running}
 use Rattle.core_store.proofs.MapLaws.{running-some, owed-least, owed-owing}
 use Rattle.core_store.proofs.tables.Tables.write.Goals as goal
