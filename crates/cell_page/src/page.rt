@@ -1,0 +1,69 @@
+//! The page, which holds eight cells.
+
+ghost use Rattle.std.specs.Prelude.{◌≡◌, ◌+◌, ◌-◌, ◌*◌, ◌%◌, ◌≤◌, ℕ, slice_index_or, slice_set};
+ghost use Rattle.cell_page.specs.Format.{IsSlotCount, fresh_page, place_of, HasId};
+
+use crate::cell::Cell;
+use std::marker::Model;
+
+/// How many cells a page has.
+pub(crate) const CELLS: usize = 8;
+
+/// Eight cells, of ids one after another.
+#[derive(Clone, Copy, PartialEq, Eq, Debug)]
+pub struct Page<const SLOTS: usize> {
+    pub(crate) cells: [Cell<SLOTS>; 8],
+}
+
+/// Contracts see a page as the list of its eight cells.
+impl<const SLOTS: usize> Model for Page<SLOTS> {
+    ghost use Rattle.std.specs.Prelude.{◌≡◌, List, length};
+    ghost use Rattle.cell_page.specs.declared.cell.Cell.{Cell};
+
+    ghost Value = { List (Cell SLOTS) };
+
+    ghost view = { λ p. p.cells };
+
+    ghost invariant = { λ p. length p.cells ≡ 8 };
+
+    ghost inverse = { λ cells. record { cells = cells } };
+}
+
+impl<const SLOTS: usize> Page<SLOTS> {
+    /// The page of this number, from 0, in a new store: the root is live, with the one strong pointer of its own, and
+    /// all other cells are free.
+    pub fn fresh(page: u16) -> Page<SLOTS>
+        requires { IsSlotCount SLOTS }
+        ensures { result ≡ fresh_page SLOTS page }
+    {
+        let first = 8 * page as u32 + 1;
+        Page {
+            cells: [
+                Cell::fresh(first),
+                Cell::fresh(first + 1),
+                Cell::fresh(first + 2),
+                Cell::fresh(first + 3),
+                Cell::fresh(first + 4),
+                Cell::fresh(first + 5),
+                Cell::fresh(first + 6),
+                Cell::fresh(first + 7),
+            ],
+        }
+    }
+
+    /// The cell of an id of this page.
+    pub fn cell(&self, id: u32) -> &Cell<SLOTS>
+        requires { HasId self.now id }
+        ensures { result.now ≡ slice_index_or self.now (place_of id) result.now }
+    {
+        &self.cells[(id - 1) as usize % CELLS]
+    }
+
+    /// Puts a cell in the place of the one with the same id.
+    pub fn put_cell(&mut self, cell: Cell<SLOTS>)
+        requires { HasId self.old cell.id }
+        ensures { self.new ≡ slice_set self.old (place_of cell.entry.id) cell.entry }
+    {
+        self.cells[(cell.id - 1) as usize % CELLS] = cell;
+    }
+}
