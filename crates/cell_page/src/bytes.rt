@@ -2,35 +2,31 @@
 
 ghost use Rattle.std.specs.Prelude.{◌≡◌, ◌+◌, ◌-◌, ◌≤◌, ◌<◌, ◌++◌, ◌∷◌, [], length, take, replicate};
 ghost use Rattle.std.specs.Int.{w16, w32, w64, to_be_bytes};
-
-/// The byte at an offset.
-pub(crate) fn u8_at(bytes: &[u8], at: usize) -> u8
-    requires { at < length bytes.now }
-    ensures { take (at + 1) bytes.now ≡ take at bytes.now ++ result ∷ [] }
-{
-    bytes[at]
-}
+ghost use Rattle.cell_page.specs.Fields.{number_at};
 
 /// The number of two bytes at an offset.
+#[tactic(auto, unfolding(crate::specs::Fields::number_at))]
 pub(crate) fn u16_at(bytes: &[u8], at: usize) -> u16
     requires { at + 2 ≤ length bytes.now }
-    ensures { take (at + 2) bytes.now ≡ take at bytes.now ++ to_be_bytes w16 result }
+    ensures { result ≡ number_at w16 bytes.now at }
 {
     u16::from_be_bytes([bytes[at], bytes[at + 1]])
 }
 
 /// The number of four bytes at an offset.
+#[tactic(auto, unfolding(crate::specs::Fields::number_at))]
 pub(crate) fn u32_at(bytes: &[u8], at: usize) -> u32
     requires { at + 4 ≤ length bytes.now }
-    ensures { take (at + 4) bytes.now ≡ take at bytes.now ++ to_be_bytes w32 result }
+    ensures { result ≡ number_at w32 bytes.now at }
 {
     u32::from_be_bytes([bytes[at], bytes[at + 1], bytes[at + 2], bytes[at + 3]])
 }
 
 /// The number of eight bytes at an offset.
+#[tactic(auto, unfolding(crate::specs::Fields::number_at))]
 pub(crate) fn u64_at(bytes: &[u8], at: usize) -> u64
     requires { at + 8 ≤ length bytes.now }
-    ensures { take (at + 8) bytes.now ≡ take at bytes.now ++ to_be_bytes w64 result }
+    ensures { result ≡ number_at w64 bytes.now at }
 {
     u64::from_be_bytes([
         bytes[at],

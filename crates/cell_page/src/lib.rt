@@ -3,8 +3,13 @@
 
 mod bytes;
 mod cell;
+mod decode;
 mod encode;
 mod page;
 
 pub use cell::{Cell, Seen};
+pub use decode::BadCell;
 pub use page::Page;
+
+#[cfg(test)]
+mod tests;

@@ -1,0 +1,5 @@
+pub mod Numbers
+pub mod Broken
+pub mod Rules
+pub mod Cells
+pub mod Pages

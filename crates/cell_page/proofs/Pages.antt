@@ -1,0 +1,111 @@
+-- A page, its bytes and its rules.
+use Rattle.std.proofs.Common.{◌≡◌, ℕ, zero, suc, ◌+◌, ◌-◌, ◌*◌, ◌<◌, ◌≤◌, List, [], ◌∷◌, ◌++◌, length, get_or, take, drop, replicate, Some, None, refl, sym, ap, ◌∙◌, zero-mul, arith}
+use Rattle.std.proofs.lemmas.List.{length-append, length-replicate, length-drop, length-take-le, take_at, drop_at, drop-drop, take-append-drop, nil_from_length}
+use Rattle.std.proofs.lemmas.Nat.{row_fits}
+use Rattle.cell_page.specs.declared.cell.Cell.{Cell}
+use Rattle.cell_page.specs.Format.{IsSlotCount, IsCell, IsPage, IsTyped, AreTyped, Spells, fields_size, cell_size, page_size, field_bytes, cell_bytes, page_bytes, first_id, blank_cell}
+use Rattle.cell_page.specs.Fields.{cell_in, bytes_at, broken_in_cell}
+use Rattle.cell_page.proofs.Numbers.{IsBytes, IsBytes-take, IsBytes-drop}
+use Rattle.cell_page.proofs.Cells.{length-field_bytes, fields_within, cell_read, cell_again}
+
+-- ---- the bytes of the cells of a page
+
+pub length-cell_bytes : {slots : ℕ} (c : Cell slots) → IsSlotCount slots → length c.slots ≡ slots → length (cell_bytes c) ≡ cell_size slots
+unfolding cell_bytes
+length-cell_bytes {slots} c known count =
+    let rest = cell_size slots - fields_size slots in
+    let all : length (field_bytes c ++ replicate rest 0) ≡ length (field_bytes c) + rest = length-append (field_bytes c) (replicate rest 0) ∙ ap (λ (n : ℕ). length (field_bytes c) + n) (length-replicate rest 0) in
+    let fields = length-field_bytes c count in
+    let within = fields_within slots known in
+    omega arith
+
+abbrev HaveSlots : {slots : ℕ} → List (Cell slots) → Type 0
+HaveSlots {slots} cells = (place : ℕ) (d : Cell slots) → place < length cells → length (get_or cells place d).slots ≡ slots
+
+pub length-page_bytes : {slots : ℕ} (cells : List (Cell slots)) → IsSlotCount slots → HaveSlots cells → length (page_bytes cells) ≡ length cells * cell_size slots
+length-page_bytes [] known count = sym (zero-mul _)
+length-page_bytes {slots} (c ∷ cs) known count =
+    let first = length-cell_bytes c known (count 0 c (omega arith)) in
+    let others = length-page_bytes cs known (λ place d below. count (suc place) d (omega arith)) in
+    let all = length-append (cell_bytes c) (page_bytes cs) in
+    let product : suc (length cs) * cell_size slots ≡ length cs * cell_size slots + cell_size slots = omega arith in
+    omega arith
+
+-- the bytes at a place, one place further on
+bytes_at-suc : (slots : ℕ) (bytes : List ℕ) (place : ℕ) → bytes_at slots (drop (cell_size slots) bytes) place ≡ bytes_at slots bytes (suc place)
+bytes_at-suc slots bytes place =
+    let at : cell_size slots + place * cell_size slots ≡ suc place * cell_size slots = omega arith in
+    ap (λ (rest : List ℕ). take (cell_size slots) rest) (drop-drop (place * cell_size slots) (cell_size slots) bytes ∙ ap (λ (n : ℕ). drop n bytes) at)
+
+bytes_at-zero : (slots : ℕ) (bytes : List ℕ) → bytes_at slots bytes 0 ≡ take (cell_size slots) bytes
+bytes_at-zero slots bytes = ap (λ (n : ℕ). take (cell_size slots) (drop n bytes)) (zero-mul (cell_size slots))
+
+pub bytes_at-page_bytes : {slots : ℕ} (cells : List (Cell slots)) (place : ℕ) (d : Cell slots) → IsSlotCount slots → HaveSlots cells → place < length cells
+    → bytes_at slots (page_bytes cells) place ≡ cell_bytes (get_or cells place d)
+bytes_at-page_bytes [] place d known count below = absurd (omega arith)
+bytes_at-page_bytes {slots} (c ∷ cs) zero d known count below =
+    bytes_at-zero slots (page_bytes (c ∷ cs)) ∙ take_at (cell_bytes c) (page_bytes cs) (cell_size slots) (length-cell_bytes c known (count 0 d below))
+bytes_at-page_bytes {slots} (c ∷ cs) (suc place) d known count below =
+    sym (bytes_at-suc slots (page_bytes (c ∷ cs)) place)
+    ∙ ap (λ (rest : List ℕ). bytes_at slots rest place) (drop_at (cell_bytes c) (page_bytes cs) (cell_size slots) (length-cell_bytes c known (count 0 d (omega arith))))
+    ∙ bytes_at-page_bytes cs place d known (λ k e low. count (suc k) e (omega arith)) (omega arith)
+
+-- where each piece of the bytes is a cell's, they are all the cells'
+pub page_bytes-from_pieces : {slots : ℕ} (cells : List (Cell slots)) (bytes : List ℕ) → length bytes ≡ length cells * cell_size slots
+    → ((place : ℕ) (d : Cell slots) → place < length cells → bytes_at slots bytes place ≡ cell_bytes (get_or cells place d)) → bytes ≡ page_bytes cells
+page_bytes-from_pieces [] bytes size pieces = nil_from_length bytes (size ∙ zero-mul _)
+page_bytes-from_pieces {slots} (c ∷ cs) bytes size pieces =
+    let n = cell_size slots in
+    let product : suc (length cs) * n ≡ length cs * n + n = omega arith in
+    let others = page_bytes-from_pieces cs (drop n bytes) (omega (arith, length-drop n bytes)) (λ place d below. bytes_at-suc slots bytes place ∙ pieces (suc place) d (omega arith)) in
+    let first : take n bytes ≡ cell_bytes c = sym (bytes_at-zero slots bytes) ∙ pieces 0 c (omega arith) in
+    sym (take-append-drop n bytes) ∙ ap (λ (xs : List ℕ). xs ++ drop n bytes) first ∙ ap (λ (xs : List ℕ). cell_bytes c ++ xs) others
+
+-- ---- what was read, and what cannot be
+
+have_slots : {slots : ℕ} (cells : List (Cell slots)) → AreTyped cells → HaveSlots cells
+have_slots cells typed place d below = (typed place d below).slot_count
+
+piece_size : (slots : ℕ) (bytes : List ℕ) (place : ℕ) → length bytes ≡ page_size slots → place < 8 → length (bytes_at slots bytes place) ≡ cell_size slots
+piece_size slots bytes place size within =
+    let n = cell_size slots in
+    let room : place * n + n ≤ 8 * n = row_fits place n 8 n within (omega arith) in
+    length-take-le n (drop (place * n) bytes) (omega (arith, length-drop (place * n) bytes))
+
+-- the cells that stand in the bytes, where in none of them a field breaks the rules
+pub page_read : (slots page : ℕ) (bytes : List ℕ) (cells : List (Cell slots)) → IsSlotCount slots → IsBytes bytes → length bytes ≡ page_size slots → length cells ≡ 8
+    → ((place : ℕ) (d : Cell slots) → place < 8 → get_or cells place d ≡ cell_in slots (bytes_at slots bytes place))
+    → ((place : ℕ) → place < 8 → broken_in_cell slots (first_id page + place) (bytes_at slots bytes place) ≡ None)
+    → Spells page cells bytes
+page_read slots page bytes cells known fits size eight read obeys =
+    let piece_fits : (place : ℕ) → IsBytes (bytes_at slots bytes place) =
+      λ place. IsBytes-take (cell_size slots) (drop (place * cell_size slots) bytes) (IsBytes-drop (place * cell_size slots) bytes fits) in
+    let laws = λ (place : ℕ) (within : place < 8). cell_read slots (first_id page + place) (bytes_at slots bytes place) known (piece_fits place) (piece_size slots bytes place size within) (obeys place within) in
+    record {
+      rules = record { eight = eight; each = λ place d within. rw (read place d within) (laws place within).0 };
+      spelled = page_bytes-from_pieces cells bytes (size ∙ ap (λ (n : ℕ). n * cell_size slots) (sym eight))
+        (λ place d below. let within : place < 8 = omega arith in (laws place within).1 ∙ ap cell_bytes (sym (read place d within)));
+    }
+
+-- no page is spelled by bytes in which a field of a cell breaks the rules
+pub page_refused : {slots : ℕ} (page place at : ℕ) (bytes : List ℕ) → IsSlotCount slots → place < 8 → broken_in_cell slots (first_id page + place) (bytes_at slots bytes place) ≡ Some at
+    → (cells : List (Cell slots)) → AreTyped cells → Spells page cells bytes → ⊥
+page_refused {slots} page place at bytes known within broken cells typed spells =
+    let d : Cell slots = blank_cell slots 0 in
+    let below : place < length cells = omega (arith, spells.rules.eight) in
+    let piece : bytes_at slots bytes place ≡ cell_bytes (get_or cells place d) =
+      ap (λ (xs : List ℕ). bytes_at slots xs place) spells.spelled ∙ bytes_at-page_bytes cells place d known (have_slots cells typed) below in
+    let none = cell_again (first_id page + place) (get_or cells place d) (typed place d below) (spells.rules.each place d within) in
+    let some : broken_in_cell slots (first_id page + place) (cell_bytes (get_or cells place d)) ≡ Some at = ap (broken_in_cell slots (first_id page + place)) (sym piece) ∙ broken in
+    some_is_not_none at (sym some ∙ none)
+  where
+    some_is_not_none : (n : ℕ) → Some n ≡ None → ⊥
+    some_is_not_none n e = cc
+
+-- nor by fewer bytes than a page has
+pub page_too_short : {slots : ℕ} (page : ℕ) (bytes : List ℕ) → IsSlotCount slots → length bytes < page_size slots → (cells : List (Cell slots)) → AreTyped cells → Spells page cells bytes → ⊥
+page_too_short {slots} page bytes known short cells typed spells =
+    let size = length-page_bytes cells known (have_slots cells typed) in
+    let all = ap length spells.spelled in
+    let count : length cells * cell_size slots ≡ 8 * cell_size slots = ap (λ (n : ℕ). n * cell_size slots) spells.rules.eight in
+    omega arith
