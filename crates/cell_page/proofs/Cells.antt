@@ -8,7 +8,7 @@ use Rattle.std.proofs.lemmas.List.{length-drop, take-append-drop, drop_at}
 use Rattle.std.proofs.lemmas.Bool.{ltb-false, eqb-false, ne_eqb}
 use Rattle.std.proofs.lemmas.Nat.{from_be_bytes-to_be_bytes_2, from_be_bytes-to_be_bytes_4, from_be_bytes-to_be_bytes_8}
 use Rattle.cell_page.specs.declared.cell.Cell.{Cell}
-use Rattle.cell_page.specs.Format.{IsSlotCount, IsCell, IsTyped, fields_size, cell_size, flag, field_bytes, cell_bytes, blank_cell}
+use Rattle.cell_page.specs.Format.{IsSlotCount, IsCell, IsTyped, fields_size, cell_size, flag, field_bytes, cell_bytes, free_cell}
 use Rattle.cell_page.specs.Fields.{Field, number_at, numbers_in, cell_in, later_fields, rest_field, bits_break, sets_null_bit, slot_fields, first_broken, broken_in_cell}
 use Rattle.cell_page.proofs.Numbers.{IsBytes, IsBytes-drop, bytes_at_16, bytes_at_32, bytes_at_64, flat_map-numbers_in, numbers_in-flat_map, length-numbers_in, length-numbers}
 use Rattle.cell_page.proofs.Broken.{none_first, none_of-append, rest_decides}
@@ -122,6 +122,6 @@ cell_again {slots} id c typed cell =
     let later = ap (λ (d : Cell slots). first_broken (later_fields id d)) (cell_in-field_bytes c zeros typed) ∙ obeyed_rules id c typed.slot_count cell in
     let rest = drop_at (field_bytes c) zeros (fields_size slots) (length-field_bytes c typed.slot_count) in
     let state : slice_index (cell_bytes c) 0 ≤ 1 = rw (first_byte c zeros) (flag_small c.live) in
-    let target_bit : c.live ≡ false → c.bit ≡ false = λ free. ap (λ (d : Cell slots). d.bit) (cell.blank free) in
+    let target_bit : c.live ≡ false → c.bit ≡ false = λ free. ap (λ (d : Cell slots). d.bit) (cell.free free) in
     let bit : slice_index (cell_bytes c) 1 ≤ slice_index (cell_bytes c) 0 = rw (first_byte c zeros, second_byte c zeros) (flags_ordered c.live c.bit target_bit) in
     rest_decides slots id (cell_bytes c) state bit later ∙ rw (rest, zeros_test size) refl

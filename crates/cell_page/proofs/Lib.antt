@@ -3,3 +3,4 @@ pub mod Broken
 pub mod Rules
 pub mod Cells
 pub mod Pages
+pub mod PointerLemmas

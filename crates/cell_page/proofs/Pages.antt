@@ -3,7 +3,7 @@ use Rattle.std.proofs.Common.{◌≡◌, ℕ, zero, suc, ◌+◌, ◌-◌, ◌*�
 use Rattle.std.proofs.lemmas.List.{length-append, length-replicate, length-drop, length-take-le, take_at, drop_at, drop-drop, take-append-drop, nil_from_length}
 use Rattle.std.proofs.lemmas.Nat.{row_fits}
 use Rattle.cell_page.specs.declared.cell.Cell.{Cell}
-use Rattle.cell_page.specs.Format.{IsSlotCount, IsCell, IsPage, IsTyped, AreTyped, Spells, fields_size, cell_size, page_size, field_bytes, cell_bytes, page_bytes, first_id, blank_cell}
+use Rattle.cell_page.specs.Format.{IsSlotCount, IsCell, IsPage, IsTyped, AreTyped, Spells, fields_size, cell_size, page_size, field_bytes, cell_bytes, page_bytes, first_id, free_cell}
 use Rattle.cell_page.specs.Fields.{cell_in, bytes_at, broken_in_cell}
 use Rattle.cell_page.proofs.Numbers.{IsBytes, IsBytes-take, IsBytes-drop}
 use Rattle.cell_page.proofs.Cells.{length-field_bytes, fields_within, cell_read, cell_again}
@@ -91,7 +91,7 @@ page_read slots page bytes cells known fits size eight read obeys =
 pub page_refused : {slots : ℕ} (page place at : ℕ) (bytes : List ℕ) → IsSlotCount slots → place < 8 → broken_in_cell slots (first_id page + place) (bytes_at slots bytes place) ≡ Some at
     → (cells : List (Cell slots)) → AreTyped cells → Spells page cells bytes → ⊥
 page_refused {slots} page place at bytes known within broken cells typed spells =
-    let d : Cell slots = blank_cell slots 0 in
+    let d : Cell slots = free_cell slots 0 in
     let below : place < length cells = omega (arith, spells.rules.eight) in
     let piece : bytes_at slots bytes place ≡ cell_bytes (get_or cells place d) =
       ap (λ (xs : List ℕ). bytes_at slots xs place) spells.spelled ∙ bytes_at-page_bytes cells place d known (have_slots cells typed) below in

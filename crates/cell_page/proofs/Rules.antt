@@ -7,7 +7,7 @@ use Rattle.std.proofs.lemmas.Bool.{ltb-false, eqb-true, eqb-false, not-true, not
 use Rattle.std.proofs.lemmas.Nat.{pow_pos, shr_split, mod_below, div_below}
 use Rattle.std.proofs.lemmas.Nat.Bits.{bit_at-lt, bit_at-zero}
 use Rattle.cell_page.specs.declared.cell.Cell.{Cell}
-use Rattle.cell_page.specs.Format.{IsCell, blank_cell}
+use Rattle.cell_page.specs.Format.{IsCell, free_cell}
 use Rattle.cell_page.specs.Fields.{later_fields, bits_break, sets_null_bit, slot_fields, fills, first_broken}
 use Rattle.cell_page.proofs.Broken.{none_first, live_obeys}
 
@@ -111,7 +111,7 @@ fills_not true n free h = absurd cc
 
 -- a free cell by its fields
 blank_since : {slots : ℕ} (id : ℕ) (c : Cell slots) → c.live ≡ false → c.bit ≡ false → c.bits ≡ 0 → c.id ≡ id → c.strong ≡ 0 → c.weak ≡ 0 → c.payload ≡ 0
-    → c.slots ≡ replicate slots 0 → c ≡ blank_cell slots id
+    → c.slots ≡ replicate slots 0 → c ≡ free_cell slots id
 blank_since id c live bit bits placed strong weak payload targets = sym (same_cell c _ _ _ _ _ _ _ _ (sym live) (sym bit) (sym bits) (sym placed) (sym strong) (sym weak) (sym payload) (sym targets))
 
 free_slots : {slots : ℕ} (c : Cell slots) → c.live ≡ false → length c.slots ≡ slots → first_broken (slot_fields c.live 24 c.slots) ≡ None → c.slots ≡ replicate slots 0
@@ -127,7 +127,7 @@ rules_obeyed {slots} id c target_bit count h =
     let placed : c.id ≡ id = eqb-true c.id id (not-false (c.id == id) place.0) in
     record {
       placed = placed;
-      blank = λ free. blank_since id c free (target_bit free) (free_bits c bits.0 free) placed
+      free = λ free. blank_since id c free (target_bit free) (free_bits c bits.0 free) placed
         (fills_not c.live c.strong free strong.0) (fills_not c.live c.weak free weak.0) (fills_not c.live c.payload free payload.0) (free_slots c free count payload.1);
       bounded = elim (cases_Bool c.live) [
         | inl live ↦ high_bits c.bits slots (zero_since (c.bits / 2 ^ slots) (live_bits c bits.0 live).0)
@@ -139,7 +139,7 @@ rules_obeyed {slots} id c target_bit count h =
       ];
     }
 
-blank_obeys : (slots id : ℕ) → first_broken (later_fields id (blank_cell slots id)) ≡ None
+blank_obeys : (slots id : ℕ) → first_broken (later_fields id (free_cell slots id)) ≡ None
 unfolding bits_break
 blank_obeys slots id = rw (eq-eqb id id refl) (blank_slots 24 slots)
 
@@ -149,5 +149,5 @@ obeyed_rules {slots} id c count cell =
       | inl live ↦
         let null = null_bits-test c.bits 0 c.slots (λ slot below is. rw (zero-add slot) (cell.null_bit slot (omega arith) is)) in
         sym (live_obeys id c (bits_obey c live (no_high_bits c.bits slots cell.bounded) null) cell.placed live)
-      | inr free ↦ ap (λ (d : Cell slots). first_broken (later_fields id d)) (cell.blank free) ∙ blank_obeys slots id
+      | inr free ↦ ap (λ (d : Cell slots). first_broken (later_fields id d)) (cell.free free) ∙ blank_obeys slots id
     ]

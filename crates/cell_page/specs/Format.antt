@@ -41,15 +41,15 @@ page_bytes cells = flat_map cell_bytes cells
 -- ---- rules
 
 -- a free cell, in which all but the id is 0
-abbrev pub blank_cell : (slots id : ℕ) → Cell slots
-blank_cell slots id = record { live = false; bit = false; bits = 0; id = id; strong = 0; weak = 0; payload = 0; slots = replicate slots 0 }
+abbrev pub free_cell : (slots id : ℕ) → Cell slots
+free_cell slots id = record { live = false; bit = false; bits = 0; id = id; strong = 0; weak = 0; payload = 0; slots = replicate slots 0 }
 
 -- the cell of the id obeys the rules
 pub record IsCell {slots : ℕ} (id : ℕ) (c : Cell slots) : Type 0 where
   -- the id is that of the cell's place
   pub placed : c.id ≡ id
   -- in a free cell all else is 0
-  pub blank : c.live ≡ false → c ≡ blank_cell slots id
+  pub free : c.live ≡ false → c ≡ free_cell slots id
   -- no pointer bit stands for a slot that isn't there
   pub bounded : c.bits < 2 ^ slots
   -- a null slot has the pointer bit 0
@@ -88,7 +88,7 @@ AreTyped {slots} cells = (place : ℕ) (d : Cell slots) → place < length cells
 
 -- the cell of the id in a new store: the root is live and has one strong pointer of its own, and all others are free
 abbrev pub fresh_cell : (slots id : ℕ) → Cell slots
-fresh_cell slots id = if id == 1 then record (blank_cell slots 1) { live = true; strong = 1 } else blank_cell slots id
+fresh_cell slots id = if id == 1 then record (free_cell slots 1) { live = true; strong = 1 } else free_cell slots id
 
 abbrev pub fresh_page : (slots page : ℕ) → List (Cell slots)
 fresh_page slots page = map (λ place. fresh_cell slots (first_id page + place)) (0 ∷ 1 ∷ 2 ∷ 3 ∷ 4 ∷ 5 ∷ 6 ∷ 7 ∷ [])

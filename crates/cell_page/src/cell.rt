@@ -35,15 +35,19 @@ pub struct Seen<const SLOTS: usize> {
     pub weak: u32,
 }
 
-ghost use Rattle.std.specs.Prelude.{◌≡◌, ◌<◌, ◌==◌, slice_index};
+ghost use Rattle.std.specs.Prelude.{◌≡◌, ◌≢◌, ◌<◌, ◌^◌, ◌==◌, ℕ, true, false, slice_set};
 ghost use Rattle.std.specs.Int.{bit_at};
-ghost use Rattle.cell_page.specs.Format.{IsSlotCount, blank_cell, fresh_cell};
+ghost use Rattle.store_model.specs.Cells.{blank_cell, relink, pointer_in};
+ghost use Rattle.cell_page.specs.Format.{IsSlotCount, IsCell, free_cell, fresh_cell};
+ghost use Rattle.cell_page.specs.Pointers.{cell_of};
 
 impl<const SLOTS: usize> Cell<SLOTS> {
     /// A free cell of this id.
     pub fn free(id: u32) -> Cell<SLOTS>
         requires { IsSlotCount SLOTS }
-        ensures { result ≡ blank_cell SLOTS id }
+        ensures exact { result ≡ free_cell SLOTS id }
+        ensures model { cell_of result ≡ blank_cell false SLOTS }
+        ensures rules { IsCell id result }
     {
         Cell {
             live: false,
@@ -57,28 +61,77 @@ impl<const SLOTS: usize> Cell<SLOTS> {
         }
     }
 
+    /// The cell of a new object: live, with null slots, payload 0 and no pointer to it.
+    pub fn new_object(id: u32) -> Cell<SLOTS>
+        requires { IsSlotCount SLOTS }
+        ensures exact { result ≡ record (free_cell SLOTS id) { live = true } }
+        ensures model { cell_of result ≡ blank_cell true SLOTS }
+        ensures rules { IsCell id result }
+    {
+        Cell {
+            live: true,
+            ..Cell::free(id)
+        }
+    }
+
     /// The cell of this id in a new store: the root, with the one strong pointer of its own, or a free cell.
     pub(crate) fn fresh(id: u32) -> Cell<SLOTS>
         requires { IsSlotCount SLOTS }
-        ensures { result ≡ fresh_cell SLOTS id }
+        ensures exact { result ≡ fresh_cell SLOTS id }
+        ensures rules { IsCell id result }
     {
-        let free = Cell::free(id);
         if id == ROOT {
             return Cell {
-                live: true,
                 strong: 1,
-                ..free
+                ..Cell::new_object(id)
             };
         }
-        free
+        Cell::free(id)
+    }
+
+    /// What a collector round copies of this cell.
+    pub fn seen(&self) -> Seen<SLOTS>
+        ensures { result ≡ record { slots = self.now.slots; strong = self.now.strong; weak = self.now.weak } }
+    {
+        Seen {
+            slots: self.slots,
+            strong: self.strong,
+            weak: self.weak,
+        }
     }
 
     /// The pointer bit of a slot.
     pub fn pointer_bit(&self, slot: u8) -> bool
         requires count { IsSlotCount SLOTS }
         requires within { slot < SLOTS }
-        ensures { result ≡ (bit_at self.now.bits slot == 1) }
+        ensures value { result ≡ (bit_at self.now.bits slot == 1) }
+        ensures model { result ≡ (pointer_in (cell_of self.now) slot).bit }
     {
         self.bits >> slot & 1 == 1
     }
+
+    /// Lays a pointer in a slot: the id that it names, or 0 for null, and its pointer bit.
+    pub fn set_pointer(&mut self, slot: u8, target: u32, bit: bool)
+        requires count { IsSlotCount SLOTS }
+        requires within { slot < SLOTS }
+        ensures model { cell_of self.new ≡ relink slot (record { target = target; bit = bit }) (cell_of self.old) }
+        ensures others { self.new ≡ record self.old { bits = self.new.bits; slots = slice_set self.old.slots slot target } }
+
+        // An object goes on to obey the rules, where null has the bit 0.
+        ensures rules { (id : ℕ) → IsCell id self.old → self.old.live ≡ true → (target ≡ 0 → bit ≡ false) → IsCell id self.new }
+    {
+        self.slots[slot as usize] = target;
+        self.bits = with_bit(self.bits, slot, bit);
+    }
+}
+
+/// The bits, with this one at a place.
+fn with_bit(bits: u16, place: u8, bit: bool) -> u16
+    requires { place < 16 }
+    ensures here { (bit_at result place == 1) ≡ bit }
+    ensures others { (k : ℕ) → k < 16 → k ≢ place → bit_at result k ≡ bit_at bits k }
+    ensures bounded { (width : ℕ) → place < width → bits < 2 ^ width → result < 2 ^ width }
+{
+    let mask = 1 << place;
+    if bit { bits | mask } else { bits & !mask }
 }

@@ -1,7 +1,7 @@
 //! The page, which holds eight cells.
 
-ghost use Rattle.std.specs.Prelude.{◌≡◌, ◌+◌, ◌-◌, ◌*◌, ◌%◌, ◌≤◌, ℕ, slice_index_or, slice_set};
-ghost use Rattle.cell_page.specs.Format.{IsSlotCount, fresh_page, place_of, HasId};
+ghost use Rattle.std.specs.Prelude.{◌≡◌, ◌+◌, ◌-◌, ◌*◌, ◌%◌, ◌≤◌, ℕ, length, slice_index_or, slice_set};
+ghost use Rattle.cell_page.specs.Format.{IsSlotCount, IsCell, IsPage, fresh_page, place_of, HasId};
 
 use crate::cell::Cell;
 use std::marker::Model;
@@ -34,7 +34,8 @@ impl<const SLOTS: usize> Page<SLOTS> {
     /// all other cells are free.
     pub fn fresh(page: u16) -> Page<SLOTS>
         requires { IsSlotCount SLOTS }
-        ensures { result ≡ fresh_page SLOTS page }
+        ensures exact { result ≡ fresh_page SLOTS page }
+        ensures rules { IsPage page result }
     {
         let first = 8 * page as u32 + 1;
         Page {
@@ -54,7 +55,12 @@ impl<const SLOTS: usize> Page<SLOTS> {
     /// The cell of an id of this page.
     pub fn cell(&self, id: u32) -> &Cell<SLOTS>
         requires { HasId self.now id }
-        ensures { result.now ≡ slice_index_or self.now (place_of id) result.now }
+        ensures eight { length self.now ≡ 8 }
+        ensures placed { result.now ≡ slice_index_or self.now (place_of id) result.now }
+        ensures id { result.now.id ≡ id }
+
+        // In a page that obeys the rules the cell does.
+        ensures rules { (page : ℕ) → IsPage page self.now → IsCell id result.now }
     {
         &self.cells[(id - 1) as usize % CELLS]
     }
@@ -62,7 +68,10 @@ impl<const SLOTS: usize> Page<SLOTS> {
     /// Puts a cell in the place of the one with the same id.
     pub fn put_cell(&mut self, cell: Cell<SLOTS>)
         requires { HasId self.old cell.id }
-        ensures { self.new ≡ slice_set self.old (place_of cell.entry.id) cell.entry }
+        ensures placed { self.new ≡ slice_set self.old (place_of cell.entry.id) cell.entry }
+
+        // A page goes on to obey the rules, where the cell does.
+        ensures rules { (page : ℕ) → IsPage page self.old → IsCell cell.entry.id cell.entry → IsPage page self.new }
     {
         self.cells[(cell.id - 1) as usize % CELLS] = cell;
     }
