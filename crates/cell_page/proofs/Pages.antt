@@ -1,12 +1,12 @@
 -- A page, its bytes and its rules.
-use Rattle.std.proofs.Common.{◌≡◌, ℕ, zero, suc, ◌+◌, ◌-◌, ◌*◌, ◌<◌, ◌≤◌, List, [], ◌∷◌, ◌++◌, length, get_or, take, drop, replicate, Some, None, refl, sym, ap, ◌∙◌, zero-mul, arith}
-use Rattle.std.proofs.lemmas.List.{length-append, length-replicate, length-drop, length-take-le, take_at, drop_at, drop-drop, take-append-drop, nil_from_length}
-use Rattle.std.proofs.lemmas.Nat.{row_fits}
+use Rattle.std.proofs.Common.{◌≡◌, ℕ, zero, suc, ◌+◌, ◌-◌, ◌*◌, ◌%◌, ◌<◌, ◌≤◌, List, [], ◌∷◌, ◌++◌, length, get_or, take, drop, replicate, Some, None, refl, sym, ap, ◌∙◌, zero-mul, lit<, arith}
+use Rattle.std.proofs.lemmas.List.{length-append, length-replicate, length-drop, length-take-le, take_at, drop_at, drop-drop, take-append-drop, nil_from_length, same_lists}
+use Rattle.std.proofs.lemmas.Nat.{row_fits, mod-mul-add}
 use Rattle.cell_page.specs.declared.cell.Cell.{Cell}
-use Rattle.cell_page.specs.Format.{IsSlotCount, IsCell, IsPage, IsTyped, AreTyped, Spells, fields_size, cell_size, page_size, field_bytes, cell_bytes, page_bytes, first_id, free_cell}
+use Rattle.cell_page.specs.Format.{IsSlotCount, IsCell, IsPage, IsTyped, AreTyped, Spells, fields_size, cell_size, page_size, field_bytes, cell_bytes, page_bytes, first_id, place_of, HasId, free_cell}
 use Rattle.cell_page.specs.Fields.{cell_in, bytes_at, broken_in_cell}
 use Rattle.cell_page.proofs.Numbers.{IsBytes, IsBytes-take, IsBytes-drop}
-use Rattle.cell_page.proofs.Cells.{length-field_bytes, fields_within, cell_read, cell_again}
+use Rattle.cell_page.proofs.Cells.{cell_in-field_bytes, length-field_bytes, fields_within, cell_read, cell_again}
 
 -- ---- the bytes of the cells of a page
 
@@ -109,3 +109,42 @@ page_too_short {slots} page bytes known short cells typed spells =
     let all = ap length spells.spelled in
     let count : length cells * cell_size slots ≡ 8 * cell_size slots = ap (λ (n : ℕ). n * cell_size slots) spells.rules.eight in
     omega arith
+
+-- ---- one page for the bytes
+
+-- the cell at a place is the one that stands in the bytes there
+pub cell_spelled : {slots : ℕ} (page : ℕ) (cells : List (Cell slots)) (bytes : List ℕ) (place : ℕ) (d : Cell slots) → IsSlotCount slots → AreTyped cells → Spells page cells bytes
+    → place < 8 → get_or cells place d ≡ cell_in slots (bytes_at slots bytes place)
+unfolding cell_bytes
+cell_spelled {slots} page cells bytes place d known typed spells within =
+    let below : place < length cells = omega (arith, spells.rules.eight) in
+    let piece : bytes_at slots bytes place ≡ cell_bytes (get_or cells place d) =
+      ap (λ (xs : List ℕ). bytes_at slots xs place) spells.spelled ∙ bytes_at-page_bytes cells place d known (have_slots cells typed) below in
+    sym (ap (cell_in slots) piece ∙ cell_in-field_bytes (get_or cells place d) (replicate (cell_size slots - fields_size slots) 0) (typed place d below))
+
+pub same_page : {slots : ℕ} (page other : ℕ) (cells others : List (Cell slots)) (bytes : List ℕ) → IsSlotCount slots → AreTyped cells → AreTyped others
+    → Spells page cells bytes → Spells other others bytes → (page ≡ other) × (cells ≡ others)
+same_page {slots} page other cells others bytes known typed typed_others spells spells_others =
+    let eight = spells.rules.eight ∙ sym spells_others.rules.eight in
+    let same : (k : ℕ) (d : Cell slots) → k < length cells → get_or cells k d ≡ get_or others k d =
+      λ k d below. let within : k < 8 = omega (arith, spells.rules.eight) in
+        cell_spelled page cells bytes k d known typed spells within ∙ sym (cell_spelled other others bytes k d known typed_others spells_others within) in
+    let cells_are = same_lists cells others eight same in
+    let d : Cell slots = free_cell slots 0 in
+    let first : first_id page + 0 ≡ first_id other + 0 =
+      sym (spells.rules.each 0 d (lit< tt)).placed ∙ ap (λ (cs : List (Cell slots)). (get_or cs 0 d).id) cells_are ∙ (spells_others.rules.each 0 d (lit< tt)).placed in
+    (omega arith, cells_are)
+
+-- ---- the place of an id
+
+-- a page that obeys the rules has the ids of its number
+pub HasId-from_page : {slots : ℕ} (page id : ℕ) (cells : List (Cell slots)) → IsPage page cells → first_id page ≤ id → id < first_id page + 8 → HasId cells id
+HasId-from_page page id cells rules low high =
+    let place : place_of id ≡ id - first_id page = place_within page id low high in
+    let within : place_of id < 8 = omega arith in
+    record { above = omega arith; there = λ d. (rules.each (place_of id) d within).placed ∙ omega arith }
+  where
+    place_within : (page id : ℕ) → first_id page ≤ id → id < first_id page + 8 → place_of id ≡ id - first_id page
+    place_within page id low high =
+        let split : id - 1 ≡ page * 8 + (id - first_id page) = omega arith in
+        ap (λ (n : ℕ). n % 8) split ∙ mod-mul-add page 8 (id - first_id page) (omega arith)

@@ -5,10 +5,12 @@ mod bytes;
 mod cell;
 mod decode;
 mod encode;
+mod laws;
 mod page;
 
 pub use cell::{Cell, Seen};
 pub use decode::BadCell;
+pub use laws::spelled_once;
 pub use page::Page;
 
 #[cfg(test)]
