@@ -10,7 +10,7 @@ use Rattle.std.proofs.lemmas.Nat.{from_be_bytes-to_be_bytes_2, from_be_bytes-to_
 use Rattle.cell_page.specs.declared.cell.Cell.{Cell}
 use Rattle.cell_page.specs.Format.{IsSlotCount, IsCell, IsTyped, fields_size, cell_size, flag, field_bytes, cell_bytes, free_cell}
 use Rattle.cell_page.specs.Fields.{Field, number_at, numbers_in, cell_in, later_fields, rest_field, bits_break, sets_null_bit, slot_fields, first_broken, broken_in_cell}
-use Rattle.cell_page.proofs.Numbers.{IsBytes, IsBytes-drop, bytes_at_16, bytes_at_32, bytes_at_64, flat_map-numbers_in, numbers_in-flat_map, length-numbers_in, length-numbers}
+use Rattle.cell_page.proofs.Numbers.{IsBytes, IsBytes-drop, bytes_at_16, bytes_at_32, bytes_at_64, flat_map-numbers_in, numbers_in-flat_map, length-numbers_in, length-numbers, number_at_16-below, number_at_32-below, number_at_64-below, numbers_in-below}
 use Rattle.cell_page.proofs.Broken.{none_first, none_of-append, rest_decides}
 use Rattle.cell_page.proofs.Rules.{same_cell, rules_obeyed, obeyed_rules, zeros_since, zeros_test}
 
@@ -55,6 +55,19 @@ field_bytes-cell_in slots bytes fits room state bit =
     in_a_row _ _ _ _ _ _ _ _ _ _ _ _ _ _
       (first_two bytes (omega arith) state bit) (bytes_at_16 bytes 2 fits (omega arith)) (bytes_at_32 bytes 4 fits (omega arith)) (bytes_at_32 bytes 8 fits (omega arith))
       (bytes_at_32 bytes 12 fits (omega arith)) (bytes_at_64 bytes 16 fits (omega arith)) slots-are
+
+-- what stands in bytes is in the ranges of its types
+pub IsTyped-cell_in : (slots : ℕ) (bytes : List ℕ) → IsBytes bytes → IsTyped (cell_in slots bytes)
+unfolding cell_in
+IsTyped-cell_in slots bytes fits = record {
+  bits = number_at_16-below bytes 2 fits;
+  id = number_at_32-below bytes 4 fits;
+  strong = number_at_32-below bytes 8 fits;
+  weak = number_at_32-below bytes 12 fits;
+  payload = number_at_64-below bytes 16 fits;
+  slot_count = length-numbers_in slots (drop 24 bytes);
+  targets = λ slot. numbers_in-below slots (drop 24 bytes) slot (IsBytes-drop 24 bytes fits);
+}
 
 -- ---- the two laws of a cell
 

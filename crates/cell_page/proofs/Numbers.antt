@@ -1,5 +1,5 @@
 -- Numbers in bytes, and the bytes of numbers.
-use Rattle.std.proofs.Common.{◌≡◌, ℕ, zero, suc, ◌+◌, ◌*◌, ◌^◌, ◌<◌, ◌≤◌, List, [], ◌∷◌, ◌++◌, length, get_or, take, drop, refl, sym, ap, ◌∙◌, inl, inr, arith}
+use Rattle.std.proofs.Common.{◌≡◌, ℕ, zero, suc, ◌+◌, ◌*◌, ◌^◌, ◌<◌, ◌≤◌, List, [], ◌∷◌, ◌++◌, length, get_or, take, drop, refl, sym, ap, ◌∙◌, inl, inr, lit<, arith}
 use Rattle.std.specs.Int.{Width, w16, w32, w64, byte_len, from_be_bytes, to_be_bytes}
 use Rattle.std.specs.List.{flat_map}
 use Rattle.std.proofs.Math.Seq.{take-add}
@@ -81,3 +81,28 @@ length-numbers_in (suc count) bytes = rw (length-numbers_in count (drop 4 bytes)
 pub length-numbers : (targets : List ℕ) → length (flat_map (to_be_bytes w32) targets) ≡ 4 * length targets
 length-numbers [] = refl
 length-numbers (t ∷ ts) = omega (arith, length-numbers ts)
+
+-- ---- ranges
+
+pub number_at_16-below : (bytes : List ℕ) (at : ℕ) → IsBytes bytes → number_at w16 bytes at < 2 ^ 16
+unfolding number_at
+number_at_16-below bytes at fits =
+    let piece : IsBytes (take 2 (drop at bytes)) = IsBytes-take 2 (drop at bytes) (IsBytes-drop at bytes fits) in
+    omega (arith, piece 0, piece 1)
+
+pub number_at_32-below : (bytes : List ℕ) (at : ℕ) → IsBytes bytes → number_at w32 bytes at < 2 ^ 32
+unfolding number_at
+number_at_32-below bytes at fits =
+    let piece : IsBytes (take 4 (drop at bytes)) = IsBytes-take 4 (drop at bytes) (IsBytes-drop at bytes fits) in
+    omega (arith, piece 0, piece 1, piece 2, piece 3)
+
+pub number_at_64-below : (bytes : List ℕ) (at : ℕ) → IsBytes bytes → number_at w64 bytes at < 2 ^ 64
+unfolding number_at
+number_at_64-below bytes at fits =
+    let piece : IsBytes (take 8 (drop at bytes)) = IsBytes-take 8 (drop at bytes) (IsBytes-drop at bytes fits) in
+    omega (arith, piece 0, piece 1, piece 2, piece 3, piece 4, piece 5, piece 6, piece 7)
+
+pub numbers_in-below : (count : ℕ) (bytes : List ℕ) (slot : ℕ) → IsBytes bytes → get_or (numbers_in count bytes) slot 0 < 2 ^ 32
+numbers_in-below zero bytes slot fits = lit< tt
+numbers_in-below (suc count) bytes zero fits = number_at_32-below bytes 0 fits
+numbers_in-below (suc count) bytes (suc slot) fits = numbers_in-below count (drop 4 bytes) slot (IsBytes-drop 4 bytes fits)

@@ -1,12 +1,13 @@
 -- A page, its bytes and its rules.
-use Rattle.std.proofs.Common.{◌≡◌, ℕ, zero, suc, ◌+◌, ◌-◌, ◌*◌, ◌%◌, ◌<◌, ◌≤◌, List, [], ◌∷◌, ◌++◌, length, get_or, take, drop, replicate, Some, None, refl, sym, ap, ◌∙◌, zero-mul, lit<, arith}
-use Rattle.std.proofs.lemmas.List.{length-append, length-replicate, length-drop, length-take-le, take_at, drop_at, drop-drop, take-append-drop, nil_from_length, same_lists}
+use Rattle.std.proofs.Common.{◌≡◌, ℕ, zero, suc, ◌+◌, ◌-◌, ◌*◌, ◌%◌, ◌<◌, ◌≤◌, List, [], ◌∷◌, ◌++◌, length, get_or, take, drop, set, replicate, Some, None, refl, sym, ap, ◌∙◌, inl, inr, zero-mul, lit<, arith}
+use Rattle.std.proofs.lemmas.List.{length-append, length-replicate, length-set, get_or-set_same, get_or-set_other, length-drop, length-take-le, take_at, drop_at, drop-drop, take-append-drop, nil_from_length, same_lists}
+use Rattle.std.proofs.lemmas.Bool.{cases_eq}
 use Rattle.std.proofs.lemmas.Nat.{row_fits, mod-mul-add}
 use Rattle.cell_page.specs.declared.cell.Cell.{Cell}
 use Rattle.cell_page.specs.Format.{IsSlotCount, IsCell, IsPage, IsTyped, AreTyped, Spells, fields_size, cell_size, page_size, field_bytes, cell_bytes, page_bytes, first_id, place_of, HasId, free_cell}
 use Rattle.cell_page.specs.Fields.{cell_in, bytes_at, broken_in_cell}
 use Rattle.cell_page.proofs.Numbers.{IsBytes, IsBytes-take, IsBytes-drop}
-use Rattle.cell_page.proofs.Cells.{cell_in-field_bytes, length-field_bytes, fields_within, cell_read, cell_again}
+use Rattle.cell_page.proofs.Cells.{cell_in-field_bytes, IsTyped-cell_in, length-field_bytes, fields_within, cell_read, cell_again}
 
 -- ---- the bytes of the cells of a page
 
@@ -72,15 +73,20 @@ piece_size slots bytes place size within =
     let room : place * n + n ≤ 8 * n = row_fits place n 8 n within (omega arith) in
     length-take-le n (drop (place * n) bytes) (omega (arith, length-drop (place * n) bytes))
 
+piece_fits : (slots : ℕ) (bytes : List ℕ) (place : ℕ) → IsBytes bytes → IsBytes (bytes_at slots bytes place)
+piece_fits slots bytes place fits = IsBytes-take (cell_size slots) (drop (place * cell_size slots) bytes) (IsBytes-drop (place * cell_size slots) bytes fits)
+
+pub cells_read-typed : (slots : ℕ) (bytes : List ℕ) (cells : List (Cell slots)) → IsBytes bytes → length cells ≡ 8
+    → ((place : ℕ) (d : Cell slots) → place < 8 → get_or cells place d ≡ cell_in slots (bytes_at slots bytes place)) → AreTyped cells
+cells_read-typed slots bytes cells fits eight read = λ place d below. rw (read place d (omega arith)) (IsTyped-cell_in slots (bytes_at slots bytes place) (piece_fits slots bytes place fits))
+
 -- the cells that stand in the bytes, where in none of them a field breaks the rules
 pub page_read : (slots page : ℕ) (bytes : List ℕ) (cells : List (Cell slots)) → IsSlotCount slots → IsBytes bytes → length bytes ≡ page_size slots → length cells ≡ 8
     → ((place : ℕ) (d : Cell slots) → place < 8 → get_or cells place d ≡ cell_in slots (bytes_at slots bytes place))
     → ((place : ℕ) → place < 8 → broken_in_cell slots (first_id page + place) (bytes_at slots bytes place) ≡ None)
     → Spells page cells bytes
 page_read slots page bytes cells known fits size eight read obeys =
-    let piece_fits : (place : ℕ) → IsBytes (bytes_at slots bytes place) =
-      λ place. IsBytes-take (cell_size slots) (drop (place * cell_size slots) bytes) (IsBytes-drop (place * cell_size slots) bytes fits) in
-    let laws = λ (place : ℕ) (within : place < 8). cell_read slots (first_id page + place) (bytes_at slots bytes place) known (piece_fits place) (piece_size slots bytes place size within) (obeys place within) in
+    let laws = λ (place : ℕ) (within : place < 8). cell_read slots (first_id page + place) (bytes_at slots bytes place) known (piece_fits slots bytes place fits) (piece_size slots bytes place size within) (obeys place within) in
     record {
       rules = record { eight = eight; each = λ place d within. rw (read place d within) (laws place within).0 };
       spelled = page_bytes-from_pieces cells bytes (size ∙ ap (λ (n : ℕ). n * cell_size slots) (sym eight))
@@ -148,3 +154,22 @@ HasId-from_page page id cells rules low high =
     place_within page id low high =
         let split : id - 1 ≡ page * 8 + (id - first_id page) = omega arith in
         ap (λ (n : ℕ). n % 8) split ∙ mod-mul-add page 8 (id - first_id page) (omega arith)
+
+-- ---- one cell changed
+
+pub AreTyped-set : {slots : ℕ} (cells : List (Cell slots)) (place : ℕ) (c : Cell slots) → AreTyped cells → IsTyped c → AreTyped (set cells place c)
+AreTyped-set cells place c typed typed_cell = λ k d below.
+    let within : k < length cells = omega (arith, length-set cells place c) in
+    elim (cases_eq k place) [
+      | inl here ↦ rw (here, get_or-set_same cells place c d (omega arith)) typed_cell
+      | inr other ↦ rw (get_or-set_other cells place k c d other) (typed k d within)
+    ]
+
+pub IsPage-set : {slots : ℕ} (page : ℕ) (cells : List (Cell slots)) (place : ℕ) (c : Cell slots) → IsPage page cells → IsCell (first_id page + place) c → IsPage page (set cells place c)
+IsPage-set page cells place c rules cell = record {
+  eight = length-set cells place c ∙ rules.eight;
+  each = λ k d within. elim (cases_eq k place) [
+    | inl here ↦ rw (here, get_or-set_same cells place c d (omega (arith, rules.eight))) cell
+    | inr other ↦ rw (get_or-set_other cells place k c d other) (rules.each k d within)
+  ];
+}

@@ -38,7 +38,7 @@ pub struct Seen<const SLOTS: usize> {
 ghost use Rattle.std.specs.Prelude.{◌≡◌, ◌≢◌, ◌<◌, ◌^◌, ◌==◌, ℕ, true, false, slice_set};
 ghost use Rattle.std.specs.Int.{bit_at};
 ghost use Rattle.store_model.specs.Cells.{blank_cell, relink, pointer_in};
-ghost use Rattle.cell_page.specs.Format.{IsSlotCount, IsCell, free_cell, fresh_cell};
+ghost use Rattle.cell_page.specs.Format.{IsSlotCount, IsCell, IsTyped, free_cell, fresh_cell};
 ghost use Rattle.cell_page.specs.Pointers.{cell_of};
 
 impl<const SLOTS: usize> Cell<SLOTS> {
@@ -48,6 +48,7 @@ impl<const SLOTS: usize> Cell<SLOTS> {
         ensures exact { result ≡ free_cell SLOTS id }
         ensures model { cell_of result ≡ blank_cell false SLOTS }
         ensures rules { IsCell id result }
+        ensures typed { IsTyped result }
     {
         Cell {
             live: false,
@@ -67,6 +68,7 @@ impl<const SLOTS: usize> Cell<SLOTS> {
         ensures exact { result ≡ record (free_cell SLOTS id) { live = true } }
         ensures model { cell_of result ≡ blank_cell true SLOTS }
         ensures rules { IsCell id result }
+        ensures typed { IsTyped result }
     {
         Cell {
             live: true,
@@ -79,6 +81,7 @@ impl<const SLOTS: usize> Cell<SLOTS> {
         requires { IsSlotCount SLOTS }
         ensures exact { result ≡ fresh_cell SLOTS id }
         ensures rules { IsCell id result }
+        ensures typed { IsTyped result }
     {
         if id == ROOT {
             return Cell {

@@ -8,7 +8,7 @@ use crate::page::Page;
 ghost use Rattle.std.specs.Prelude.{◌≡◌, ◌==◌, ◌+◌, ◌*◌, ◌≤◌, ◌<◌, ℕ, List, Some, None, not, false, drop, length, IfSome, IfOk, OnOk, IfErr, OnErr};
 ghost use Rattle.std.specs.List.{list_any};
 ghost use Rattle.cell_page.specs.declared.cell.Cell.{Cell};
-ghost use Rattle.cell_page.specs.Format.{IsSlotCount, IsCell, Spells, AreTyped, fields_size, cell_size, page_size, cell_bytes};
+ghost use Rattle.cell_page.specs.Format.{IsSlotCount, Spells, AreTyped, fields_size, cell_size, page_size, cell_bytes};
 ghost use Rattle.cell_page.specs.Fields.{numbers_in, cell_in, sets_null_bit, bits_break, slot_fields, later_fields, first_broken, broken_in_cell, FailsAt};
 
 /// The bytes of a page break the page format.
@@ -162,6 +162,7 @@ impl<const SLOTS: usize> Page<SLOTS> {
 
         // What is decoded is spelled so.
         ensures ok { IfOk result (λ cells. Spells page cells bytes.now) }
+        ensures typed { IfOk result AreTyped }
 
         // Where it fails the bytes spell no page of this number.
         ensures err { OnErr result ((cells : List (Cell SLOTS)) → AreTyped cells → Spells page cells bytes.now → ⊥) }

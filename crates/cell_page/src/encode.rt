@@ -3,7 +3,7 @@
 ghost use Rattle.std.specs.Prelude.{◌≡◌, ◌+◌, ◌*◌, ◌≤◌, ◌++◌, ℕ, length, take};
 ghost use Rattle.std.specs.Int.{w32, to_be_bytes};
 ghost use Rattle.std.specs.List.{flat_map};
-ghost use Rattle.cell_page.specs.Format.{IsSlotCount, IsPage, fields_size, cell_size, page_size, field_bytes, cell_bytes, page_bytes};
+ghost use Rattle.cell_page.specs.Format.{IsSlotCount, IsPage, AreTyped, fields_size, cell_size, page_size, field_bytes, cell_bytes, page_bytes};
 
 use crate::bytes::{put_u16, put_u32, put_u64, put_u8, put_zeros};
 use crate::cell::Cell;
@@ -71,7 +71,8 @@ impl<const SLOTS: usize> Page<SLOTS> {
         requires count { IsSlotCount SLOTS }
         requires len { length into.old ≡ page_size SLOTS }
         requires spelled { (page : ℕ) × IsPage page self.now }
-        ensures { into.new ≡ page_bytes self.now }
+        ensures spelling { into.new ≡ page_bytes self.now }
+        ensures typed { AreTyped self.now }
     {
         let len = cell_len::<SLOTS>();
         for (place, cell) in self.cells.iter().enumerate() {

@@ -1,7 +1,7 @@
 //! The page, which holds eight cells.
 
 ghost use Rattle.std.specs.Prelude.{◌≡◌, ◌+◌, ◌-◌, ◌*◌, ◌%◌, ◌≤◌, ℕ, length, slice_index_or, slice_set};
-ghost use Rattle.cell_page.specs.Format.{IsSlotCount, IsCell, IsPage, fresh_page, place_of, HasId};
+ghost use Rattle.cell_page.specs.Format.{IsSlotCount, IsCell, IsPage, AreTyped, fresh_page, place_of, HasId};
 
 use crate::cell::Cell;
 use std::marker::Model;
@@ -15,16 +15,17 @@ pub struct Page<const SLOTS: usize> {
     pub(crate) cells: [Cell<SLOTS>; 8],
 }
 
-/// Contracts see a page as the list of its eight cells.
+/// Contracts see a page as the list of its cells.
 impl<const SLOTS: usize> Model for Page<SLOTS> {
     ghost use Rattle.std.specs.Prelude.{◌≡◌, List, length};
     ghost use Rattle.cell_page.specs.declared.cell.Cell.{Cell};
+    ghost use Rattle.cell_page.specs.Format.{AreTyped};
 
     ghost Value = { List (Cell SLOTS) };
 
     ghost view = { λ p. p.cells };
 
-    ghost invariant = { λ p. length p.cells ≡ 8 };
+    ghost invariant = { λ p. (length p.cells ≡ 8) × AreTyped p.cells };
 
     ghost inverse = { λ cells. record { cells = cells } };
 }
@@ -36,6 +37,7 @@ impl<const SLOTS: usize> Page<SLOTS> {
         requires { IsSlotCount SLOTS }
         ensures exact { result ≡ fresh_page SLOTS page }
         ensures rules { IsPage page result }
+        ensures typed { AreTyped result }
     {
         let first = 8 * page as u32 + 1;
         Page {
@@ -56,6 +58,7 @@ impl<const SLOTS: usize> Page<SLOTS> {
     pub fn cell(&self, id: u32) -> &Cell<SLOTS>
         requires { HasId self.now id }
         ensures eight { length self.now ≡ 8 }
+        ensures typed { AreTyped self.now }
         ensures placed { result.now ≡ slice_index_or self.now (place_of id) result.now }
         ensures id { result.now.id ≡ id }
 

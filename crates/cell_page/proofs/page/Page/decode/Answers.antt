@@ -4,7 +4,7 @@ use Rattle.std.proofs.lemmas.List.{length-set, get_or-set_same, get_or-set_other
 use Rattle.cell_page.specs.declared.cell.Cell.{Cell}
 use Rattle.cell_page.specs.Format.{first_id, cell_size}
 use Rattle.cell_page.specs.Fields.{cell_in, bytes_at, broken_in_cell}
-use Rattle.cell_page.proofs.Pages.{page_read, page_refused, page_too_short}
+use Rattle.cell_page.proofs.Pages.{cells_read-typed, page_read, page_refused, page_too_short}
 use Rattle.cell_page.proofs.page.Page.decode.Goals as goal
 
 -- the slice of a cell is the bytes at its place
@@ -56,12 +56,24 @@ loop-place-preserved g c =
       ];
     }
 
+abbrev Read : (slots : ℕ) → List ℕ → List (Cell slots) → Type 0
+Read slots bytes cells = (place : ℕ) (d : Cell slots) → place < 8 → get_or cells place d ≡ cell_in slots (bytes_at slots bytes place)
+
+pub invariant_of-result : goal.invariant_of-result
+invariant_of-result g c =
+    let read : Read g.row.SLOTS c.args.bytes.now c.loop-place.cells = λ place d within. c.loop-place.invariant.read place d (omega arith) in
+    (c.loop-place.invariant.eight, cells_read-typed g.row.SLOTS c.args.bytes.now c.loop-place.cells (λ i. omega (arith, c.type_inv.bytes i)) c.loop-place.invariant.eight read)
+
+pub returns-clause-typed : goal.returns-clause-typed
+returns-clause-typed g c =
+    let read : Read g.row.SLOTS c.args.bytes.now c.loop-place.cells = λ place d within. c.loop-place.invariant.read place d (omega arith) in
+    cells_read-typed g.row.SLOTS c.args.bytes.now c.loop-place.cells (λ i. omega (arith, c.type_inv.bytes i)) c.loop-place.invariant.eight read
+
 pub returns-clause-ok : goal.returns-clause-ok
 returns-clause-ok g c =
     let slots = g.row.SLOTS in
     let bytes = c.args.bytes.now in
-    let read : (place : ℕ) (d : Cell slots) → place < 8 → get_or c.loop-place.cells place d ≡ cell_in slots (bytes_at slots bytes place) =
-      λ place d within. c.loop-place.invariant.read place d (omega arith) in
+    let read : Read slots bytes c.loop-place.cells = λ place d within. c.loop-place.invariant.read place d (omega arith) in
     let obeys : (place : ℕ) → place < 8 → broken_in_cell slots (first_id c.args.page + place) (bytes_at slots bytes place) ≡ None =
       λ place within. c.loop-place.invariant.obeys place (omega arith) in
     page_read slots c.args.page bytes c.loop-place.cells c.requires.count (λ i. omega (arith, c.type_inv.bytes i)) (omega arith) c.loop-place.invariant.eight read obeys
