@@ -3,7 +3,7 @@ use Rattle.std.proofs.Common.{◌≡◌, ℕ, zero, suc, ◌+◌, ◌*◌, ◌/�
 use Rattle.std.specs.Prelude.{slice_index, ◌==◌, ◌||◌, ◌&&◌}
 use Rattle.std.specs.Int.{bit_at}
 use Rattle.std.specs.List.{list_any}
-use Rattle.std.proofs.lemmas.Bool.{ltb-false, eqb-true, eqb-false, not-true, not-false, eq-eqb, ne_eqb, or_parts, or_from, and_from, and_cases, cases_Bool, cases_eq}
+use Rattle.std.proofs.lemmas.Bool.{ltb-false, eqb-true, eqb-false, not-true, not-false, eq-eqb, ne_eqb, or_parts, or_from, and_from, and_cases, cases_Bool, cases_eq, false≢true}
 use Rattle.std.proofs.lemmas.Nat.{pow_pos, shr_split, mod_below, div_below}
 use Rattle.std.proofs.lemmas.Nat.Bits.{bit_at-lt, bit_at-zero}
 use Rattle.cell_page.specs.declared.cell.Cell.{Cell}
@@ -151,3 +151,12 @@ obeyed_rules {slots} id c count cell =
         sym (live_obeys id c (bits_obey c live (no_high_bits c.bits slots cell.bounded) null) cell.placed live)
       | inr free ↦ ap (λ (d : Cell slots). first_broken (later_fields id d)) (cell.free free) ∙ blank_obeys slots id
     ]
+
+-- an object whose id, slots and pointer bits stay goes on to obey the rules, whatever its target bit, counts and payload become
+pub IsCell-same_slots : {slots : ℕ} (id : ℕ) (c d : Cell slots) → IsCell id c → d.live ≡ true → d.id ≡ c.id → d.bits ≡ c.bits → d.slots ≡ c.slots → IsCell id d
+IsCell-same_slots id c d cell live same_id bits targets = record {
+  placed = same_id ∙ cell.placed;
+  free = λ free. absurd (false≢true (sym free ∙ live));
+  bounded = rw bits cell.bounded;
+  null_bit = λ slot below null. rw bits (cell.null_bit slot below (rw targets at null));
+}
