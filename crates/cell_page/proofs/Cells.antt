@@ -1,15 +1,15 @@
 -- A cell, its bytes and its rules.
-use Rattle.std.proofs.Common.{◌≡◌, ℕ, zero, suc, ◌+◌, ◌-◌, ◌*◌, ◌/◌, ◌^◌, ◌<◌, ◌≤◌, Bool, true, false, not, ◌||◌, ◌&&◌, eqb, List, [], ◌∷◌, ◌++◌, length, get_or, take, drop, replicate, Option, Some, None, refl, sym, ap, subst, ◌∙◌, inl, inr, lit≤, arith}
+use Rattle.std.proofs.Common.{◌≡◌, ℕ, zero, suc, ◌+◌, ◌-◌, ◌*◌, ◌≤◌, Bool, true, false, List, [], ◌∷◌, ◌++◌, length, take, drop, replicate, None, refl, sym, ap, ◌∙◌, inl, inr, lit≤, arith}
 use Rattle.std.specs.Prelude.{slice_index, ◌==◌, nat_lt}
-use Rattle.std.specs.Int.{w16, w32, w64, to_be_bytes, bit_at}
-use Rattle.std.specs.List.{flat_map, list_any}
+use Rattle.std.specs.Int.{w32, to_be_bytes}
+use Rattle.std.specs.List.{flat_map}
 use Rattle.std.proofs.Math.Seq.{take-add}
 use Rattle.std.proofs.lemmas.List.{length-drop, take-append-drop, drop_at}
 use Rattle.std.proofs.lemmas.Bool.{ltb-false, eqb-false, ne_eqb}
 use Rattle.std.proofs.lemmas.Nat.{from_be_bytes-to_be_bytes_2, from_be_bytes-to_be_bytes_4, from_be_bytes-to_be_bytes_8}
 use Rattle.cell_page.specs.declared.cell.Cell.{Cell}
-use Rattle.cell_page.specs.Format.{IsSlotCount, IsCell, IsTyped, fields_size, cell_size, flag, field_bytes, cell_bytes, free_cell}
-use Rattle.cell_page.specs.Fields.{Field, number_at, numbers_in, cell_in, later_fields, rest_field, bits_break, sets_null_bit, slot_fields, first_broken, broken_in_cell}
+use Rattle.cell_page.specs.Format.{IsSlotCount, IsCell, IsTyped, fields_size, cell_size, flag, field_bytes, cell_bytes}
+use Rattle.cell_page.specs.Fields.{number_at, numbers_in, cell_in, later_fields, rest_field, first_broken, broken_in_cell}
 use Rattle.cell_page.proofs.Numbers.{IsBytes, IsBytes-drop, bytes_at_16, bytes_at_32, bytes_at_64, flat_map-numbers_in, numbers_in-flat_map, length-numbers_in, length-numbers, number_at_16-below, number_at_32-below, number_at_64-below, numbers_in-below}
 use Rattle.cell_page.proofs.Broken.{none_first, none_of-append, rest_decides}
 use Rattle.cell_page.proofs.Rules.{same_cell, rules_obeyed, obeyed_rules, zeros_since, zeros_test}
@@ -25,8 +25,8 @@ unfolding cell_in field_bytes number_at
 cell_in-field_bytes {slots} c rest typed =
     let targets = ap (λ (n : ℕ). numbers_in n (flat_map (to_be_bytes w32) c.slots ++ rest)) (sym typed.slot_count) ∙ numbers_in-flat_map c.slots rest typed.targets in
     same_cell c _ _ _ _ _ _ _ _ (flag_read c.live) (flag_read c.bit)
-      (from_be_bytes-to_be_bytes_2 c.bits typed.bits) (from_be_bytes-to_be_bytes_4 c.id typed.id) (from_be_bytes-to_be_bytes_4 c.strong typed.strong)
-      (from_be_bytes-to_be_bytes_4 c.weak typed.weak) (from_be_bytes-to_be_bytes_8 c.payload typed.payload) targets
+    (from_be_bytes-to_be_bytes_2 c.bits typed.bits) (from_be_bytes-to_be_bytes_4 c.id typed.id) (from_be_bytes-to_be_bytes_4 c.strong typed.strong)
+    (from_be_bytes-to_be_bytes_4 c.weak typed.weak) (from_be_bytes-to_be_bytes_8 c.payload typed.payload) targets
 
 -- ---- writing what was read
 
@@ -51,10 +51,10 @@ pub field_bytes-cell_in : (slots : ℕ) (bytes : List ℕ) → IsBytes bytes →
 unfolding cell_in field_bytes
 field_bytes-cell_in slots bytes fits room state bit =
     let slots-are : take 24 bytes ++ flat_map (to_be_bytes w32) (numbers_in slots (drop 24 bytes)) ≡ take (24 + 4 * slots) bytes =
-      rw (flat_map-numbers_in slots (drop 24 bytes) (IsBytes-drop 24 bytes fits) (omega (arith, length-drop 24 bytes))) (sym (take-add 24 (4 * slots) bytes)) in
+    rw (flat_map-numbers_in slots (drop 24 bytes) (IsBytes-drop 24 bytes fits) (omega (arith, length-drop 24 bytes))) (sym (take-add 24 (4 * slots) bytes)) in
     in_a_row _ _ _ _ _ _ _ _ _ _ _ _ _ _
-      (first_two bytes (omega arith) state bit) (bytes_at_16 bytes 2 fits (omega arith)) (bytes_at_32 bytes 4 fits (omega arith)) (bytes_at_32 bytes 8 fits (omega arith))
-      (bytes_at_32 bytes 12 fits (omega arith)) (bytes_at_64 bytes 16 fits (omega arith)) slots-are
+    (first_two bytes (omega arith) state bit) (bytes_at_16 bytes 2 fits (omega arith)) (bytes_at_32 bytes 4 fits (omega arith)) (bytes_at_32 bytes 8 fits (omega arith))
+    (bytes_at_32 bytes 12 fits (omega arith)) (bytes_at_64 bytes 16 fits (omega arith)) slots-are
 
 -- what stands in bytes is in the ranges of its types
 pub IsTyped-cell_in : (slots : ℕ) (bytes : List ℕ) → IsBytes bytes → IsTyped (cell_in slots bytes)
@@ -106,9 +106,10 @@ cell_read slots id bytes known fits size h =
     let rest_size : length (drop (fields_size slots) bytes) ≡ cell_size slots - fields_size slots = length-drop (fields_size slots) bytes ∙ ap (λ (n : ℕ). n - fields_size slots) size in
     let fields = field_bytes-cell_in slots bytes fits (omega arith) state (omega arith) in
     let front = ap (λ (xs : List ℕ). xs ++ drop (fields_size slots) bytes) (sym fields) in
-    let back = ap (λ (xs : List ℕ). field_bytes (cell_in slots bytes) ++ xs) (zeros ∙ ap (λ (n : ℕ). replicate n 0) rest_size) in
-    (rules_obeyed id (cell_in slots bytes) (target_bit_read slots bytes state bit) (slot_count_read slots bytes) parts.0,
-      sym (take-append-drop (fields_size slots) bytes) ∙ front ∙ back)
+    let back = ap (λ (xs : List ℕ). field_bytes (cell_in slots bytes) ++ xs) (zeros ∙ ap (λ (n : ℕ). replicate n 0) rest_size) in (
+      rules_obeyed id (cell_in slots bytes) (target_bit_read slots bytes state bit) (slot_count_read slots bytes) parts.0,
+      sym (take-append-drop (fields_size slots) bytes) ∙ front ∙ back,
+    )
 
 flag_small : (b : Bool) → flag b ≤ 1
 flag_small false = lit≤ tt

@@ -1,5 +1,5 @@
 -- A page, its bytes and its rules.
-use Rattle.std.proofs.Common.{◌≡◌, ℕ, zero, suc, ◌+◌, ◌-◌, ◌*◌, ◌%◌, ◌<◌, ◌≤◌, List, [], ◌∷◌, ◌++◌, length, get_or, take, drop, set, replicate, Some, None, refl, sym, ap, ◌∙◌, inl, inr, zero-mul, lit<, arith}
+use Rattle.std.proofs.Common.{◌≡◌, ℕ, zero, suc, ◌+◌, ◌-◌, ◌*◌, ◌%◌, ◌<◌, ◌≤◌, List, [], ◌∷◌, ◌++◌, length, get_or, take, drop, set, replicate, Some, None, sym, ap, ◌∙◌, inl, inr, zero-mul, lit<, arith}
 use Rattle.std.proofs.lemmas.List.{length-append, length-replicate, length-set, get_or-set_same, get_or-set_other, length-drop, length-take-le, take_at, drop_at, drop-drop, take-append-drop, nil_from_length, same_lists}
 use Rattle.std.proofs.lemmas.Bool.{cases_eq}
 use Rattle.std.proofs.lemmas.Nat.{row_fits, mod-mul-add}
@@ -90,7 +90,7 @@ page_read slots page bytes cells known fits size eight read obeys =
     record {
       rules = record { eight = eight; each = λ place d within. rw (read place d within) (laws place within).0 };
       spelled = page_bytes-from_pieces cells bytes (size ∙ ap (λ (n : ℕ). n * cell_size slots) (sym eight))
-        (λ place d below. let within : place < 8 = omega arith in (laws place within).1 ∙ ap cell_bytes (sym (read place d within)));
+          (λ place d below. let within : place < 8 = omega arith in (laws place within).1 ∙ ap cell_bytes (sym (read place d within)));
     }
 
 -- no page is spelled by bytes in which a field of a cell breaks the rules
@@ -100,7 +100,7 @@ page_refused {slots} page place at bytes known within broken cells typed spells 
     let d : Cell slots = free_cell slots 0 in
     let below : place < length cells = omega (arith, spells.rules.eight) in
     let piece : bytes_at slots bytes place ≡ cell_bytes (get_or cells place d) =
-      ap (λ (xs : List ℕ). bytes_at slots xs place) spells.spelled ∙ bytes_at-page_bytes cells place d known (have_slots cells typed) below in
+    ap (λ (xs : List ℕ). bytes_at slots xs place) spells.spelled ∙ bytes_at-page_bytes cells place d known (have_slots cells typed) below in
     let none = cell_again (first_id page + place) (get_or cells place d) (typed place d below) (spells.rules.each place d within) in
     let some : broken_in_cell slots (first_id page + place) (cell_bytes (get_or cells place d)) ≡ Some at = ap (broken_in_cell slots (first_id page + place)) (sym piece) ∙ broken in
     some_is_not_none at (sym some ∙ none)
@@ -125,7 +125,7 @@ unfolding cell_bytes
 cell_spelled {slots} page cells bytes place d known typed spells within =
     let below : place < length cells = omega (arith, spells.rules.eight) in
     let piece : bytes_at slots bytes place ≡ cell_bytes (get_or cells place d) =
-      ap (λ (xs : List ℕ). bytes_at slots xs place) spells.spelled ∙ bytes_at-page_bytes cells place d known (have_slots cells typed) below in
+    ap (λ (xs : List ℕ). bytes_at slots xs place) spells.spelled ∙ bytes_at-page_bytes cells place d known (have_slots cells typed) below in
     sym (ap (cell_in slots) piece ∙ cell_in-field_bytes (get_or cells place d) (replicate (cell_size slots - fields_size slots) 0) (typed place d below))
 
 pub same_page : {slots : ℕ} (page other : ℕ) (cells others : List (Cell slots)) (bytes : List ℕ) → IsSlotCount slots → AreTyped cells → AreTyped others
@@ -133,12 +133,12 @@ pub same_page : {slots : ℕ} (page other : ℕ) (cells others : List (Cell slot
 same_page {slots} page other cells others bytes known typed typed_others spells spells_others =
     let eight = spells.rules.eight ∙ sym spells_others.rules.eight in
     let same : (k : ℕ) (d : Cell slots) → k < length cells → get_or cells k d ≡ get_or others k d =
-      λ k d below. let within : k < 8 = omega (arith, spells.rules.eight) in
-        cell_spelled page cells bytes k d known typed spells within ∙ sym (cell_spelled other others bytes k d known typed_others spells_others within) in
+    λ k d below. let within : k < 8 = omega (arith, spells.rules.eight) in
+    cell_spelled page cells bytes k d known typed spells within ∙ sym (cell_spelled other others bytes k d known typed_others spells_others within) in
     let cells_are = same_lists cells others eight same in
     let d : Cell slots = free_cell slots 0 in
     let first : first_id page + 0 ≡ first_id other + 0 =
-      sym (spells.rules.each 0 d (lit< tt)).placed ∙ ap (λ (cs : List (Cell slots)). (get_or cs 0 d).id) cells_are ∙ (spells_others.rules.each 0 d (lit< tt)).placed in
+    sym (spells.rules.each 0 d (lit< tt)).placed ∙ ap (λ (cs : List (Cell slots)). (get_or cs 0 d).id) cells_are ∙ (spells_others.rules.each 0 d (lit< tt)).placed in
     (omega arith, cells_are)
 
 -- ---- the place of an id

@@ -1,5 +1,5 @@
 -- Slots beside their pointer bits: what stands there, and one of them changed.
-use Rattle.std.proofs.Common.{◌≡◌, ℕ, zero, suc, ◌+◌, ◌*◌, ◌%◌, ◌^◌, ◌<◌, Bool, true, false, List, [], ◌∷◌, length, get_or, set, replicate, refl, sym, ap, ◌∙◌, zero-add, arith}
+use Rattle.std.proofs.Common.{◌≡◌, ℕ, zero, suc, ◌+◌, ◌<◌, Bool, List, [], ◌∷◌, length, get_or, set, replicate, refl, arith}
 use Rattle.std.specs.Prelude.{◌==◌}
 use Rattle.std.specs.Int.{bit_at}
 use Rattle.std.proofs.lemmas.Nat.Bits.{bit_at-zero}
@@ -45,7 +45,7 @@ pointers_from-set bits new i (t ∷ ts) (suc slot) target bit below here others 
     let first : bit_at new i ≡ bit_at bits i = rw at at (others 0 (omega arith) (λ e. omega arith)) in
     let there : i + 1 + slot ≡ i + suc slot = omega arith in
     let rest = pointers_from-set bits new (i + 1) ts slot target bit (omega arith) (rw there here)
-      (λ k low other. let next : i + 1 + k ≡ i + suc k = omega arith in rw next (others (suc k) (omega arith) (λ e. other (omega arith)))) in
+    (λ k low other. let next : i + 1 + k ≡ i + suc k = omega arith in rw next (others (suc k) (omega arith) (λ e. other (omega arith)))) in
     rw (first, rest) refl
 
 -- null slots without bits

@@ -1,9 +1,9 @@
 -- Where no field after the target bit breaks the rules, the cell obeys them, and where it obeys them, none does.
-use Rattle.std.proofs.Common.{◌≡◌, ℕ, zero, suc, ◌+◌, ◌*◌, ◌/◌, ◌%◌, ◌^◌, ◌<◌, ◌≤◌, Bool, true, false, not, List, [], ◌∷◌, ◌++◌, length, get_or, replicate, Option, Some, None, refl, sym, ap, ◌∙◌, inl, inr, zero-add, arith}
-use Rattle.std.specs.Prelude.{slice_index, ◌==◌, ◌||◌, ◌&&◌}
+use Rattle.std.proofs.Common.{◌≡◌, ℕ, zero, suc, ◌+◌, ◌*◌, ◌/◌, ◌^◌, ◌<◌, Bool, true, false, not, List, [], ◌∷◌, length, replicate, None, refl, sym, ap, ◌∙◌, inl, inr, zero-add, arith}
+use Rattle.std.specs.Prelude.{slice_index, ◌==◌, ◌&&◌}
 use Rattle.std.specs.Int.{bit_at}
 use Rattle.std.specs.List.{list_any}
-use Rattle.std.proofs.lemmas.Bool.{ltb-false, eqb-true, eqb-false, not-true, not-false, eq-eqb, ne_eqb, or_parts, or_from, and_from, and_cases, cases_Bool, cases_eq, false≢true}
+use Rattle.std.proofs.lemmas.Bool.{eqb-true, eqb-false, not-false, eq-eqb, ne_eqb, or_parts, or_from, and_cases, cases_Bool, cases_eq, false≢true}
 use Rattle.std.proofs.lemmas.Nat.{pow_pos, shr_split, mod_below, div_below}
 use Rattle.std.proofs.lemmas.Nat.Bits.{bit_at-lt, bit_at-zero}
 use Rattle.cell_page.specs.declared.cell.Cell.{Cell}
@@ -128,7 +128,7 @@ rules_obeyed {slots} id c target_bit count h =
     record {
       placed = placed;
       free = λ free. blank_since id c free (target_bit free) (free_bits c bits.0 free) placed
-        (fills_not c.live c.strong free strong.0) (fills_not c.live c.weak free weak.0) (fills_not c.live c.payload free payload.0) (free_slots c free count payload.1);
+          (fills_not c.live c.strong free strong.0) (fills_not c.live c.weak free weak.0) (fills_not c.live c.payload free payload.0) (free_slots c free count payload.1);
       bounded = elim (cases_Bool c.live) [
         | inl live ↦ high_bits c.bits slots (zero_since (c.bits / 2 ^ slots) (live_bits c bits.0 live).0)
         | inr free ↦ rw (free_bits c bits.0 free) (pow_pos slots)
@@ -147,8 +147,8 @@ pub obeyed_rules : {slots : ℕ} (id : ℕ) (c : Cell slots) → length c.slots 
 obeyed_rules {slots} id c count cell =
     elim (cases_Bool c.live) [
       | inl live ↦
-        let null = null_bits-test c.bits 0 c.slots (λ slot below is. rw (zero-add slot) (cell.null_bit slot (omega arith) is)) in
-        sym (live_obeys id c (bits_obey c live (no_high_bits c.bits slots cell.bounded) null) cell.placed live)
+          let null = null_bits-test c.bits 0 c.slots (λ slot below is. rw (zero-add slot) (cell.null_bit slot (omega arith) is)) in
+          sym (live_obeys id c (bits_obey c live (no_high_bits c.bits slots cell.bounded) null) cell.placed live)
       | inr free ↦ ap (λ (d : Cell slots). first_broken (later_fields id d)) (cell.free free) ∙ blank_obeys slots id
     ]
 

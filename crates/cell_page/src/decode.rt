@@ -1,15 +1,15 @@
 //! Pages from bytes.
 
-use crate::bytes::{u16_at, u32_at, u64_at};
-use crate::cell::Cell;
-use crate::encode::{cell_len, SLOTS_AT};
-use crate::page::Page;
-
 ghost use Rattle.std.specs.Prelude.{◌≡◌, ◌==◌, ◌+◌, ◌*◌, ◌≤◌, ◌<◌, ℕ, List, Some, None, not, false, drop, length, IfSome, IfOk, OnOk, IfErr, OnErr};
 ghost use Rattle.std.specs.List.{list_any};
 ghost use Rattle.cell_page.specs.declared.cell.Cell.{Cell};
 ghost use Rattle.cell_page.specs.Format.{IsSlotCount, Spells, AreTyped, fields_size, cell_size, page_size, cell_bytes};
 ghost use Rattle.cell_page.specs.Fields.{numbers_in, cell_in, sets_null_bit, bits_break, slot_fields, later_fields, first_broken, broken_in_cell, FailsAt};
+
+use crate::bytes::{u16_at, u32_at, u64_at};
+use crate::cell::Cell;
+use crate::layout::{CELLS, SLOTS_AT, cell_len, first_id};
+use crate::page::Page;
 
 /// The bytes of a page break the page format.
 #[derive(Clone, Copy, PartialEq, Eq, Debug)]
@@ -20,7 +20,7 @@ pub struct BadCell {
 }
 
 /// Reads the slots of a cell, which follow its other fields.
-fn slots_of<const SLOTS: usize>(bytes: &[u8]) -> [u32; SLOTS]
+fn read_slots<const SLOTS: usize>(bytes: &[u8]) -> [u32; SLOTS]
     requires count { IsSlotCount SLOTS }
     requires room { fields_size SLOTS ≤ length bytes.now }
     ensures { result ≡ numbers_in SLOTS (drop 24 bytes.now) }
@@ -34,7 +34,7 @@ fn slots_of<const SLOTS: usize>(bytes: &[u8]) -> [u32; SLOTS]
 
 /// Reads the fields of a cell as they stand, whether or not they obey the rules.
 #[tactic(auto, unfolding(crate::specs::Fields::cell_in))]
-fn fields_of<const SLOTS: usize>(bytes: &[u8]) -> Cell<SLOTS>
+fn read_fields<const SLOTS: usize>(bytes: &[u8]) -> Cell<SLOTS>
     requires count { IsSlotCount SLOTS }
     requires room { fields_size SLOTS ≤ length bytes.now }
     ensures { result ≡ cell_in SLOTS bytes.now }
@@ -47,7 +47,7 @@ fn fields_of<const SLOTS: usize>(bytes: &[u8]) -> Cell<SLOTS>
         strong: u32_at(bytes, 8),
         weak: u32_at(bytes, 12),
         payload: u64_at(bytes, 16),
-        slots: slots_of(bytes),
+        slots: read_slots(bytes),
     }
 }
 
@@ -143,7 +143,7 @@ fn decode_cell<const SLOTS: usize>(bytes: &[u8], id: u32) -> Result<Cell<SLOTS>,
     if bytes[1] > state {
         return Err(1);
     }
-    let cell = fields_of(bytes);
+    let cell = read_fields(bytes);
     if let Some(at) = broken_field(&cell, id) {
         return Err(at);
     }
@@ -174,9 +174,9 @@ impl<const SLOTS: usize> Page<SLOTS> {
             });
         }
         let len = cell_len::<SLOTS>();
-        let first = 8 * page as u32 + 1;
-        let mut cells = [Cell::free(0); 8];
-        for place in 0..8 {
+        let first = first_id(page);
+        let mut cells = [Cell::free(0); CELLS];
+        for place in 0..CELLS {
             let start = place * len;
             match decode_cell(&bytes[start..start + len], first + place as u32) {
                 Ok(cell) => cells[place] = cell,

@@ -5,23 +5,13 @@ ghost use Rattle.std.specs.Int.{w32, to_be_bytes};
 ghost use Rattle.std.specs.List.{flat_map};
 ghost use Rattle.cell_page.specs.Format.{IsSlotCount, IsPage, AreTyped, fields_size, cell_size, page_size, field_bytes, cell_bytes, page_bytes};
 
-use crate::bytes::{put_u16, put_u32, put_u64, put_u8, put_zeros};
+use crate::bytes::{put_u8, put_u16, put_u32, put_u64, put_zeros};
 use crate::cell::Cell;
+use crate::layout::{CELLS, SLOTS_AT, cell_len};
 use crate::page::Page;
 
-/// How many bytes the fields before the slots take.
-pub(crate) const SLOTS_AT: usize = 24;
-
-/// How many bytes a cell takes: the least power of two that holds its fields.
-pub(crate) fn cell_len<const SLOTS: usize>() -> usize
-    requires { IsSlotCount SLOTS }
-    ensures { result ≡ cell_size SLOTS }
-{
-    if SLOTS == 6 { 64 } else { 128 }
-}
-
-/// Writes slots at their offset in a cell.
-fn put_slots(into: &mut [u8], slots: &[u32])
+/// Writes the slots of a cell, at their offset.
+fn encode_slots(into: &mut [u8], slots: &[u32])
     requires count { length slots.now ≤ 14 }
     requires room { 24 + 4 * length slots.now ≤ length into.old }
     ensures { take (24 + 4 * length slots.now) into.new ≡ take 24 into.old ++ flat_map (to_be_bytes w32) slots.now }
@@ -32,7 +22,7 @@ fn put_slots(into: &mut [u8], slots: &[u32])
 }
 
 /// Writes the fields of a cell.
-fn put_fields<const SLOTS: usize>(into: &mut [u8], cell: &Cell<SLOTS>)
+fn encode_fields<const SLOTS: usize>(into: &mut [u8], cell: &Cell<SLOTS>)
     requires count { IsSlotCount SLOTS }
     requires room { fields_size SLOTS ≤ length into.old }
     ensures { take (fields_size SLOTS) into.new ≡ field_bytes cell.now }
@@ -44,16 +34,16 @@ fn put_fields<const SLOTS: usize>(into: &mut [u8], cell: &Cell<SLOTS>)
     put_u32(into, 8, cell.strong);
     put_u32(into, 12, cell.weak);
     put_u64(into, 16, cell.payload);
-    put_slots(into, &cell.slots);
+    encode_slots(into, &cell.slots);
 }
 
 /// Writes a cell: its fields, and zero bytes after them.
-fn put_cell<const SLOTS: usize>(into: &mut [u8], cell: &Cell<SLOTS>)
+fn encode_cell<const SLOTS: usize>(into: &mut [u8], cell: &Cell<SLOTS>)
     requires count { IsSlotCount SLOTS }
     requires len { length into.old ≡ cell_size SLOTS }
     ensures { into.new ≡ cell_bytes cell.now }
 {
-    put_fields(into, cell);
+    encode_fields(into, cell);
     put_zeros(into, SLOTS_AT + 4 * SLOTS);
 }
 
@@ -63,10 +53,10 @@ impl<const SLOTS: usize> Page<SLOTS> {
         requires { IsSlotCount SLOTS }
         ensures { result ≡ page_size SLOTS }
     {
-        8 * cell_len::<SLOTS>()
+        CELLS * cell_len::<SLOTS>()
     }
 
-    /// Writes the one spelling of the page.
+    /// Writes the one spelling of the page, over bytes of just its length.
     pub fn encode(&self, into: &mut [u8])
         requires count { IsSlotCount SLOTS }
         requires len { length into.old ≡ page_size SLOTS }
@@ -77,7 +67,7 @@ impl<const SLOTS: usize> Page<SLOTS> {
         let len = cell_len::<SLOTS>();
         for (place, cell) in self.cells.iter().enumerate() {
             let start = place * len;
-            put_cell(&mut into[start..start + len], cell);
+            encode_cell(&mut into[start..start + len], cell);
         }
     }
 }

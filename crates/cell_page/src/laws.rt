@@ -11,5 +11,4 @@ pub fn spelled_once()
     ensures page { (slots page other : ℕ) (cells others : List (Cell slots)) (bytes : List ℕ) →
         IsSlotCount slots → AreTyped cells → AreTyped others →
         Spells page cells bytes → Spells other others bytes → (page ≡ other) × (cells ≡ others) }
-{
-}
+{}

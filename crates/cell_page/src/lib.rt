@@ -6,6 +6,7 @@ mod cell;
 mod decode;
 mod encode;
 mod laws;
+mod layout;
 mod page;
 
 pub use cell::{Cell, Seen};

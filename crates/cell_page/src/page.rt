@@ -4,15 +4,13 @@ ghost use Rattle.std.specs.Prelude.{◌≡◌, ◌+◌, ◌-◌, ◌*◌, ◌%�
 ghost use Rattle.cell_page.specs.Format.{IsSlotCount, IsCell, IsPage, AreTyped, fresh_page, place_of, HasId};
 
 use crate::cell::Cell;
+use crate::layout::{CELLS, first_id};
 use std::marker::Model;
-
-/// How many cells a page has.
-pub(crate) const CELLS: usize = 8;
 
 /// Eight cells, of ids one after another.
 #[derive(Clone, Copy, PartialEq, Eq, Debug)]
 pub struct Page<const SLOTS: usize> {
-    pub(crate) cells: [Cell<SLOTS>; 8],
+    pub(crate) cells: [Cell<SLOTS>; CELLS],
 }
 
 /// Contracts see a page as the list of its cells.
@@ -39,7 +37,7 @@ impl<const SLOTS: usize> Page<SLOTS> {
         ensures rules { IsPage page result }
         ensures typed { AreTyped result }
     {
-        let first = 8 * page as u32 + 1;
+        let first = first_id(page);
         Page {
             cells: [
                 Cell::fresh(first),

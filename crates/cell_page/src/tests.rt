@@ -22,7 +22,10 @@ fn new_store(rt: HostRuntime) {
 #[test]
 fn other_bytes(rt: HostRuntime) {
     assert_eq!(rt; Page::<6>::decode(0, &[2; 100]), Err(BadCell { at: 100 }));
-    assert_eq!(rt; Page::<6>::decode(1, &fresh_bytes()), Err(BadCell { at: 4 }));
+    assert_eq!(rt;
+        Page::<6>::decode(1, &fresh_bytes()),
+        Err(BadCell { at: 4 })
+    );
 }
 
 #[test]

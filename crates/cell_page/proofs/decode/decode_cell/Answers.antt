@@ -1,4 +1,4 @@
-use Rattle.std.proofs.Common.{◌≡◌, ℕ, ◌≤◌, List, length, take, Option, Some, None, drop, Bool, true, false, not, refl, sym, ap, ◌∙◌, ◌-◌}
+use Rattle.std.proofs.Common.{◌≡◌, ℕ, ◌≤◌, List, length, take, Some, None, drop, Bool, true, false, not, refl, sym, ap, ◌∙◌, ◌-◌}
 use Rattle.std.specs.Prelude.{slice_index, ◌==◌}
 use Rattle.std.specs.List.{list_any}
 use Rattle.std.proofs.lemmas.List.{take_rest}
@@ -24,15 +24,15 @@ rest_obeys slots id bytes state bit later rest =
 
 pub returns-in-Some-clause-breaks : goal.returns-in-Some-clause-breaks
 returns-in-Some-clause-breaks g c =
-    let later = sym (ap (λ (cell : Cell g.row.SLOTS). first_broken (later_fields c.args.id cell)) c.fields_of-cell.ensures) ∙ sym c.broken_field.ensures.first ∙ c.in-Some.is in
+    let later = sym (ap (λ (cell : Cell g.row.SLOTS). first_broken (later_fields c.args.id cell)) c.read_fields-cell.ensures) ∙ sym c.broken_field.ensures.first ∙ c.in-Some.is in
     later_breaks g.row.SLOTS c.args.id c.in-Some.at c.args.bytes.now c.if-state-gt1.false c.if-bytes-state.false later
 
 pub returns-then-has_nonzero-clause-breaks : goal.returns-then-has_nonzero-clause-breaks
 returns-then-has_nonzero-clause-breaks g c =
-    let later = sym (ap (λ (cell : Cell g.row.SLOTS). first_broken (later_fields c.args.id cell)) c.fields_of-cell.ensures) ∙ sym c.broken_field.ensures.first ∙ c.in_default.is in
+    let later = sym (ap (λ (cell : Cell g.row.SLOTS). first_broken (later_fields c.args.id cell)) c.read_fields-cell.ensures) ∙ sym c.broken_field.ensures.first ∙ c.in_default.is in
     rest_breaks g.row.SLOTS c.args.id c.args.bytes.now c.if-state-gt1.false c.if-bytes-state.false later (sym c.has_nonzero.ensures ∙ c.if-has_nonzero.true)
 
 pub returns-clause-obeys : goal.returns-clause-obeys
 returns-clause-obeys g c =
-    let later = sym (ap (λ (cell : Cell g.row.SLOTS). first_broken (later_fields c.args.id cell)) c.fields_of-cell.ensures) ∙ sym c.broken_field.ensures.first ∙ c.in_default.is in
+    let later = sym (ap (λ (cell : Cell g.row.SLOTS). first_broken (later_fields c.args.id cell)) c.read_fields-cell.ensures) ∙ sym c.broken_field.ensures.first ∙ c.in_default.is in
     rest_obeys g.row.SLOTS c.args.id c.args.bytes.now c.if-state-gt1.false c.if-bytes-state.false later (sym c.has_nonzero.ensures ∙ c.if-has_nonzero.false)

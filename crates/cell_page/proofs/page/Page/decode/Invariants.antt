@@ -10,5 +10,5 @@ invariant-loop-place g l =
     record {
       eight : length l.cells ≡ 8;
       read : (k : ℕ) (d : Cell g.row.SLOTS) → k < l.place → get_or l.cells k d ≡ cell_in g.row.SLOTS (bytes_at g.row.SLOTS l.bytes k);
-      obeys : (k : ℕ) → k < l.place → broken_in_cell g.row.SLOTS (first_id l.page + k) (bytes_at g.row.SLOTS l.bytes k) ≡ None
+      obeys : (k : ℕ) → k < l.place → broken_in_cell g.row.SLOTS (first_id l.page + k) (bytes_at g.row.SLOTS l.bytes k) ≡ None;
     }

@@ -1,4 +1,4 @@
-use Rattle.std.proofs.Common.{◌≡◌, ℕ, ◌+◌, ◌*◌, ◌<◌, ◌≤◌, List, [], ◌++◌, length, take, get_or, refl, ap, sym, ◌∙◌, arith}
+use Rattle.std.proofs.Common.{◌≡◌, ℕ, ◌+◌, ◌*◌, ◌<◌, ◌≤◌, List, [], length, take, get_or, refl, ap, sym, ◌∙◌, arith}
 use Rattle.std.proofs.lemmas.List.{take_more, flat_map_more}
 use Rattle.std.proofs.lemmas.Nat.{rows}
 use Rattle.std.proofs.lemmas.Slice.{take-put_mid}
@@ -20,6 +20,6 @@ one_more cells c place len k into piece below is spelled long room so_far =
 pub loop-place-preserved : goal.loop-place-preserved
 loop-place-preserved g c =
     let len = c.cell_len-len.result in
-    let size : length c.put_cell.new.into ≡ len = omega arith in
+    let size : length c.encode_cell.new.into ≡ len = omega arith in
     let room : c.loop-place.place * len ≤ length c.loop-place.into = grind (arith, rows) in
-    one_more c.self.inside.cells c.cell-item.result c.loop-place.place len _ c.loop-place.into c.put_cell.new.into (omega arith) c.cell-item.is (c.put_cell.ensures ∙ ap cell_bytes (sym c.cell-item.is)) size room c.loop-place.invariant
+    one_more c.self.inside.cells c.cell-item.result c.loop-place.place len _ c.loop-place.into c.encode_cell.new.into (omega arith) c.cell-item.is (c.encode_cell.ensures ∙ ap cell_bytes (sym c.cell-item.is)) size room c.loop-place.invariant

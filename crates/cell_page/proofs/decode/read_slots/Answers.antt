@@ -1,9 +1,9 @@
-use Rattle.std.proofs.Common.{◌≡◌, ℕ, ◌+◌, ◌*◌, ◌<◌, List, length, take, drop, set, ap, sym, ◌∙◌, refl, arith}
+use Rattle.std.proofs.Common.{◌≡◌, ℕ, ◌+◌, ◌*◌, ◌<◌, List, length, take, drop, set, ◌∙◌, refl, arith}
 use Rattle.std.specs.Int.{w32}
 use Rattle.std.proofs.lemmas.List.{take_more_set, length-set}
 use Rattle.cell_page.specs.Fields.{number_at, numbers_in}
 use Rattle.cell_page.proofs.Numbers.{numbers_in-more, number_at-drop}
-use Rattle.cell_page.proofs.decode.slots_of.Goals as goal
+use Rattle.cell_page.proofs.decode.read_slots.Goals as goal
 
 one_more : (slots bytes : List ℕ) (slot target : ℕ) → slot < length slots → target ≡ number_at w32 bytes (24 + 4 * slot)
     → take slot slots ≡ numbers_in slot (drop 24 bytes) → take (slot + 1) (set slots slot target) ≡ numbers_in (slot + 1) (drop 24 bytes)
