@@ -1,7 +1,7 @@
 -- A cell as the laws of a store see it: each slot beside its pointer bit.
-use Rattle.std.specs.Prelude.{ℕ, ◌+◌, ◌==◌, List, [], ◌∷◌}
+use Rattle.std.specs.Prelude.{ℕ, ◌+◌, ◌==◌, true, false, if◌then◌else◌, List, [], ◌∷◌, replicate}
 use Rattle.std.specs.Int.{bit_at}
-use Rattle.store_model.specs.Cells.{Pointer, Cell as StoredCell}
+use Rattle.store_model.specs.Cells.{Pointer, Cell as StoredCell, blank_cell}
 use Rattle.cell_page.specs.declared.cell.Cell.{Cell}
 
 -- the slots, the first of which has bit i
@@ -12,3 +12,10 @@ pointers_from bits i (target ∷ targets) = record { target = target; bit = bit_
 abbrev pub cell_of : {slots : ℕ} → Cell slots → StoredCell
 cell_of c =
     record { live = c.live; bit = c.bit; strong = c.strong; weak = c.weak; payload = c.payload; pointers = pointers_from c.bits 0 c.slots }
+
+-- the cells of a page of a new store: on page 0 the root stands first, with the one strong pointer of its own
+abbrev pub fresh_cells : (slots page : ℕ) → List StoredCell
+fresh_cells slots page =
+    if page == 0
+    then record (blank_cell true slots) { strong = 1 } ∷ replicate 7 (blank_cell false slots)
+    else replicate 8 (blank_cell false slots)

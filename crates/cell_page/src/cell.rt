@@ -1,5 +1,14 @@
 //! The cell, which holds an object of the store or is free.
 
+ghost use Rattle.std.specs.Prelude.{◌≡◌, ◌≢◌, ◌<◌, ◌^◌, ◌==◌, ℕ, true, false, slice_set};
+ghost use Rattle.std.specs.Int.{bit_at};
+ghost use Rattle.store_model.specs.Cells.{blank_cell, relink, pointer_in};
+ghost use Rattle.cell_page.specs.Format.{IsSlotCount, IsCell, IsTyped, free_cell, fresh_cell};
+ghost use Rattle.cell_page.specs.Pointers.{cell_of};
+
+/// The root's id.
+const ROOT: u32 = 1;
+
 /// A cell with room for one object. A live cell is a stored object.
 #[derive(Clone, Copy, PartialEq, Eq, Debug)]
 pub struct Cell<const SLOTS: usize> {
@@ -21,9 +30,6 @@ pub struct Cell<const SLOTS: usize> {
     pub slots: [u32; SLOTS],
 }
 
-/// The root's id.
-const ROOT: u32 = 1;
-
 /// What a collector round copies of a cell.
 #[derive(Clone, Copy, PartialEq, Eq, Debug)]
 pub struct Seen<const SLOTS: usize> {
@@ -34,12 +40,6 @@ pub struct Seen<const SLOTS: usize> {
     /// How many weak pointers lead to the object.
     pub weak: u32,
 }
-
-ghost use Rattle.std.specs.Prelude.{◌≡◌, ◌≢◌, ◌<◌, ◌^◌, ◌==◌, ℕ, true, false, slice_set};
-ghost use Rattle.std.specs.Int.{bit_at};
-ghost use Rattle.store_model.specs.Cells.{blank_cell, relink, pointer_in};
-ghost use Rattle.cell_page.specs.Format.{IsSlotCount, IsCell, IsTyped, free_cell, fresh_cell};
-ghost use Rattle.cell_page.specs.Pointers.{cell_of};
 
 impl<const SLOTS: usize> Cell<SLOTS> {
     /// A free cell of this id.

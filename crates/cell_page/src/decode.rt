@@ -155,7 +155,7 @@ fn decode_cell<const SLOTS: usize>(bytes: &[u8], id: u32) -> Result<Cell<SLOTS>,
 }
 
 impl<const SLOTS: usize> Page<SLOTS> {
-    /// The page of this number, from 0, that the bytes spell.
+    /// The page of this number, from 0, that the bytes spell. There are no more bytes than a page has.
     pub fn decode(page: u16, bytes: &[u8]) -> Result<Page<SLOTS>, BadCell>
         requires count { IsSlotCount SLOTS }
         requires fits { length bytes.now ≤ page_size SLOTS }

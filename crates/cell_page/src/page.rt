@@ -1,7 +1,8 @@
 //! The page, which holds eight cells.
 
-ghost use Rattle.std.specs.Prelude.{◌≡◌, ◌+◌, ◌-◌, ◌*◌, ◌%◌, ◌≤◌, ℕ, length, slice_index_or, slice_set};
+ghost use Rattle.std.specs.Prelude.{◌≡◌, ◌+◌, ◌-◌, ◌*◌, ◌%◌, ◌≤◌, ℕ, length, map, slice_index_or, slice_set};
 ghost use Rattle.cell_page.specs.Format.{IsSlotCount, IsCell, IsPage, AreTyped, fresh_page, place_of, HasId};
+ghost use Rattle.cell_page.specs.Pointers.{cell_of, fresh_cells};
 
 use crate::cell::Cell;
 use crate::layout::{CELLS, first_id};
@@ -13,7 +14,7 @@ pub struct Page<const SLOTS: usize> {
     pub(crate) cells: [Cell<SLOTS>; CELLS],
 }
 
-/// Contracts see a page as the list of its cells.
+/// Contracts see a page as the list of its cells. There are eight, and each number is in the range of its type.
 impl<const SLOTS: usize> Model for Page<SLOTS> {
     ghost use Rattle.std.specs.Prelude.{◌≡◌, List, length};
     ghost use Rattle.cell_page.specs.declared.cell.Cell.{Cell};
@@ -34,6 +35,7 @@ impl<const SLOTS: usize> Page<SLOTS> {
     pub fn fresh(page: u16) -> Page<SLOTS>
         requires { IsSlotCount SLOTS }
         ensures exact { result ≡ fresh_page SLOTS page }
+        ensures model { map cell_of result ≡ fresh_cells SLOTS page }
         ensures rules { IsPage page result }
         ensures typed { AreTyped result }
     {
