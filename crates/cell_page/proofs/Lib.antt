@@ -4,3 +4,4 @@ pub mod Rules
 pub mod Cells
 pub mod Pages
 pub mod PointerLemmas
+pub mod HeldPages

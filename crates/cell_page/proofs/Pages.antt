@@ -143,17 +143,17 @@ same_page {slots} page other cells others bytes known typed typed_others spells 
 
 -- ---- the place of an id
 
+pub place_within : (page id : ℕ) → first_id page ≤ id → id < first_id page + 8 → place_of id ≡ id - first_id page
+place_within page id low high =
+    let split : id - 1 ≡ page * 8 + (id - first_id page) = omega arith in
+    ap (λ (n : ℕ). n % 8) split ∙ mod-mul-add page 8 (id - first_id page) (omega arith)
+
 -- a page that obeys the rules has the ids of its number
 pub HasId-from_page : {slots : ℕ} (page id : ℕ) (cells : List (Cell slots)) → IsPage page cells → first_id page ≤ id → id < first_id page + 8 → HasId cells id
 HasId-from_page page id cells rules low high =
-    let place : place_of id ≡ id - first_id page = place_within page id low high in
+    let place = place_within page id low high in
     let within : place_of id < 8 = omega arith in
     record { above = omega arith; there = λ d. (rules.each (place_of id) d within).placed ∙ omega arith }
-  where
-    place_within : (page id : ℕ) → first_id page ≤ id → id < first_id page + 8 → place_of id ≡ id - first_id page
-    place_within page id low high =
-        let split : id - 1 ≡ page * 8 + (id - first_id page) = omega arith in
-        ap (λ (n : ℕ). n % 8) split ∙ mod-mul-add page 8 (id - first_id page) (omega arith)
 
 -- ---- one cell changed
 

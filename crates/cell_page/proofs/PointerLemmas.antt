@@ -7,7 +7,7 @@ use Rattle.std.proofs.lemmas.Nat.Bits.{bit_at-zero, bit_at-lt, same_from_bits_be
 use Rattle.store_model.specs.Cells.{Pointer, Cell as StoredCell, null, blank_cell}
 use Rattle.cell_page.specs.declared.cell.Cell.{Cell}
 use Rattle.cell_page.specs.Format.{IsCell, IsPage, IsTyped, AreTyped, first_id}
-use Rattle.cell_page.specs.Pointers.{pointers_from, cell_of}
+use Rattle.cell_page.specs.Stored.{pointers_from, cell_of}
 use Rattle.cell_page.proofs.Rules.{same_cell}
 
 pub length-pointers_from : (bits i : ℕ) (targets : List ℕ) → length (pointers_from bits i targets) ≡ length targets

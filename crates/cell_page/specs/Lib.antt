@@ -1,3 +1,3 @@
 pub mod Format
 pub mod Fields
-pub mod Pointers
+pub mod Stored

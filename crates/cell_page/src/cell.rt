@@ -4,7 +4,7 @@ ghost use Rattle.std.specs.Prelude.{◌≡◌, ◌≢◌, ◌<◌, ◌^◌, ◌=
 ghost use Rattle.std.specs.Int.{bit_at};
 ghost use Rattle.store_model.specs.Cells.{blank_cell, relink, pointer_in};
 ghost use Rattle.cell_page.specs.Format.{IsSlotCount, IsCell, IsTyped, free_cell, fresh_cell};
-ghost use Rattle.cell_page.specs.Pointers.{cell_of};
+ghost use Rattle.cell_page.specs.Stored.{cell_of};
 
 /// The root's id.
 const ROOT: u32 = 1;

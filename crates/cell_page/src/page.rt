@@ -2,7 +2,7 @@
 
 ghost use Rattle.std.specs.Prelude.{◌≡◌, ◌+◌, ◌-◌, ◌*◌, ◌%◌, ◌≤◌, ℕ, length, map, slice_index_or, slice_set};
 ghost use Rattle.cell_page.specs.Format.{IsSlotCount, IsCell, IsPage, AreTyped, fresh_page, place_of, HasId};
-ghost use Rattle.cell_page.specs.Pointers.{cell_of, fresh_cells};
+ghost use Rattle.cell_page.specs.Stored.{cell_of, fresh_cells};
 
 use crate::cell::Cell;
 use crate::layout::{CELLS, first_id};
