@@ -1,0 +1,7 @@
+pub mod Numbers
+pub mod Broken
+pub mod Rules
+pub mod Cells
+pub mod Pages
+pub mod PointerLemmas
+pub mod HeldPages

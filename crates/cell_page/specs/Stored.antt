@@ -1,0 +1,31 @@
+-- Cells and pages as the laws of a store see them: each slot beside its pointer bit.
+use Rattle.std.specs.Prelude.{◌≡◌, ℕ, ◌+◌, ◌==◌, true, false, if◌then◌else◌, List, [], ◌∷◌, map, take, drop, replicate}
+use Rattle.std.specs.Int.{bit_at}
+use Rattle.store_model.specs.Cells.{Pointer, Cell as StoredCell, blank_cell}
+use Rattle.cell_page.specs.declared.cell.Cell.{Cell}
+use Rattle.cell_page.specs.Format.{IsPage, first_id}
+
+-- the slots, the first of which has bit i
+abbrev pub pointers_from : (bits i : ℕ) → List ℕ → List Pointer
+pointers_from bits i [] = []
+pointers_from bits i (target ∷ targets) = record { target = target; bit = bit_at bits i == 1 } ∷ pointers_from bits (i + 1) targets
+
+abbrev pub cell_of : {slots : ℕ} → Cell slots → StoredCell
+cell_of c =
+    record { live = c.live; bit = c.bit; strong = c.strong; weak = c.weak; payload = c.payload; pointers = pointers_from c.bits 0 c.slots }
+
+-- the cells of a page of a new store: on page 0 the root stands first, with the one strong pointer of its own
+abbrev pub fresh_cells : (slots page : ℕ) → List StoredCell
+fresh_cells slots page =
+    if page == 0
+    then record (blank_cell true slots) { strong = 1 } ∷ replicate 7 (blank_cell false slots)
+    else replicate 8 (blank_cell false slots)
+
+-- the cells of a page of the store
+abbrev pub page_of : List StoredCell → ℕ → List StoredCell
+page_of cells page = take 8 (drop (first_id page) cells)
+
+-- what is held for this page of the store is a page that obeys the rules, with the store's cells
+pub record HoldsPage {slots : ℕ} (cells : List StoredCell) (page : ℕ) (held : List (Cell slots)) : Type 0 where
+  pub rules : IsPage page held
+  pub same : map cell_of held ≡ page_of cells page
