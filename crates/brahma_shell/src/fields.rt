@@ -34,7 +34,8 @@ fn blank_start(bytes: &[u8]) -> Option<usize>
 
 /// The first field, and the bytes behind it.
 pub(crate) fn next_field(bytes: &[u8]) -> Option<(&[u8], &[u8])>
-    ensures { MatchOption result (fields_of bytes.now ≡ []) (λ p. fields_of bytes.now ≡ p.0.now ∷ fields_of p.1.now) }
+    ensures { MatchOption result (fields_of bytes.now ≡ [])
+        (λ p. fields_of bytes.now ≡ p.0.now ∷ fields_of p.1.now) }
 {
     let Some(start) = field_start(bytes) else {
         return None;
@@ -46,7 +47,8 @@ pub(crate) fn next_field(bytes: &[u8]) -> Option<(&[u8], &[u8])>
 
 /// All fields of the bytes, where there are at most three.
 pub(crate) fn operands_of(bytes: &[u8]) -> Option<Operands<'_>>
-    ensures { MatchOption result (3 < length (fields_of bytes.now)) (λ o. fields_of bytes.now ≡ listed o) }
+    ensures { MatchOption result (3 < length (fields_of bytes.now))
+        (λ o. fields_of bytes.now ≡ listed o) }
 {
     let Some((first, rest)) = next_field(bytes) else {
         return Some(Operands::Nil);

@@ -1,7 +1,7 @@
 //! The lines of a script, out of one buffer.
-ghost use Rattle.std.specs.Prelude.{◌≡◌, ◌<◌, ◌≤◌, ◌+◌, ◌-◌, ℕ, List, [], ◌∷◌, ◌++◌, length, take, drop, slice_index, slice_range, ◌⊎◌, position, IfOk, OnErr, IfNone, Option, ◌==◌};
+ghost use Rattle.std.specs.Prelude.{◌≡◌, ◌<◌, ◌≤◌, ◌+◌, ◌-◌, [], length, take, drop, slice_range, ◌⊎◌, position, IfOk, OnErr, IfNone, Option, ◌==◌};
 ghost use Rattle.std.specs.Io.KnownBytes.{prepend_known, Keeps, IsAtEnd, ReadConsumes};
-ghost use Rattle.outside_io.specs.Causes.{Rose, HasCause};
+ghost use Rattle.outside_io.specs.Causes.{HasCause};
 ghost use Rattle.brahma_shell.specs.Lines.{line_feed, line_feeds};
 ghost use Rattle.brahma_shell.specs.Reading.{Finds, IsFirstLineFeed, without_return};
 
@@ -67,7 +67,8 @@ fn read_line_feed<R: Source>(
     requires none { line_feeds (take end.old buffer.old) ≡ 0 }
     ensures size { length buffer.new ≡ BUFFER }
     ensures within { end.new ≤ BUFFER }
-    ensures bytes { Keeps (prepend_known (take end.old buffer.old) (R.left source.old)) (prepend_known (take end.new buffer.new) (R.left source.new)) }
+    ensures bytes { Keeps (prepend_known (take end.old buffer.old) (R.left source.old))
+        (prepend_known (take end.new buffer.new) (R.left source.new)) }
     ensures found { IfOk result (IsFirstLineFeed buffer.new end.new) }
     ensures all { IfOk result (λ i. IfNone i (end.new < BUFFER → IsAtEnd (R.left source.new))) }
     ensures failed { OnErr result (line_feeds (take end.new buffer.new) ≡ 0) }
@@ -152,7 +153,8 @@ impl LineReader {
     /// Takes all pending bytes as the last line, where there are any.
     fn take_last_line(&mut self) -> Found
         ensures line { result ≡ Found.LastLine → current_line self.new ≡ pending self.old }
-        ensures one { (result ≡ Found.LastLine) × (0 < length (pending self.old)) ⊎ (result ≡ Found.End) × (length (pending self.old) ≡ 0) }
+        ensures one { (result ≡ Found.LastLine) × (0 < length (pending self.old))
+            ⊎ (result ≡ Found.End) × (length (pending self.old) ≡ 0) }
         ensures pending { pending self.new ≡ [] }
     {
         if self.start == self.end {
@@ -166,8 +168,13 @@ impl LineReader {
 
     /// Finds the next line.
     pub(crate) fn advance<R: Source>(&mut self, source: &mut R) -> Result<Found, ReadFailed>
-        ensures found { IfOk result (λ found. Finds found (prepend_known (pending self.old) (R.left source.old)) (prepend_known (pending self.new) (R.left source.new)) (current_line self.new)) }
-        ensures failed { OnErr result (Keeps (prepend_known (pending self.old) (R.left source.old)) (prepend_known (pending self.new) (R.left source.new)) × (line_feeds (pending self.new) ≡ 0)) }
+        ensures found { IfOk result (λ found.
+            Finds found (prepend_known (pending self.old) (R.left source.old))
+            (prepend_known (pending self.new) (R.left source.new)) (current_line self.new)) }
+        ensures failed { OnErr result (
+            Keeps (prepend_known (pending self.old) (R.left source.old))
+            (prepend_known (pending self.new) (R.left source.new))
+            × (line_feeds (pending self.new) ≡ 0)) }
         ensures cause { HasCause (R.faults source.old) (R.faults source.new) result }
     {
         if let Some(at) = first_line_feed(&self.buffer[self.start..self.end]) {

@@ -1,5 +1,5 @@
 //! What a line asks, done in the store.
-ghost use Rattle.std.specs.Prelude.{◌≡◌, ◌≢◌, ◌+◌, ◌<◌, ℕ, List, [], ◌∷◌, ◌++◌, replicate, IsSome, None, IfOk, OnErr, Option};
+ghost use Rattle.std.specs.Prelude.{◌≡◌, ◌+◌, ◌<◌, [], ◌∷◌, ◌++◌, replicate, IsSome, None, IfOk, OnErr, Option};
 ghost use Rattle.plain_model.specs.Machine.{IsInRange, transaction_of};
 ghost use Rattle.plain_model.specs.History.{end_of, left_to_undo, with_entry};
 ghost use Rattle.brahma_shell.specs.Grammar.{IsLineInRange};
@@ -22,7 +22,8 @@ pub(crate) struct Answer {
 fn ask(journal: &mut Journal, client: u8, call: Call) -> Result<Answer, Memory>
     requires in_range { IsInRange 6 call }
     requires no_abort { call ≡ Call.Abort → transaction_of (end_of journal.old.history).state client ≡ None }
-    ensures ok { IfOk result (λ a. (a.client ≡ client) × (a.call ≡ call) × (journal.new.history ≡ with_entry journal.old.history (Entry.Call client call a.reply))) }
+    ensures ok { IfOk result (λ a. (a.client ≡ client) × (a.call ≡ call)
+        × (journal.new.history ≡ with_entry journal.old.history (Entry.Call client call a.reply))) }
     ensures err { OnErr result (journal.new ≡ journal.old) }
 {
     let reply = journal.apply(client, &call);
@@ -39,7 +40,9 @@ fn ask(journal: &mut Journal, client: u8, call: Call) -> Result<Answer, Memory>
 /// Undoes each write of the client's transaction that isn't undone, and ends the transaction.
 fn abort(journal: &mut Journal, client: u8)
     requires { IsSome (transaction_of (end_of journal.old.history).state client) }
-    ensures { journal.new.history ≡ with_entries journal.old.history (replicate (left_to_undo (end_of journal.old.history) client) (Entry.Undo client) ++ Entry.Call client Call.Abort Reply.Done ∷ []) }
+    ensures { journal.new.history ≡ with_entries journal.old.history
+        (replicate (left_to_undo (end_of journal.old.history) client) (Entry.Undo client)
+        ++ Entry.Call client Call.Abort Reply.Done ∷ []) }
 {
     'steps: loop {
         match journal.abort_step(client) {
@@ -52,7 +55,8 @@ fn abort(journal: &mut Journal, client: u8)
 /// Does what the line asks. Answers what is to be printed, where there is something.
 pub(crate) fn perform(journal: &mut Journal, line: &Line) -> Result<Option<Answer>, Memory>
     requires { IsLineInRange line.now }
-    ensures ok { IfOk result (λ answer. Performs journal.old.history journal.new.history line.now (answer_text answer)) }
+    ensures ok { IfOk result (λ answer.
+        Performs journal.old.history journal.new.history line.now (answer_text answer)) }
     ensures err { OnErr result (journal.new ≡ journal.old) }
 {
     match *line {
