@@ -8,11 +8,11 @@ use Rattle.std.specs.Ordering.{nat_cmp, is_eq, match_ordering}
 use Rattle.std.specs.BTreeMap.{is_at, insert_entry}
 use Rattle.std.proofs.lemmas.Bool.{cases_eq, cases_order, cond-true, cond-false}
 use Rattle.std.proofs.lemmas.List.Sums.{fold-append, sum_by_push}
-use Rattle.std.proofs.lemmas.List.Elements.{Contains-append_cases, Contains-append_left, Contains-append_right}
+use Rattle.std.proofs.lemmas.List.Elements.{Contains-append_cases, Contains-append_left, Contains-append_right, All-from_recursion, All-contains}
 use Rattle.plain_model.specs.declared.object.Object.{Object}
 use Rattle.plain_model.specs.declared.write.Place.{Place}
 use Rattle.plain_model.specs.declared.write.Write.{Write}
-use Rattle.plain_model.specs.Graphs.{object_at, without}
+use Rattle.plain_model.specs.Graphs.{object_at, applied}
 use Rattle.plain_model.specs.ActiveTransaction.{ActiveTransaction}
 use Rattle.plain_model.specs.Machine.{State, own_graph, transaction_of, new_transaction}
 use Rattle.plain_model.specs.declared.calls.Entry.TheVariants.{Delete, Undo}
@@ -258,9 +258,10 @@ module _ (m : Moment) (i : IsSoundState m.state) (pass : ℕ) (t : ActiveTransac
         let n : count_by can_be_undone t.writes - (m.undone pass + 1) ≡ count_by can_be_undone first = omega (arith, turn) in
         ap₂ (λ n ws. first_writes n ws) n split ∙ zero-writes first (record { id = y; place = place; value = v } ∷ later)
 
-    -- the object with the write, from the object without it; the others stay
-    pub current-undone : (x : ℕ) → object_at (current m) x ≡ cond (y == x) (place_at m.state.slots x place v (object_at (current (next m (Undo pass))) x)) (object_at (current (next m (Undo pass))) x)
-    current-undone x =
+    -- an object after the undo
+    after-undone : (x : ℕ) → object_at (current (next m (Undo pass))) x
+        ≡ object_in m.state.slots m.undone x (writes_at m.state.slots x (writes_at m.state.slots x (object_in m.state.slots m.undone x (object_at m.state.committed x) undo-replaces.pre) first) (first_writes zero later)) undo-replaces.post
+    after-undone x =
         let w : Write = record { id = y; place = place; value = v } in
         let n = next m (Undo pass) in
         let slots = m.state.slots in
@@ -275,29 +276,58 @@ module _ (m : Moment) (i : IsSoundState m.state) (pass : ℕ) (t : ActiveTransac
         let pre_same = each_apart r.pre (λ e. other e.0 ≡ undone e.0) pass same_at (Ascend-before r.pre (pass, t) r.post at) in
         let post_same = each_apart r.post (λ e. other e.0 ≡ undone e.0) pass same_at (above-apart pass r.post (Ascend-after r.pre (pass, t) r.post at)) in
         let G : Option Object → Write → Option Object = λ o w. cond (w.id == x) (place_at slots x w.place w.value o) o in
+        let o1 = object_in slots undone x g0 r.pre in
+        let wholes = first_writes zero later in
+        let skipped : first_writes zero (w ∷ later) ≡ wholes = cond-true (can_be_undone w) wholes (w ∷ wholes) undoable in
+        current-object n x ∙ (ap (object_in slots other x g0) r.after ∙ (object_in-split slots other x g0 r.pre (pass, u) r.post
+        ∙ (object_in-undone slots undone other x (writes_at slots x (object_in slots other x g0 r.pre) (first_writes (count_by can_be_undone u.writes - other pass) u.writes)) r.post post_same
+        ∙ ap (λ o. object_in slots undone x o r.post) (ap₂ (λ o n. writes_at slots x o (first_writes (count_by can_be_undone t.writes - n) t.writes)) (object_in-undone slots undone other x g0 r.pre pre_same) one_more
+        ∙ (ap (writes_at slots x o1) (left-after ∙ ap (λ ws. first ++ ws) skipped) ∙ fold-append G o1 first wholes)))))
+
+    -- nothing comes to it behind the write
+    nothing-behind : (o : Option Object) → object_in m.state.slots m.undone y (writes_at m.state.slots y o (first_writes zero later)) undo-replaces.post ≡ o
+    nothing-behind o =
+        object_in-apart m.state.slots m.undone y (writes_at m.state.slots y o (first_writes zero later)) undo-replaces.post (alone-post m.state i pass y t (record t { aborting = true }) (with_aborting pass m.state.active) alone undo-replaces)
+        ∙ writes_at-apart m.state.slots y o (first_writes zero later) (only_whole (λ w. w.id ≢ y) later made_before)
+
+    -- the object with the write, from the object without it; the others stay
+    pub current-undone : (x : ℕ) → object_at (current m) x ≡ cond (y == x) (place_at m.state.slots x place v (object_at (current (next m (Undo pass))) x)) (object_at (current (next m (Undo pass))) x)
+    current-undone x =
+        let w : Write = record { id = y; place = place; value = v } in
+        let n = next m (Undo pass) in
+        let slots = m.state.slots in
+        let undone = m.undone in
+        let r = undo-replaces in
+        let g0 = object_at m.state.committed x in
+        let G : Option Object → Write → Option Object = λ o w. cond (w.id == x) (place_at slots x w.place w.value o) o in
         let P : Option Object → Option Object = place_at slots x place v in
         let o1 = object_in slots undone x g0 r.pre in
         let O = writes_at slots x o1 first in
         let wholes = first_writes zero later in
-        let skipped : first_writes zero (w ∷ later) ≡ wholes = cond-true (can_be_undone w) wholes (w ∷ wholes) undoable in
         let F : Option Object → Option Object = λ o. object_in slots undone x (writes_at slots x o wholes) r.post in
         let before : object_at (current m) x ≡ F (cond (y == x) (P O) O) =
         current-object m x ∙ (ap (object_in slots undone x g0) r.before ∙ (object_in-split slots undone x g0 r.pre (pass, t) r.post
         ∙ ap (λ o. object_in slots undone x o r.post) (ap (writes_at slots x o1) left-before ∙ (fold-append G o1 (first ++ w ∷ []) wholes ∙ ap (λ p. writes_at slots x p wholes) (fold-append G o1 first (w ∷ [])))))) in
-        let after : object_at (current n) x ≡ F O =
-        current-object n x ∙ (ap (object_in slots other x g0) r.after ∙ (object_in-split slots other x g0 r.pre (pass, u) r.post
-        ∙ (object_in-undone slots undone other x (writes_at slots x (object_in slots other x g0 r.pre) (first_writes (count_by can_be_undone u.writes - other pass) u.writes)) r.post post_same
-        ∙ ap (λ o. object_in slots undone x o r.post) (ap₂ (λ o n. writes_at slots x o (first_writes (count_by can_be_undone t.writes - n) t.writes)) (object_in-undone slots undone other x g0 r.pre pre_same) one_more
-        ∙ (ap (writes_at slots x o1) (left-after ∙ ap (λ ws. first ++ ws) skipped) ∙ fold-append G o1 first wholes))))) in
+        let after : object_at (current n) x ≡ F O = after-undone x in
         let N = object_at (current n) x in
         ⊎_elim
         (λ (q : y ≡ x).
-        let unmade : AllByRecursion (λ w. w.id ≢ x) wholes = subst (λ z. AllByRecursion (λ w. w.id ≢ z) wholes) q (only_whole (λ w. w.id ≢ y) later made_before) in
-        let quiet : (o : Option Object) → F o ≡ o = λ o.
-        (object_in-apart slots undone x (writes_at slots x o wholes) r.post (subst (λ z. AllByRecursion (λ e. AllByRecursion (λ w. w.id ≢ z) e.1.writes) r.post) q (alone-post m.state i pass y t u (with_aborting pass m.state.active) alone r)) ∙ writes_at-apart slots x o wholes unmade) in
+        let quiet : (o : Option Object) → F o ≡ o = λ o. subst (λ z. object_in slots undone z (writes_at slots z o wholes) r.post ≡ o) q (nothing-behind o) in
         before ∙ (quiet (cond (y == x) (P O) O) ∙ (cond-true (y == x) (P O) O (eq-eqb y x q) ∙ (ap P (sym (after ∙ quiet O)) ∙ sym (cond-true (y == x) (P N) N (eq-eqb y x q))))))
         (λ d. before ∙ (ap F (cond-false (y == x) (P O) O (ne_eqb y x d)) ∙ (sym after ∙ sym (cond-false (y == x) (P N) N (ne_eqb y x d)))))
         (cases_eq y x)
+
+    -- the object without the write is as the transaction saw it before the write
+    pub undone-object : object_at (current (next m (Undo pass))) y ≡ object_at (applied m.state.slots m.state.committed first) y
+    undone-object =
+        let slots = m.state.slots in
+        let r = undo-replaces in
+        let g0 = object_at m.state.committed y in
+        let was : (e : ℕ × ActiveTransaction) → Contains r.pre e → Contains m.state.active e = λ e k. subst (λ l. Contains l e) (sym r.before) (Contains-append_left r.pre ((pass, t) ∷ r.post) e k) in
+        let others : (e : ℕ × ActiveTransaction) → Contains r.pre e → e.0 ≢ pass = λ e k. All-contains (λ (e : ℕ × ActiveTransaction). e.0 ≢ pass) r.pre e (All-from_recursion (λ (e : ℕ × ActiveTransaction). e.0 ≢ pass) r.pre (Ascend-before r.pre (pass, t) r.post (subst PassesAscend r.before i.passes))) k in
+        let pre = each (λ e. AllByRecursion (λ w. w.id ≢ y) e.1.writes) r.pre (λ e k. alone e (was e k) (others e k)) in
+        after-undone y ∙ (nothing-behind (writes_at slots y (object_in slots m.undone y g0 r.pre) first)
+        ∙ (ap (λ o. writes_at slots y o first) (object_in-apart slots m.undone y g0 r.pre pre) ∙ sym (object_at-after_writes slots m.state.committed first y)))
 
 -- ---- a deletion
 

@@ -7,7 +7,7 @@ use Rattle.plain_model.specs.History.{Moment}
 use Rattle.plain_laws.specs.Sound.{IsSoundState}
 use Rattle.store_model.specs.Cells.{Cell, blank_cell, cell_at, is_live, object_of, IsExact}
 use Rattle.store_model.specs.Strong.{HasNoStrongCycle}
-use Rattle.store_model.specs.Core.{current}
+use Rattle.store_model.specs.Core.{IsMadeFirst, current}
 
 -- the cells of a store are consistent, where its ids go from 1 to `ids` and each live cell has so many slots
 pub record AreConsistent (slots ids : ℕ) (cells : List Cell) : Type 0 where
@@ -36,3 +36,5 @@ pub record IsSoundCells (cells : List Cell) (m : Moment) : Type 0 where
   pub current : (id : ℕ) → has_object (current m) id ≡ true → IsCurrentCell cells m id
   -- a transaction that isn't being undone has all its writes
   pub none_undone : (e : ℕ × ActiveTransaction) → Contains m.state.active e → e.1.aborting ≡ false → m.undone e.0 ≡ 0
+  -- and made each object before it wrote to it
+  pub made_first : (e : ℕ × ActiveTransaction) → Contains m.state.active e → IsMadeFirst e.1.writes
