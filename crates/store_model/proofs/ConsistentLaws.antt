@@ -31,7 +31,7 @@ turned-length : (u : ℕ) (ps : List Pointer) → length (map (turned u) ps) ≡
 turned-length u [] = refl
 turned-length u (p ∷ ps) = let ih = turned-length u ps in omega (arith, ih)
 
-blank-length : (n : ℕ) → length (replicate n null) ≡ n
+pub blank-length : (n : ℕ) → length (replicate n null) ≡ n
 blank-length zero = refl
 blank-length (suc n) = let ih = blank-length n in omega (arith, ih)
 
