@@ -30,6 +30,7 @@ use Rattle.store_model.proofs.Lists.{each, Contains-here}
 use Rattle.store_model.proofs.EditLaws.{live-there, live-within, edit-here, edit-other, edit-keeps}
 use Rattle.store_model.proofs.CountLaws.{relinked-live}
 use Rattle.store_model.proofs.DeletionLaws.{target-map}
+use Rattle.store_model.proofs.CurrentCells.{pays-object, pays-object_other, undo-paid, cond-there, written-cell, undone-cell}
 use Rattle.store_model.proofs.ConsistentLaws.{consistent-kept}
 use Rattle.store_model.proofs.MadeFirst.{made_first-push, made_first-later}
 use Rattle.store_model.proofs.StateLaws.{state-begun, state-got, state-set, state-undone}
@@ -43,28 +44,6 @@ use Rattle.store_model.proofs.MakeSound.{stored-insert, differ}
 use Rattle.store_model.proofs.StoreSound.{apart-cases}
 use Rattle.store_model.proofs.MomentLaws.{inserts, insert-cases, current-begun, current-unwritten, current-written, seen-current, current-committed, current-aborted, current-written_alone, undo-replaces, current-undone, undone-object}
 
--- ---- objects of cells
-
-pub pays-object : (cells : List Cell) (y value : ℕ) → y ≢ 0 → y < length cells → object_of y (cell_at (edit cells y (pays value)) y) ≡ set_place Payload value (object_of y (cell_at cells y))
-pays-object cells y value n l = ap (object_of y) (edit-here cells y (pays value) n l)
-
-pub pays-object_other : (cells : List Cell) (y value x : ℕ) → x ≢ y → object_of x (cell_at (edit cells y (pays value)) x) ≡ object_of x (cell_at cells x)
-pays-object_other cells y value x n = ap (object_of x) (edit-other cells y x (pays value) n)
-
-map-there : (f : Object → Object) (o : Option Object) → is_some (option_map f o) ≡ is_some o
-map-there f None = refl
-map-there f (Some o) = refl
-
--- a payload before it was written over
-pub undo-paid : (o : Option Object) (b : Object) (v to : ℕ) → option_map (set_place Payload v) o ≡ Some b → to ≡ option_map_or (λ (o : Object). o.payload) o 0 → o ≡ Some (set_place Payload to b)
-undo-paid None b v to e q = cc
-undo-paid (Some o) b v to e q =
-    let is : set_place Payload v o ≡ b = ap (λ x. option_map_or (λ (o : Object). o) x o) e in
-    ap (λ n. Some (paid o n)) (sym q) ∙ ap (λ x. Some (set_place Payload to x)) is
-  where
-    paid : Object → ℕ → Object
-    paid o n = record { id = o.id; slots = o.slots; payload = n }
-
 -- ---- current cells
 
 -- an object is written, and its cell with it
@@ -73,16 +52,7 @@ written-current : (cells after : List Cell) (m n : Moment) (y : ℕ) (f : Object
     → ((x : ℕ) → has_object (current m) x ≡ true → IsCurrentCell cells m x) → (x : ℕ) → has_object (current n) x ≡ true → IsCurrentCell after n x
 written-current cells after m n y f is live own others s x h =
     let B = object_at (current m) x in
-    ⊎_elim
-    (λ (q : y ≡ x).
-    let now : object_at (current n) x ≡ option_map f B = is x ∙ cond-true (y == x) (option_map f B) B (eq-eqb y x q) in
-    let c = s x (sym (map-there f B) ∙ (ap is_some (sym now) ∙ h)) in
-    record { live = live x ∙ c.live; contents = now ∙ (ap (option_map f) c.contents ∙ ap Some (sym (subst (λ z. object_of z (cell_at after z) ≡ f (object_of z (cell_at cells z))) q own))) })
-    (λ d.
-    let now : object_at (current n) x ≡ B = is x ∙ cond-false (y == x) (option_map f B) B (ne_eqb y x d) in
-    let c = s x (ap is_some (sym now) ∙ h) in
-    record { live = live x ∙ c.live; contents = now ∙ (c.contents ∙ ap Some (sym (others x (λ q. d (sym q))))) })
-    (cases_eq y x)
+    written-cell cells after m n y f is live own others x (s x (sym (cond-there (y == x) f B) ∙ (ap is_some (sym (is x)) ∙ h)))
 
 -- the objects stay
 same-current : (cells : List Cell) (m n : Moment) → ((x : ℕ) → object_at (current n) x ≡ object_at (current m) x) → ((x : ℕ) → has_object (current m) x ≡ true → IsCurrentCell cells m x) → (x : ℕ) → has_object (current n) x ≡ true → IsCurrentCell cells n x
@@ -94,18 +64,7 @@ undone-current : (cells after : List Cell) (m n : Moment) (y : ℕ) (f g : Objec
     → ((x : ℕ) → is_live after x ≡ is_live cells x) → object_of y (cell_at after y) ≡ g (object_of y (cell_at cells y)) → ((x : ℕ) → x ≢ y → object_of x (cell_at after x) ≡ object_of x (cell_at cells x))
     → ((x : ℕ) → has_object (current m) x ≡ true → IsCurrentCell cells m x) → (x : ℕ) → has_object (current n) x ≡ true → IsCurrentCell after n x
 undone-current cells after m n y f g is back live own others s x h =
-    let N = object_at (current n) x in
-    ⊎_elim
-    (λ (q : y ≡ x).
-    let had : object_at (current m) x ≡ option_map f N = is x ∙ cond-true (y == x) (option_map f N) N (eq-eqb y x q) in
-    let c = s x (ap is_some had ∙ (map-there f N ∙ h)) in
-    let now = subst (λ z. (b : Object) → option_map f (object_at (current n) z) ≡ Some b → object_at (current n) z ≡ Some (g b)) q back (object_of x (cell_at cells x)) (sym had ∙ c.contents) in
-    record { live = live x ∙ c.live; contents = now ∙ ap Some (sym (subst (λ z. object_of z (cell_at after z) ≡ g (object_of z (cell_at cells z))) q own)) })
-    (λ d.
-    let had : object_at (current m) x ≡ N = is x ∙ cond-false (y == x) (option_map f N) N (ne_eqb y x d) in
-    let c = s x (ap is_some had ∙ h) in
-    record { live = live x ∙ c.live; contents = sym had ∙ (c.contents ∙ ap Some (sym (others x (λ q. d (sym q))))) })
-    (cases_eq y x)
+    undone-cell cells after m n y f g is back live own others x (s x (ap is_some (is x) ∙ (cond-there (y == x) f (object_at (current n) x) ∙ h)))
 
 -- ---- Begin
 
