@@ -171,22 +171,22 @@ module _ (c : Core) (s : IsSound c) (x : ℕ) (rest : List ℕ) (first : c.queue
 -- ---- in an open round
 
 module _ (c : Core) (s : IsSound c) (r : Round) (q : c.round ≡ Some r) where
-  list-is : in_round c ≡ r.list
+  pub list-is : in_round c ≡ r.list
   list-is = ap (λ o. option_map_or (λ (r : Round). r.list) o []) q
 
-  doomed-is : doomed_of c ≡ r.doomed
+  pub doomed-is : doomed_of c ≡ r.doomed
   doomed-is = ap (λ o. option_map_or (λ (r : Round). r.doomed) o []) q
 
-  in_list : (x : ℕ) → Contains (in_round c) x → Contains r.list x
+  pub in_list : (x : ℕ) → Contains (in_round c) x → Contains r.list x
   in_list x m = subst (λ l. Contains l x) list-is m
 
-  from_list : (x : ℕ) → Contains r.list x → Contains (in_round c) x
+  pub from_list : (x : ℕ) → Contains r.list x → Contains (in_round c) x
   from_list x m = subst (λ l. Contains l x) (sym list-is) m
 
-  from_doomed : (x : ℕ) → Contains r.doomed x → Contains (doomed_of c) x
+  pub from_doomed : (x : ℕ) → Contains r.doomed x → Contains (doomed_of c) x
   from_doomed x m = subst (λ l. Contains l x) (sym doomed-is) m
 
-  once_listed : IsOnce r.list
+  pub once_listed : IsOnce r.list
   once_listed = subst IsOnce list-is s.round_once
 
   copied : r.judged ≡ false → (id : ℕ) (copy : Copy) → Contains r.copies (id, copy) → Contains r.touched id ⊎ (copy ≡ copy_of (cell_at c.cells id))
