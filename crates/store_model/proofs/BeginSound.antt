@@ -95,14 +95,14 @@ module _ (c : Core) (s : IsSound c) (pass : ℕ) (a : transaction_of c.moment.st
         registers = by_entry (λ e. (id : ℕ) → Contains e.1.registers (Some id) → IsKnown (after_begin c pass) e id) (λ e m n id h. known e id (s.registers e m id h)) (λ id h. root_itself (new-registers id h));
         copies = s.copies;
         copied_listed = s.copied_listed;
-        doomed = record {
-          live = s.doomed.live;
-          not_root = s.doomed.not_root;
-          not_named = s.doomed.not_named;
-          within = s.doomed.within;
-          not_locked = λ id d. by_entry (λ e. holds id e.1 ≡ false) (λ e m n. s.doomed.not_locked id d e m) refl;
+        condemned = record {
+          live = s.condemned.live;
+          not_root = s.condemned.not_root;
+          not_named = s.condemned.not_named;
+          within = s.condemned.within;
+          not_locked = λ id d. by_entry (λ e. holds id e.1 ≡ false) (λ e m n. s.condemned.not_locked id d e m) refl;
         };
-        doomed_listed = s.doomed_listed;
+        condemned_listed = s.condemned_listed;
       }
     where
       known : (e : ℕ × ActiveTransaction) (id : ℕ) → IsKnown c e id → IsKnown (after_begin c pass) e id

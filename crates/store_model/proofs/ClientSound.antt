@@ -11,13 +11,13 @@ use Rattle.plain_model.specs.History.{holds}
 use Rattle.plain_laws.specs.Sound.{IsSoundState}
 use Rattle.store_model.specs.Cells.{Pointer, Cell, cell_at, pointer_at, is_live, relinked}
 use Rattle.store_model.specs.Core.{Ref, Copy, Round, Core, names, IsActive, slot_in, slot_value, new_target, has_slot, touches, IsMadeFirst}
-use Rattle.store_model.specs.Sound.{in_register, by_lock, by_name, by_pass, Kept, start, IsKept, IsCurrent, KeptByOthers, IsKnown, root_itself, pointed, register_id, doomed_of, in_round, copy_of, IsSound}
+use Rattle.store_model.specs.Sound.{in_register, by_lock, by_name, by_pass, Kept, start, IsKept, IsCurrent, KeptByOthers, IsKnown, root_itself, pointed, register_id, condemned_of, in_round, copy_of, IsSound}
 use Rattle.store_model.specs.SoundCells.{AreConsistent, IsCurrentCell}
 use Rattle.store_model.specs.Steps.{Replaces, IsTouched}
 use Rattle.store_model.proofs.EditLaws.{live-there}
 use Rattle.store_model.proofs.ConsistentLaws.{untouched-cell}
 use Rattle.store_model.proofs.DeletionLaws.{names-is_named}
-use Rattle.store_model.proofs.DoomedLaws.{register-safe}
+use Rattle.store_model.proofs.CondemnedLaws.{register-safe}
 use Rattle.store_model.proofs.StepLaws.{was_active, active-cases, other-cases, kept-replaced}
 use Rattle.store_model.proofs.ReadSound.{active-still, active-new}
 use Rattle.store_model.proofs.StoreSound.{apart-cases}
@@ -82,12 +82,12 @@ module _ (c : Core) (s : IsSound c) (pass : ℕ) (t u : ActiveTransaction) (next
       → ((x : ℕ) → holds x u ≡ true → (holds x t ≡ true) ⊎ Contains t.registers (Some x))
       → ((e : ℕ × ActiveTransaction) → IsActive c e → (v k : ℕ) → holds v e.1 ≡ true → is_live c.cells v ≡ true
           → ((pointer_at cells v k).target ≡ (pointer_at c.cells v k).target) ⊎ ((pointer_at c.cells v k).target ≢ 0 → names c.refs e.0 (pointer_at c.cells v k).target ≡ true))
-      → ((v k : ℕ) → is_live cells v ≡ true → Contains (doomed_of c) (pointer_at cells v k).target → Contains (doomed_of c) v)
+      → ((v k : ℕ) → is_live cells v ≡ true → Contains (condemned_of c) (pointer_at cells v k).target → Contains (condemned_of c) v)
       → IfSome c.round (λ r. r.judged ≡ false → (id : ℕ) (copy : Copy) → Contains r.copies (id, copy) → Contains r.touched id ⊎ (copy ≡ copy_of (cell_at cells id)))
       → IsSound after_client
   client-sound k live strong state current same_undone own_undone made writes registers more_locks locks pointers within copies =
       let was = was_active c.moment.state.active next pass t u r in
-      let D : ℕ → Type 0 = Contains (doomed_of c) in
+      let D : ℕ → Type 0 = Contains (condemned_of c) in
       record {
         exact = k.exact;
         empty = k.empty;
@@ -132,19 +132,19 @@ module _ (c : Core) (s : IsSound c) (pass : ℕ) (t u : ActiveTransaction) (next
             known (pass, t) (pass, u) was more_locks refl id (s.kept id (start id (by_pass (pass, t) was (in_register was_in)))).live (s.registers (pass, t) was id was_in));
         copies = copies;
         copied_listed = s.copied_listed;
-        doomed = record {
-          live = λ id d. live id ∙ s.doomed.live id d;
-          not_root = s.doomed.not_root;
-          not_named = s.doomed.not_named;
+        condemned = record {
+          live = λ id d. live id ∙ s.condemned.live id d;
+          not_root = s.condemned.not_root;
+          not_named = s.condemned.not_named;
           within = within;
           not_locked = λ id d. by_entry (λ e. holds id e.1 ≡ false)
-              (λ e m n. s.doomed.not_locked id d e m)
+              (λ e m n. s.condemned.not_locked id d e m)
               (false_from_ne_true (holds id u) (λ h. ⊎_elim
-              (λ g. let no : true ≡ false = sym g ∙ s.doomed.not_locked id d (pass, t) was in cc)
-              (λ g. register-safe c s D s.doomed (pass, t) was id g d)
+              (λ g. let no : true ≡ false = sym g ∙ s.condemned.not_locked id d (pass, t) was in cc)
+              (λ g. register-safe c s D s.condemned (pass, t) was id g d)
               (locks id h)));
         };
-        doomed_listed = s.doomed_listed;
+        condemned_listed = s.condemned_listed;
       }
     where
       known : (e d : ℕ × ActiveTransaction) → IsActive c e → ((v : ℕ) → holds v e.1 ≡ true → holds v d.1 ≡ true) → d.0 ≡ e.0 → (id : ℕ) → is_live c.cells id ≡ true → IsKnown c e id → IsKnown after_client d id

@@ -11,9 +11,9 @@ use Rattle.plain_model.specs.History.{holds}
 use Rattle.store_model.specs.Cells.{Pointer, Cell, null, cell_at, pointer_at, is_live, is_strong, same, object_of, relinked, edit, other_strength, flipped, hits, counted}
 use Rattle.store_model.specs.Records.{Weaken, Strengthen, Flip, CutDead, after_record, Fits, IsWellLaid}
 use Rattle.store_model.specs.Core.{Copy, Round, Core, is_named, IsActive}
-use Rattle.store_model.specs.Sound.{Has, by_lock, by_pass, start, IsKept, HasNoReason, IsKnown, root_itself, pointed, register_id, IsOnce, in_round, doomed_of, copy_of, IsSound}
+use Rattle.store_model.specs.Sound.{Has, by_lock, by_pass, start, IsKept, HasNoReason, IsKnown, root_itself, pointed, register_id, IsOnce, in_round, condemned_of, copy_of, IsSound}
 use Rattle.store_model.specs.SoundCells.{AreConsistent}
-use Rattle.store_model.specs.Verdict.{IsDoomed}
+use Rattle.store_model.specs.Verdict.{IsCondemned}
 use Rattle.store_model.specs.Steps.{IsQuiet, IsTracked, IsWithout, opened_round, condemned_round, with_listed, with_copy, with_verdict, after_change, after_look, after_collect}
 use Rattle.store_model.proofs.Lists.{Contains-here, Contains-later}
 use Rattle.store_model.proofs.OnceLaws.{nothing-in, once-append, once-one, only-one, once-push, once-rest, once-first, once-none}
@@ -21,7 +21,7 @@ use Rattle.store_model.proofs.EditLaws.{live-there, live-within, edit-other, edi
 use Rattle.store_model.proofs.CountLaws.{relinked-live, relinked-bit, relinked-counted}
 use Rattle.store_model.proofs.ConsistentLaws.{consistent-kept}
 use Rattle.store_model.proofs.DeletionLaws.{target-map, unkept}
-use Rattle.store_model.proofs.DoomedLaws.{zero-no_reason, closed_up-kept}
+use Rattle.store_model.proofs.CondemnedLaws.{zero-no_reason, closed_up-kept}
 use Rattle.store_model.proofs.StepLaws.{Contains-cons, relinked-object_other}
 use Rattle.store_model.proofs.CollectLaws.{strength-objects, flip-objects}
 use Rattle.store_model.proofs.VerdictLaws.{verdict}
@@ -40,10 +40,10 @@ module _ (c : Core) (s : IsSound c) (cells : List Cell) (queue : List ℕ) (roun
       → ((x : ℕ) → Contains (in_round (after_collect c cells queue round)) x → (is_live c.cells x ≡ true) × (x ≢ root))
       → IfSome round (λ r. r.judged ≡ false → (id : ℕ) (copy : Copy) → Contains r.copies (id, copy) → Contains r.touched id ⊎ (copy ≡ copy_of (cell_at cells id)))
       → IfSome round (λ r. r.judged ≡ false → (id : ℕ) (copy : Copy) → Contains r.copies (id, copy) → Contains r.list id)
-      → HasNoReason (after_collect c cells queue round) (Contains (doomed_of (after_collect c cells queue round)))
-      → ((x : ℕ) → Contains (doomed_of (after_collect c cells queue round)) x → Contains (in_round (after_collect c cells queue round)) x)
+      → HasNoReason (after_collect c cells queue round) (Contains (condemned_of (after_collect c cells queue round)))
+      → ((x : ℕ) → Contains (condemned_of (after_collect c cells queue round)) x → Contains (in_round (after_collect c cells queue round)) x)
       → IsSound (after_collect c cells queue round)
-  collect-sound k live objects zero queue_once round_once queued round_live copies copied_listed doomed doomed_listed = record {
+  collect-sound k live objects zero queue_once round_once queued round_live copies copied_listed condemned condemned_listed = record {
     exact = k.exact;
     empty = k.empty;
     sized = k.sized;
@@ -67,8 +67,8 @@ module _ (c : Core) (s : IsSound c) (cells : List Cell) (queue : List ℕ) (roun
     registers = λ e m id h. known e m id (s.registers e m id h);
     copies = copies;
     copied_listed = copied_listed;
-    doomed = doomed;
-    doomed_listed = doomed_listed;
+    condemned = condemned;
+    condemned_listed = condemned_listed;
   }
     where
       target : (v j : ℕ) → IsKept c v → (pointer_at cells v j).target ≡ (pointer_at c.cells v j).target
@@ -80,14 +80,14 @@ module _ (c : Core) (s : IsSound c) (cells : List Cell) (queue : List ℕ) (roun
       known e m id (pointed v j h l p) = pointed v j h (live v ∙ l) (target v j (start v (by_pass e m (by_lock h))) ∙ p)
 
   -- the condemned are those from before, or fewer
-  pub same-reason : ((x : ℕ) → is_live cells x ≡ is_live c.cells x) → ((x : ℕ) → Contains (doomed_of (after_collect c cells queue round)) x → Contains (doomed_of c) x)
-      → ((u k : ℕ) → is_live cells u ≡ true → Contains (doomed_of (after_collect c cells queue round)) (pointer_at cells u k).target → Contains (doomed_of (after_collect c cells queue round)) u)
-      → HasNoReason (after_collect c cells queue round) (Contains (doomed_of (after_collect c cells queue round)))
+  pub same-reason : ((x : ℕ) → is_live cells x ≡ is_live c.cells x) → ((x : ℕ) → Contains (condemned_of (after_collect c cells queue round)) x → Contains (condemned_of c) x)
+      → ((u k : ℕ) → is_live cells u ≡ true → Contains (condemned_of (after_collect c cells queue round)) (pointer_at cells u k).target → Contains (condemned_of (after_collect c cells queue round)) u)
+      → HasNoReason (after_collect c cells queue round) (Contains (condemned_of (after_collect c cells queue round)))
   same-reason live fewer within = record {
-    live = λ x d. live x ∙ s.doomed.live x (fewer x d);
-    not_root = λ x d. s.doomed.not_root x (fewer x d);
-    not_locked = λ x d. s.doomed.not_locked x (fewer x d);
-    not_named = λ x d. s.doomed.not_named x (fewer x d);
+    live = λ x d. live x ∙ s.condemned.live x (fewer x d);
+    not_root = λ x d. s.condemned.not_root x (fewer x d);
+    not_locked = λ x d. s.condemned.not_locked x (fewer x d);
+    not_named = λ x d. s.condemned.not_named x (fewer x d);
     within = within;
   }
 
@@ -117,7 +117,7 @@ module _ (c : Core) (s : IsSound c) (x : ℕ) (rest : List ℕ) (first : c.queue
       (λ m. inr m)
       (s.zero y l n z))
       (once-rest x rest once) s.round_once (λ y m. s.queued y (was_queued y m)) s.round_live s.copies s.copied_listed
-      (same-reason c s c.cells rest c.round (λ y. refl) (λ y d. d) s.doomed.within) s.doomed_listed
+      (same-reason c s c.cells rest c.round (λ y. refl) (λ y d. d) s.condemned.within) s.condemned_listed
 
   -- it goes to the queue's end
   pub requeue-sound : IsSound (after_look c (rest ++ x ∷ []) c.round)
@@ -129,11 +129,11 @@ module _ (c : Core) (s : IsSound c) (x : ℕ) (rest : List ℕ) (first : c.queue
       (λ m. inr m)
       (s.zero y l n z))
       (once-push rest x (once-rest x rest once) (once-first x rest once)) s.round_once (λ y m. s.queued y (still y m)) s.round_live s.copies s.copied_listed
-      (same-reason c s c.cells (rest ++ x ∷ []) c.round (λ y. refl) (λ y d. d) s.doomed.within) s.doomed_listed
+      (same-reason c s c.cells (rest ++ x ∷ []) c.round (λ y. refl) (λ y d. d) s.condemned.within) s.condemned_listed
 
   module _ (closed : c.round ≡ None) where
     -- a round opens with it, to be walked or condemned at once
-    opens : (r : Round) → r.list ≡ x ∷ [] → r.copies ≡ [] → HasNoReason (after_look c rest (Some r)) (Contains r.doomed) → ((y : ℕ) → Contains r.doomed y → Contains r.list y) → IsSound (after_look c rest (Some r))
+    opens : (r : Round) → r.list ≡ x ∷ [] → r.copies ≡ [] → HasNoReason (after_look c rest (Some r)) (Contains r.condemned) → ((y : ℕ) → Contains r.condemned y → Contains r.list y) → IsSound (after_look c rest (Some r))
     opens r list copies reason listed =
         let none : (y : ℕ) → Contains (in_round c) y → ⊥ = λ y m. nothing-in y (subst (λ l. Contains l y) (ap (λ o. option_map_or (λ (r : Round). r.list) o []) closed) m) in
         let one : (y : ℕ) → Contains r.list y → x ≡ y = λ y m. only-one x y (subst (λ l. Contains l y) list m) in
@@ -174,8 +174,8 @@ module _ (c : Core) (s : IsSound c) (r : Round) (q : c.round ≡ Some r) where
   pub list-is : in_round c ≡ r.list
   list-is = ap (λ o. option_map_or (λ (r : Round). r.list) o []) q
 
-  pub doomed-is : doomed_of c ≡ r.doomed
-  doomed-is = ap (λ o. option_map_or (λ (r : Round). r.doomed) o []) q
+  pub condemned-is : condemned_of c ≡ r.condemned
+  condemned-is = ap (λ o. option_map_or (λ (r : Round). r.condemned) o []) q
 
   pub in_list : (x : ℕ) → Contains (in_round c) x → Contains r.list x
   in_list x m = subst (λ l. Contains l x) list-is m
@@ -183,8 +183,8 @@ module _ (c : Core) (s : IsSound c) (r : Round) (q : c.round ≡ Some r) where
   pub from_list : (x : ℕ) → Contains r.list x → Contains (in_round c) x
   from_list x m = subst (λ l. Contains l x) (sym list-is) m
 
-  pub from_doomed : (x : ℕ) → Contains r.doomed x → Contains (doomed_of c) x
-  from_doomed x m = subst (λ l. Contains l x) (sym doomed-is) m
+  pub from_condemned : (x : ℕ) → Contains r.condemned x → Contains (condemned_of c) x
+  from_condemned x m = subst (λ l. Contains l x) (sym condemned-is) m
 
   pub once_listed : IsOnce r.list
   once_listed = subst IsOnce list-is s.round_once
@@ -196,19 +196,19 @@ module _ (c : Core) (s : IsSound c) (r : Round) (q : c.round ≡ Some r) where
   copied-in_list = subst (λ o. IfSome o (λ r. r.judged ≡ false → (id : ℕ) (copy : Copy) → Contains r.copies (id, copy) → Contains r.list id)) q s.copied_listed
 
   -- the round keeps its list and its condemned; the cells, the queue and the rest of the round may change
-  module _ (n : Round) (list : n.list ≡ r.list) (doomed : n.doomed ≡ r.doomed) (cells : List Cell) (queue : List ℕ) where
+  module _ (n : Round) (list : n.list ≡ r.list) (condemned : n.condemned ≡ r.condemned) (cells : List Cell) (queue : List ℕ) where
     pub listed-sound : AreConsistent c.moment.state.slots c.moment.state.ids cells → ((x : ℕ) → is_live cells x ≡ is_live c.cells x) → ((x : ℕ) → IsKept c x → object_of x (cell_at cells x) ≡ object_of x (cell_at c.cells x))
         → ((x : ℕ) → is_live c.cells x ≡ true → x ≢ root → (cell_at cells x).strong ≡ 0 → Contains queue x ⊎ (Contains (in_round c) x ⊎ (is_named c.refs x ≡ true)))
         → IsOnce queue → ((x : ℕ) → Contains queue x → (is_live c.cells x ≡ true) × (x ≢ root) × (Contains (in_round c) x → ⊥))
         → (n.judged ≡ false → (id : ℕ) (copy : Copy) → Contains n.copies (id, copy) → Contains n.touched id ⊎ (copy ≡ copy_of (cell_at cells id)))
         → (n.judged ≡ false → (id : ℕ) (copy : Copy) → Contains n.copies (id, copy) → Contains n.list id)
-        → ((u k : ℕ) → is_live cells u ≡ true → Contains (doomed_of c) (pointer_at cells u k).target → Contains (doomed_of c) u)
+        → ((u k : ℕ) → is_live cells u ≡ true → Contains (condemned_of c) (pointer_at cells u k).target → Contains (condemned_of c) u)
         → IsSound (after_collect c cells queue (Some n))
     listed-sound k live objects zero queue_once queued copies listed within =
         let to_new : (x : ℕ) → Contains (in_round c) x → Contains n.list x = λ x m. subst (λ l. Contains l x) (sym list) (in_list x m) in
         let to_old : (x : ℕ) → Contains n.list x → Contains (in_round c) x = λ x m. from_list x (subst (λ l. Contains l x) list m) in
-        let d_new : (x : ℕ) → Contains (doomed_of c) x → Contains n.doomed x = λ x m. subst (λ l. Contains l x) (doomed-is ∙ sym doomed) m in
-        let d_old : (x : ℕ) → Contains n.doomed x → Contains (doomed_of c) x = λ x m. subst (λ l. Contains l x) (doomed ∙ sym doomed-is) m in
+        let d_new : (x : ℕ) → Contains (condemned_of c) x → Contains n.condemned x = λ x m. subst (λ l. Contains l x) (condemned-is ∙ sym condemned) m in
+        let d_old : (x : ℕ) → Contains n.condemned x → Contains (condemned_of c) x = λ x m. subst (λ l. Contains l x) (condemned ∙ sym condemned-is) m in
         collect-sound c s cells queue (Some n) k live objects
         (λ x l m z. ⊎_elim (λ h. inl h) (λ h. ⊎_elim (λ g. inr (inl (to_new x g))) (λ g. inr (inr g)) h) (zero x l m z))
         queue_once (subst IsOnce (sym list) once_listed)
@@ -216,7 +216,7 @@ module _ (c : Core) (s : IsSound c) (r : Round) (q : c.round ≡ Some r) where
         (λ x m. s.round_live x (to_old x m))
         copies listed
         (same-reason c s cells queue (Some n) live d_old (λ u j l d. d_new u (within u j l (d_old (pointer_at cells u j).target d))))
-        (λ x m. to_new x (s.doomed_listed x (d_old x m)))
+        (λ x m. to_new x (s.condemned_listed x (d_old x m)))
 
   -- an object of the round is copied
   pub copy-sound : (id : ℕ) → Contains r.list id → IsSound (after_look c c.queue (Some (with_copy r id (cell_at c.cells id))))
@@ -232,16 +232,16 @@ module _ (c : Core) (s : IsSound c) (r : Round) (q : c.round ≡ Some r) where
       (λ g. copied-in_list j x copy g)
       (λ g. subst (λ v. Contains r.list v) (ap (λ (e : ℕ × Copy). e.0) (one (x, copy) g)) m)
       (Contains-append_cases r.copies (e0 ∷ []) (x, copy) h))
-      s.doomed.within
+      s.condemned.within
 
   -- more objects are marked as touched
   pub touch-sound : (touched : List ℕ) → ((x : ℕ) → Contains r.touched x → Contains touched x) → IsSound (after_look c c.queue (Some (record r { touched = touched })))
   touch-sound touched more = listed-sound (record r { touched = touched }) refl refl c.cells c.queue (consistent_of c s) (λ x. refl) (λ x h. refl) s.zero s.queue_once s.queued
       (λ j x copy h. ⊎_elim (λ g. inl (more x g)) (λ g. inr g) (copied j x copy h))
-      copied-in_list s.doomed.within
+      copied-in_list s.condemned.within
 
   -- the verdict condemns what isn't live by the copies
-  pub judge-sound : r.judged ≡ false → map (λ e. e.0) r.copies ≡ r.list → (condemned : List ℕ) → ((x : ℕ) → Contains condemned x → IsDoomed c r x) → ((x : ℕ) → IsDoomed c r x → Contains condemned x) → IsSound (after_look c c.queue (Some (with_verdict r condemned)))
+  pub judge-sound : r.judged ≡ false → map (λ e. e.0) r.copies ≡ r.list → (condemned : List ℕ) → ((x : ℕ) → Contains condemned x → IsCondemned c r x) → ((x : ℕ) → IsCondemned c r x → Contains condemned x) → IsSound (after_look c c.queue (Some (with_verdict r condemned)))
   judge-sound waits all condemned only each_one =
       let n = verdict c r s.exact (record { all = all; current = copied waits; once = once_listed; live = λ x m. s.round_live x (from_list x m) }) in
       collect-sound c s c.cells c.queue (Some (with_verdict r condemned)) (consistent_of c s) (λ x. refl) (λ x h. refl)

@@ -12,7 +12,7 @@ use Rattle.plain_model.specs.Machine.{transaction_of, blocks_sharing, blocks_own
 use Rattle.store_model.specs.Cells.{Cell, cell_at, pointer_in, is_live, edit, pays}
 use Rattle.store_model.specs.Records.{Pay, after_record, Fits}
 use Rattle.store_model.specs.Core.{Copy, Round, Core}
-use Rattle.store_model.specs.Sound.{IsKept, doomed_of, copy_of, IsSound}
+use Rattle.store_model.specs.Sound.{IsKept, condemned_of, copy_of, IsSound}
 use Rattle.store_model.specs.Steps.{get_by, set_by, moment_with, after_transaction}
 use Rattle.store_model.proofs.EditLaws.{live-there, live-within, edit-keeps}
 use Rattle.store_model.proofs.ConsistentLaws.{consistent-kept}
@@ -47,7 +47,7 @@ module _ (c : Core) (s : IsSound c) (pass : ℕ) (t : ActiveTransaction) (a : tr
       (λ x h. shares-holds_old t y x h)
       (λ x h. ⊎_elim (λ f. inl f) (λ f. inr (subst (λ v. Contains t.registers (Some v)) f reg)) (shares-holds t y x h))
       (λ e m v k h l. inl refl)
-      s.doomed.within
+      s.condemned.within
       s.copies
 
   pub set-sound : (old value : ℕ) → blocks_owning c.moment.state pass y ≡ None → Fits c.cells (Pay pass y old value) → IsSound (after_transaction c pass (set_by t y value) (after_record c.moment.state.slots c.cells (Pay pass y old value)) c.refs)
@@ -75,7 +75,7 @@ module _ (c : Core) (s : IsSound c) (pass : ℕ) (t : ActiveTransaction) (a : tr
       (λ x h. owns-holds_old t y x h)
       (λ x h. ⊎_elim (λ f. inl f) (λ f. inr (subst (λ v. Contains t.registers (Some v)) f reg)) (owns-holds t y x h))
       (λ e m v k h l. inl (target v k))
-      (λ v k l d. s.doomed.within v k (sym (live v) ∙ l) (subst (λ x. Contains (doomed_of c) x) (target v k) d))
+      (λ v k l d. s.condemned.within v k (sym (live v) ∙ l) (subst (λ x. Contains (condemned_of c) x) (target v k) d))
       (paid c.round s.copies)
     where
       paid : (o : Option Round) → IfSome o (λ r. r.judged ≡ false → (id : ℕ) (copy : Copy) → Contains r.copies (id, copy) → Contains r.touched id ⊎ (copy ≡ copy_of (cell_at c.cells id)))

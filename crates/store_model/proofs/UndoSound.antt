@@ -17,7 +17,7 @@ use Rattle.plain_model.specs.History.{can_be_undone, with_aborting, holds, next}
 use Rattle.store_model.specs.Cells.{Pointer, Cell, cell_at, pointer_in, pointer_at, is_live, edit, relinked, pays}
 use Rattle.store_model.specs.Records.{Undo, UndoPay, after_record, Fits}
 use Rattle.store_model.specs.Core.{Copy, Round, Core, names, IsActive, slot_in, payload_in, new_target, touches, IsMadeFirst, current}
-use Rattle.store_model.specs.Sound.{doomed_of, copy_of, IsSound}
+use Rattle.store_model.specs.Sound.{condemned_of, copy_of, IsSound}
 use Rattle.store_model.specs.Steps.{Replaces, IsOnlyWriter, IsTouched, undone_by, after_undo}
 use Rattle.store_model.proofs.Lists.{each, Contains-here}
 use Rattle.store_model.proofs.EditLaws.{live-there, live-within, edit-keeps}
@@ -28,7 +28,7 @@ use Rattle.store_model.proofs.CurrentCells.{pays-object, pays-object_other, undo
 use Rattle.store_model.proofs.MadeFirst.{made_first-later}
 use Rattle.store_model.proofs.StateLaws.{state-undone}
 use Rattle.store_model.proofs.DeletionLaws.{names-is_named}
-use Rattle.store_model.proofs.DoomedLaws.{closed_up-kept}
+use Rattle.store_model.proofs.CondemnedLaws.{closed_up-kept}
 use Rattle.store_model.proofs.StepLaws.{relinked-object, relinked-object_other}
 use Rattle.store_model.proofs.ActiveLaws.{owner, active-exclusive, own-only_writer}
 use Rattle.store_model.proofs.EndLaws.{transaction-active}
@@ -70,7 +70,7 @@ module _ (c : Core) (s : IsSound c) (pass : ℕ) (t : ActiveTransaction) (a : tr
       (after_writes-value c.moment.state.slots c.moment.state.committed earlier y slot to (names c.refs pass to ≡ true)
       (each (λ x. new_target x ≡ to → names c.refs pass to ≡ true) earlier (λ x m q. subst (λ i. names c.refs pass i ≡ true) q (s.new_named (pass, t) was x (subst (λ l. Contains l x) (sym split) (Contains-append_left earlier (w ∷ later) x m)) (λ e. z (sym q ∙ e)))))
       (sym lays)) in
-      let D : ℕ → Type 0 = Contains (doomed_of c) in
+      let D : ℕ → Type 0 = Contains (condemned_of c) in
       let live_same = λ (x : ℕ). relinked-live c.cells y slot p x in
       client-sound c s pass t u (with_aborting pass c.moment.state.active) r n.undone cells
       (consistent-kept c.moment.state.slots c.moment.state.ids c.cells (Undo pass y slot v from_strong to bit) fits tt (consistent_of c s))
@@ -101,9 +101,9 @@ module _ (c : Core) (s : IsSound c) (pass : ℕ) (t : ActiveTransaction) (a : tr
       (cases_eq e.0 pass)))
       (λ f. inl (ap (λ (p : Pointer). p.target) f))
       (relinked-which c.cells y slot p x k ny wy fits.0.within))
-      (λ x k l d. (closed_up-kept c.cells s.exact D s.doomed.live s.doomed.within c.moment.state.slots (Undo pass y slot v from_strong to bit) fits
-      (λ dt. let no : true ≡ false = sym (names-is_named c.refs pass to (to_named (live-there c.cells to s.exact.none (s.doomed.live to dt)))) ∙ s.doomed.not_named to dt in cc)
-      x k l (d, live_same (pointer_at cells x k).target ∙ s.doomed.live (pointer_at cells x k).target d)).0)
+      (λ x k l d. (closed_up-kept c.cells s.exact D s.condemned.live s.condemned.within c.moment.state.slots (Undo pass y slot v from_strong to bit) fits
+      (λ dt. let no : true ≡ false = sym (names-is_named c.refs pass to (to_named (live-there c.cells to s.exact.none (s.condemned.live to dt)))) ∙ s.condemned.not_named to dt in cc)
+      x k l (d, live_same (pointer_at cells x k).target ∙ s.condemned.live (pointer_at cells x k).target d)).0)
       (relinked-copies c s y slot p c.round refl ty (λ z. subst (λ i. IsTouched c.round i) (sym old) (tv (λ e. z (old ∙ e)))) tto)
 
   pub undo_pay-sound : (to : ℕ) → t.writes ≡ earlier ++ record { id = y; place = Payload; value = v } ∷ later → count_by can_be_undone t.writes - c.moment.undone pass ≡ count_by can_be_undone earlier + 1
@@ -137,7 +137,7 @@ module _ (c : Core) (s : IsSound c) (pass : ℕ) (t : ActiveTransaction) (a : tr
       (λ x h. h)
       (λ x h. inl h)
       (λ e m x k h l. inl (target x k))
-      (λ x k l d. s.doomed.within x k (sym (live x) ∙ l) (subst (λ i. Contains (doomed_of c) i) (target x k) d))
+      (λ x k l d. s.condemned.within x k (sym (live x) ∙ l) (subst (λ i. Contains (condemned_of c) i) (target x k) d))
       (paid c.round s.copies)
     where
       paid : (o : Option Round) → IfSome o (λ r. r.judged ≡ false → (id : ℕ) (copy : Copy) → Contains r.copies (id, copy) → Contains r.touched id ⊎ (copy ≡ copy_of (cell_at c.cells id)))

@@ -7,7 +7,7 @@ use Rattle.plain_model.specs.Graphs.{root}
 use Rattle.store_model.specs.Cells.{Pointer, Cell, null, cell_at, pointer_at, is_live, is_strong, same, object_of, relinked, edit, other_strength, flipped, hits, counted}
 use Rattle.store_model.specs.Records.{Record, Weaken, Strengthen, Flip, CutDead, after_record, Fits, IsWellLaid}
 use Rattle.store_model.specs.Core.{Copy, Round, Core, is_named}
-use Rattle.store_model.specs.Sound.{IsKept, IsOnce, in_round, doomed_of, copy_of, IsSound}
+use Rattle.store_model.specs.Sound.{IsKept, IsOnce, in_round, condemned_of, copy_of, IsSound}
 use Rattle.store_model.specs.Steps.{IsQuiet, IsTracked, IsWithout, with_listed, after_change, after_collect}
 use Rattle.store_model.proofs.Lists.{Contains-here}
 use Rattle.store_model.proofs.OnceLaws.{nothing-in, only-one, once-push}
@@ -15,12 +15,12 @@ use Rattle.store_model.proofs.EditLaws.{live-there, live-within, edit-other, edi
 use Rattle.store_model.proofs.CountLaws.{relinked-live, relinked-bit, relinked-counted}
 use Rattle.store_model.proofs.ConsistentLaws.{consistent-kept}
 use Rattle.store_model.proofs.DeletionLaws.{unkept}
-use Rattle.store_model.proofs.DoomedLaws.{LaysOutside, closed_up-kept}
+use Rattle.store_model.proofs.CondemnedLaws.{LaysOutside, closed_up-kept}
 use Rattle.store_model.proofs.StepLaws.{relinked-object_other}
 use Rattle.store_model.proofs.CollectLaws.{strength-objects, flip-objects}
 use Rattle.store_model.proofs.StoreSound.{strong-kept, same-self}
 use Rattle.store_model.proofs.ClientSound.{consistent_of}
-use Rattle.store_model.proofs.CollectSound.{collect-sound, same-reason, list-is, doomed-is, in_list, from_list, from_doomed, once_listed, listed-sound}
+use Rattle.store_model.proofs.CollectSound.{collect-sound, same-reason, list-is, condemned-is, in_list, from_list, from_condemned, once_listed, listed-sound}
 
 same-swap : (a b : Bool) → same a b ≡ same b a
 same-swap true true = refl
@@ -52,14 +52,14 @@ module _ (c : Core) (s : IsSound c) (r : Round) (q : c.round ≡ Some r) (quiet 
   no_copy j id copy m = nothing-in (id, copy) (subst (λ l. Contains l (id, copy)) (quiet j) m)
 
   -- what was condemned stays closed under a record that lays no pointer to it
-  closed : (rec : Record) → Fits c.cells rec → LaysOutside (Contains (doomed_of c)) rec → ((x : ℕ) → is_live (after_record c.moment.state.slots c.cells rec) x ≡ is_live c.cells x)
-      → (u k : ℕ) → is_live (after_record c.moment.state.slots c.cells rec) u ≡ true → Contains (doomed_of c) (pointer_at (after_record c.moment.state.slots c.cells rec) u k).target → Contains (doomed_of c) u
+  closed : (rec : Record) → Fits c.cells rec → LaysOutside (Contains (condemned_of c)) rec → ((x : ℕ) → is_live (after_record c.moment.state.slots c.cells rec) x ≡ is_live c.cells x)
+      → (u k : ℕ) → is_live (after_record c.moment.state.slots c.cells rec) u ≡ true → Contains (condemned_of c) (pointer_at (after_record c.moment.state.slots c.cells rec) u k).target → Contains (condemned_of c) u
   closed rec fits outside live u k l d =
       let cells = after_record c.moment.state.slots c.cells rec in
-      (closed_up-kept c.cells s.exact (Contains (doomed_of c)) s.doomed.live s.doomed.within c.moment.state.slots rec fits outside u k l (d, live (pointer_at cells u k).target ∙ s.doomed.live (pointer_at cells u k).target d)).0
+      (closed_up-kept c.cells s.exact (Contains (condemned_of c)) s.condemned.live s.condemned.within c.moment.state.slots rec fits outside u k l (d, live (pointer_at cells u k).target ∙ s.condemned.live (pointer_at cells u k).target d)).0
 
   -- the queue and the round stay
-  stays : (rec : Record) → Fits c.cells rec → IsWellLaid c.cells rec → LaysOutside (Contains (doomed_of c)) rec → ((x : ℕ) → is_live (after_record c.moment.state.slots c.cells rec) x ≡ is_live c.cells x)
+  stays : (rec : Record) → Fits c.cells rec → IsWellLaid c.cells rec → LaysOutside (Contains (condemned_of c)) rec → ((x : ℕ) → is_live (after_record c.moment.state.slots c.cells rec) x ≡ is_live c.cells x)
       → ((x : ℕ) → IsKept c x → object_of x (cell_at (after_record c.moment.state.slots c.cells rec) x) ≡ object_of x (cell_at c.cells x))
       → ((x : ℕ) → is_live c.cells x ≡ true → x ≢ root → (cell_at (after_record c.moment.state.slots c.cells rec) x).strong ≡ 0 → Contains c.queue x ⊎ (Contains (in_round c) x ⊎ (is_named c.refs x ≡ true)))
       → IsSound (after_change c (after_record c.moment.state.slots c.cells rec))
@@ -103,8 +103,8 @@ module _ (c : Core) (s : IsSound c) (r : Round) (q : c.round ≡ Some r) (quiet 
         let cases : (x : ℕ) → Contains (r.list ++ target ∷ []) x → Contains (in_round c) x ⊎ (target ≡ x) = λ x m. ⊎_elim (λ h. inl (from_list c s r q x h)) (λ h. inr (only-one target x h)) (Contains-append_cases r.list (target ∷ []) x m) in
         let still : (x : ℕ) → Contains (in_round c) x → Contains (r.list ++ target ∷ []) x = λ x m. Contains-append_left r.list (target ∷ []) x (in_list c s r q x m) in
         let joined : Contains (r.list ++ target ∷ []) target = Contains-append_right r.list (target ∷ []) target (Contains-here target []) in
-        let d_old : (x : ℕ) → Contains r.doomed x → Contains (doomed_of c) x = λ x m. from_doomed c s r q x m in
-        let d_new : (x : ℕ) → Contains (doomed_of c) x → Contains r.doomed x = λ x m. subst (λ l. Contains l x) (doomed-is c s r q) m in
+        let d_old : (x : ℕ) → Contains r.condemned x → Contains (condemned_of c) x = λ x m. from_condemned c s r q x m in
+        let d_new : (x : ℕ) → Contains (condemned_of c) x → Contains r.condemned x = λ x m. subst (λ l. Contains l x) (condemned-is c s r q) m in
         collect-sound c s cells queue (Some (with_listed r target)) (consistent-kept c.moment.state.slots c.moment.state.ids c.cells (Weaken id slot target) fits tt (consistent_of c s)) live (λ x h. strength-objects c.cells id slot x)
         (λ x l n z. ⊎_elim
         (λ e. inr (inl (subst (λ v. Contains (r.list ++ target ∷ []) v) (sym e) joined)))
@@ -118,7 +118,7 @@ module _ (c : Core) (s : IsSound c) (r : Round) (q : c.round ≡ Some r) (quiet 
         (λ x m. ⊎_elim (λ k. s.round_live x k) (λ e. (subst (λ v. is_live c.cells v ≡ true) e (fits.0.target_live fits.1), λ w. not_root (e ∙ w))) (cases x m))
         (λ j x copy m. no_copy j x copy m) (λ j x copy m. no_copy j x copy m)
         (same-reason c s cells queue (Some (with_listed r target)) live d_old (λ u j l d. d_new u (closed (Weaken id slot target) fits tt live u j l (d_old (pointer_at cells u j).target d))))
-        (λ x m. still x (s.doomed_listed x (d_old x m)))
+        (λ x m. still x (s.condemned_listed x (d_old x m)))
 
   -- ---- Strengthen and Flip
 
@@ -139,9 +139,9 @@ module _ (c : Core) (s : IsSound c) (r : Round) (q : c.round ≡ Some r) (quiet 
 
   -- ---- a reference of a condemned object is removed
 
-  module _ (id slot target : ℕ) (was_strong : Bool) (condemned : Contains r.doomed id) (fits : Fits c.cells (CutDead id slot target was_strong)) where
+  module _ (id slot target : ℕ) (was_strong : Bool) (condemned : Contains r.condemned id) (fits : Fits c.cells (CutDead id slot target was_strong)) where
     unkept_others : (x : ℕ) → IsKept c x → object_of x (cell_at (relinked c.cells id slot null) x) ≡ object_of x (cell_at c.cells x)
-    unkept_others x h = relinked-object_other c.cells id slot null x (λ e. unkept c s (Contains (doomed_of c)) s.doomed h (subst (λ v. Contains (doomed_of c) v) (sym e) (from_doomed c s r q id condemned)))
+    unkept_others x h = relinked-object_other c.cells id slot null x (λ e. unkept c s (Contains (condemned_of c)) s.condemned h (subst (λ v. Contains (condemned_of c) v) (sym e) (from_condemned c s r q id condemned)))
 
     cut-zero : (x : ℕ) → is_live c.cells x ≡ true → x ≢ root → (cell_at (relinked c.cells id slot null) x).strong ≡ 0 → (x ≡ target) ⊎ (Contains c.queue x ⊎ (Contains (in_round c) x ⊎ (is_named c.refs x ≡ true)))
     cut-zero x l n z =
