@@ -5,7 +5,7 @@ use Rattle.plain_model.specs.declared.object.Object.{Object}
 use Rattle.plain_model.specs.declared.write.Write.{Write}
 use Rattle.plain_model.specs.Graphs.{object_at, applied, without}
 use Rattle.plain_model.specs.ActiveTransaction.{ActiveTransaction}
-use Rattle.plain_model.specs.Machine.{State, own_graph, transaction_of, seen_slot, seen_payload, blocks_owning, is_among}
+use Rattle.plain_model.specs.Machine.{State, own_graph, transaction_of, seen_slot, seen_payload, blocks_sharing, blocks_owning, is_among}
 use Rattle.plain_model.specs.History.{CommitPoint, Moment, can_be_undone}
 use Rattle.plain_laws.specs.Sound.{IsSoundState}
 use Rattle.plain_laws.proofs.Ids.{or_left}
@@ -13,15 +13,18 @@ use Rattle.plain_laws.proofs.Legal.{without_other}
 use Rattle.plain_laws.proofs.Lookups.{writes_at, object_at-after_writes}
 use Rattle.plain_laws.proofs.Told.{commit-leaves_held_proof}
 use Rattle.store_model.specs.Cells.{cell_at, pointer_at}
-use Rattle.store_model.specs.Records.{Store, after_record, Fits, IsWellLaid}
+use Rattle.store_model.specs.Records.{Make, Store, after_record, Fits, IsWellLaid}
 use Rattle.store_model.specs.Core.{Ref, Core, names}
 use Rattle.store_model.specs.Sound.{in_register, by_pass, start, IsKept, IsKnown, root_itself, pointed, register_id, IsSound}
-use Rattle.store_model.specs.Steps.{IsOnlyWriter, IsTouched, AreStoreReferences, store_by, after_transaction}
+use Rattle.store_model.specs.Steps.{IsOnlyWriter, IsTouched, AreStoreReferences, AreLeftReferences, IsQueueLeft, read_by, store_by, after_transaction, after_make, committed_core, aborted_core}
 use Rattle.store_model.proofs.ObjectLaws.{first_writes-all}
 use Rattle.store_model.proofs.ActiveLaws.{owner}
 use Rattle.store_model.proofs.EndLaws.{transaction-active}
 use Rattle.store_model.proofs.SeenLaws.{seen-slot, seen-pay}
+use Rattle.store_model.proofs.ReadSound.{read-sound}
 use Rattle.store_model.proofs.StoreSound.{store-sound}
+use Rattle.store_model.proofs.MakeSound.{make-sound}
+use Rattle.store_model.proofs.EndSound.{commit-sound, abort-sound}
 use Rattle.store_model.proofs.ClientSound.{relinked-copies}
 
 -- only the state and the counts of undone writes matter
@@ -95,9 +98,23 @@ commit-earlier s i pass t a p u b n w m earlier =
 pub delete-earlier : (slots : ℕ) (g : List Object) (id x : ℕ) → x ≢ id → (earlier : List Write) → object_at (applied slots (without g id) earlier) x ≡ object_at (applied slots g earlier) x
 delete-earlier slots g id x n earlier = object_at-after_writes slots (without g id) earlier x ∙ (ap (λ o. writes_at slots x o earlier) (without_other g id x n) ∙ sym (object_at-after_writes slots g earlier x))
 
--- ---- Store, in the words of the record and the marks
+-- ---- calls and ends in the words of the code that cites them
 
 module _ (c : Core) (s : IsSound c) (pass : ℕ) (t : ActiveTransaction) (a : transaction_of c.moment.state pass ≡ Some t) where
+  pub read_running-sound : (id slot into : ℕ) → t.aborting ≡ false → Contains t.registers (Some id) → blocks_sharing c.moment.state pass id ≡ None → IsSound (after_transaction c pass (read_by c.moment.state t id slot into) c.cells c.refs)
+  read_running-sound id slot into running reg granted =
+      let n = s.none_undone (pass, t) (transaction-active c.moment.state s.state pass t a) running in
+      read-sound c s pass t a id slot into reg granted (first_writes-all (count_by can_be_undone t.writes - c.moment.undone pass) t.writes (omega (arith, n)))
+
+  pub make_fitting-sound : (into id : ℕ) → t.aborting ≡ false → Fits c.cells (Make pass id) → IsSound (after_make c pass t into id)
+  make_fitting-sound into id running fits = make-sound c s pass t a into id fits.0 fits.1 fits.2 running
+
+  pub commit_left-sound : (left : List Ref) (queue : List ℕ) → AreLeftReferences c.refs pass left → IsQueueLeft c left queue → t.aborting ≡ false → IsSound (committed_core c pass t left queue)
+  commit_left-sound left queue l q running = commit-sound c s pass t a left queue l.fewer l.stay l.less l.unnamed q.zero q.once q.queued running
+
+  pub abort_left-sound : (left : List Ref) (queue : List ℕ) → AreLeftReferences c.refs pass left → IsQueueLeft c left queue → count_by can_be_undone t.writes - c.moment.undone pass ≡ 0 → IsSound (aborted_core c pass left queue)
+  abort_left-sound left queue l q all_undone = abort-sound c s pass t a left queue l.fewer l.stay l.less l.unnamed q.zero q.once q.queued all_undone
+
   pub store_marked-sound : (id slot old target : ℕ) (old_strong bit strong : Bool) (more : List Ref) → t.aborting ≡ false → Contains t.registers (Some id) → (target ≢ 0 → Contains t.registers (Some target)) → blocks_owning c.moment.state pass id ≡ None
       → Fits c.cells (Store pass id slot old old_strong target bit strong) → IsWellLaid c.cells (Store pass id slot old old_strong target bit strong) → AreStoreReferences pass old target more
       → IsTouched c.round id → (old ≢ 0 → IsTouched c.round old) → (target ≢ 0 → IsTouched c.round target)
