@@ -1,5 +1,5 @@
 -- Where a client begins, all that a journal keeps is kept.
-use Rattle.std.proofs.Common.{◌≡◌, ◌≢◌, ℕ, zero, suc, ◌<◌, List, [], ◌∷◌, ◌++◌, true, false, refl, sym, ap, ◌∙◌, subst, get_or, replicate, arith, Option, Some, None, ◌⊎◌, inl, inr, ⊎_elim, eq-eqb, ne_eqb}
+use Rattle.std.proofs.Common.{◌≡◌, ◌≢◌, ℕ, zero, suc, [], true, false, refl, sym, ap, ◌∙◌, subst, replicate, arith, Some, None, ◌⊎◌, inl, inr, ⊎_elim, eq-eqb, ne_eqb}
 use Rattle.std.specs.Prelude.{◌==◌, Contains, unwrap_or}
 use Rattle.std.specs.Ordering.{nat_cmp}
 use Rattle.std.specs.BTreeMap.{insert_entry}
@@ -11,7 +11,7 @@ use Rattle.plain_model.specs.ActiveTransaction.{ActiveTransaction}
 use Rattle.plain_model.specs.Machine.{transaction_of, new_transaction}
 use Rattle.plain_model.specs.History.{holds}
 use Rattle.store_model.specs.Core.{Core, names, IsActive, slot_in, new_target, touches, IsMadeFirst}
-use Rattle.store_model.specs.Sound.{Has, in_register, by_lock, by_name, IsHeld, as_root, by_pass, Kept, start, step, IsKept, KeptByOthers, IsKnown, root_itself, pointed, register_id, IsSound}
+use Rattle.store_model.specs.Sound.{Has, in_register, by_lock, by_name, IsHeld, as_root, by_pass, Kept, start, step, KeptByOthers, IsKnown, root_itself, pointed, register_id, IsSound}
 use Rattle.store_model.specs.Steps.{moment_begun, after_begin}
 use Rattle.store_model.proofs.StateLaws.{state-begun}
 use Rattle.store_model.proofs.StepLaws.{Contains-cons, Kept-least, names-append}

@@ -1,5 +1,5 @@
 -- The cells of a journal that collects nothing stay sound, event by event.
-use Rattle.std.proofs.Common.{◌≡◌, ◌≢◌, ℕ, ◌+◌, ◌-◌, ◌<◌, List, [], ◌∷◌, ◌++◌, Bool, true, false, cond, refl, sym, ap, ◌∙◌, subst, length, arith, Option, Some, None, inl, inr, ⊎_elim, eq-eqb, ne_eqb}
+use Rattle.std.proofs.Common.{◌≡◌, ◌≢◌, ℕ, ◌+◌, ◌-◌, List, [], ◌∷◌, ◌++◌, Bool, true, false, cond, refl, sym, ap, ◌∙◌, subst, arith, Some, None, inl, inr, ⊎_elim, eq-eqb, ne_eqb}
 use Rattle.std.specs.Prelude.{◌==◌, ◌||◌, Contains, count_by, is_some, option_map, slice_index}
 use Rattle.std.specs.List.{AllByRecursion, list_any}
 use Rattle.std.specs.Option.{option_map_or}
@@ -17,14 +17,13 @@ use Rattle.plain_model.specs.ActiveTransaction.{ActiveTransaction}
 use Rattle.plain_model.specs.Machine.{State, own_graph, transaction_of, is_among, is_stored, new_transaction, seen_slot, seen_payload, blocks_sharing, blocks_owning}
 use Rattle.plain_model.specs.declared.calls.Entry.TheVariants.{Undo as UndoEntry}
 use Rattle.plain_model.specs.History.{CommitPoint, Moment, can_be_undone, with_aborting, next}
-use Rattle.plain_laws.specs.Sound.{IsSoundState, has_made, makes, is_whole}
-use Rattle.plain_laws.proofs.Entries.{unblocked}
+use Rattle.plain_laws.specs.Sound.{has_made, makes, is_whole}
 use Rattle.plain_laws.proofs.States.{sound-commit, sound-abort}
 use Rattle.plain_laws.proofs.Legal.{sound-read, sound-store, sound-made, registers-stored_proof}
 use Rattle.store_model.specs.Cells.{Pointer, Cell, blank_cell, cell_at, pointer_at, is_live, object_of, edit, relinked, pays}
 use Rattle.store_model.specs.Records.{Make, Store, Pay, Undo, UndoPay, after_record, Fits, IsWellLaid}
 use Rattle.store_model.specs.Core.{IsMadeFirst, slot_in, payload_in, current}
-use Rattle.store_model.specs.SoundCells.{AreConsistent, IsCurrentCell, IsSoundCells}
+use Rattle.store_model.specs.SoundCells.{IsCurrentCell, IsSoundCells}
 use Rattle.store_model.specs.Steps.{Replaces, IsOnlyWriter, undone_by, read_by, get_by, set_by, store_by, make_by, moment_with, moment_begun, moment_made, moment_committed, moment_aborted}
 use Rattle.store_model.proofs.Lists.{each, Contains-here}
 use Rattle.store_model.proofs.EditLaws.{live-there, live-within, edit-here, edit-other, edit-keeps}
@@ -37,7 +36,7 @@ use Rattle.store_model.proofs.StateLaws.{state-begun, state-got, state-set, stat
 use Rattle.store_model.proofs.StepLaws.{Contains-cons, replaces, cmp-same, relinked-object, relinked-object_other}
 use Rattle.store_model.proofs.ActiveLaws.{owner, active-at, own-only_writer, in_some_register}
 use Rattle.store_model.proofs.EndLaws.{removes, gone_active, still_active}
-use Rattle.store_model.proofs.SeenLaws.{shared-alone, owned-alone}
+use Rattle.store_model.proofs.SeenLaws.{owned-alone}
 use Rattle.store_model.proofs.UndoLaws.{undo-object}
 use Rattle.store_model.proofs.MakeLaws.{blank-object}
 use Rattle.store_model.proofs.MakeSound.{stored-insert, differ}

@@ -1,17 +1,15 @@
 -- What a journal keeps, where one client's transaction changes and no reference is added.
-use Rattle.std.proofs.Common.{◌≡◌, ◌≢◌, ℕ, ◌<◌, List, [], ◌∷◌, ◌++◌, Bool, true, false, refl, sym, ap, ◌∙◌, subst, Option, Some, None, ◌⊎◌, inl, inr, ⊎_elim}
+use Rattle.std.proofs.Common.{◌≡◌, ◌≢◌, ℕ, List, true, false, refl, sym, ap, ◌∙◌, subst, Option, Some, None, ◌⊎◌, inl, inr, ⊎_elim}
 use Rattle.std.specs.Prelude.{◌==◌, Contains, IfSome}
-use Rattle.std.proofs.lemmas.Bool.{cases_eq, false_from_ne_true, and_parts, and_right}
-use Rattle.plain_model.specs.declared.write.Place.{Place}
+use Rattle.std.proofs.lemmas.Bool.{cases_eq, false_from_ne_true, and_parts}
 use Rattle.plain_model.specs.declared.write.Place.TheVariants.{Payload, Whole}
 use Rattle.plain_model.specs.declared.write.Write.{Write}
 use Rattle.plain_model.specs.ActiveTransaction.{ActiveTransaction}
-use Rattle.plain_model.specs.Machine.{transaction_of}
 use Rattle.plain_model.specs.History.{holds}
 use Rattle.plain_laws.specs.Sound.{IsSoundState}
 use Rattle.store_model.specs.Cells.{Pointer, Cell, cell_at, pointer_at, is_live, relinked}
-use Rattle.store_model.specs.Core.{Ref, Copy, Round, Core, names, IsActive, slot_in, slot_value, new_target, has_slot, touches, IsMadeFirst}
-use Rattle.store_model.specs.Sound.{in_register, by_lock, by_name, by_pass, Kept, start, IsKept, IsCurrent, KeptByOthers, IsKnown, root_itself, pointed, register_id, condemned_of, in_round, copy_of, IsSound}
+use Rattle.store_model.specs.Core.{Copy, Round, Core, names, IsActive, slot_in, slot_value, new_target, has_slot, touches, IsMadeFirst}
+use Rattle.store_model.specs.Sound.{in_register, by_lock, by_name, by_pass, Kept, start, IsKept, KeptByOthers, IsKnown, root_itself, pointed, register_id, condemned_of, in_round, copy_of, IsSound}
 use Rattle.store_model.specs.SoundCells.{AreConsistent, IsCurrentCell}
 use Rattle.store_model.specs.Steps.{Replaces, IsTouched}
 use Rattle.store_model.proofs.EditLaws.{live-there}
@@ -81,7 +79,7 @@ module _ (c : Core) (s : IsSound c) (pass : ℕ) (t u : ActiveTransaction) (next
       → ((x : ℕ) → holds x t ≡ true → holds x u ≡ true)
       → ((x : ℕ) → holds x u ≡ true → (holds x t ≡ true) ⊎ Contains t.registers (Some x))
       → ((e : ℕ × ActiveTransaction) → IsActive c e → (v k : ℕ) → holds v e.1 ≡ true → is_live c.cells v ≡ true
-          → ((pointer_at cells v k).target ≡ (pointer_at c.cells v k).target) ⊎ ((pointer_at c.cells v k).target ≢ 0 → names c.refs e.0 (pointer_at c.cells v k).target ≡ true))
+      → ((pointer_at cells v k).target ≡ (pointer_at c.cells v k).target) ⊎ ((pointer_at c.cells v k).target ≢ 0 → names c.refs e.0 (pointer_at c.cells v k).target ≡ true))
       → ((v k : ℕ) → is_live cells v ≡ true → Contains (condemned_of c) (pointer_at cells v k).target → Contains (condemned_of c) v)
       → IfSome c.round (λ r. r.judged ≡ false → (id : ℕ) (copy : Copy) → Contains r.copies (id, copy) → Contains r.touched id ⊎ (copy ≡ copy_of (cell_at cells id)))
       → IsSound after_client

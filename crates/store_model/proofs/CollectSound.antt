@@ -1,31 +1,25 @@
 -- Where the collector changes cells, the queue or the round, and deletes nothing, all that a journal keeps is kept.
-use Rattle.std.proofs.Common.{◌≡◌, ◌≢◌, ℕ, ◌+◌, ◌-◌, ◌<◌, List, [], ◌∷◌, ◌++◌, Bool, true, false, cond, refl, sym, ap, ◌∙◌, subst, map, length, arith, Option, Some, None, ◌⊎◌, inl, inr, ⊎_elim, ne_eqb}
-use Rattle.std.specs.Prelude.{◌==◌, ◌&&◌, Contains, IfSome, slice_index}
+use Rattle.std.proofs.Common.{◌≡◌, ◌≢◌, ℕ, List, [], ◌∷◌, ◌++◌, true, false, refl, sym, ap, ◌∙◌, subst, map, Option, Some, None, ◌⊎◌, inl, inr, ⊎_elim}
+use Rattle.std.specs.Prelude.{Contains, IfSome, slice_index}
 use Rattle.std.specs.Option.{option_map_or}
-use Rattle.std.proofs.lemmas.Bool.{cases_eq, cases_Bool}
+use Rattle.std.proofs.lemmas.Bool.{cases_Bool}
 use Rattle.std.proofs.lemmas.List.Elements.{Contains-append_cases, Contains-append_left, Contains-append_right}
 use Rattle.plain_model.specs.declared.object.Object.{Object}
 use Rattle.plain_model.specs.Graphs.{root}
 use Rattle.plain_model.specs.ActiveTransaction.{ActiveTransaction}
 use Rattle.plain_model.specs.History.{holds}
-use Rattle.store_model.specs.Cells.{Pointer, Cell, null, cell_at, pointer_at, is_live, is_strong, same, object_of, relinked, edit, other_strength, flipped, hits, counted}
-use Rattle.store_model.specs.Records.{Weaken, Strengthen, Flip, CutDead, after_record, Fits, IsWellLaid}
+use Rattle.store_model.specs.Cells.{Cell, cell_at, pointer_at, is_live, object_of}
 use Rattle.store_model.specs.Core.{Copy, Round, Core, is_named, IsActive}
-use Rattle.store_model.specs.Sound.{Has, by_lock, by_pass, start, IsKept, HasNoReason, IsKnown, root_itself, pointed, register_id, IsOnce, in_round, condemned_of, copy_of, IsSound}
+use Rattle.store_model.specs.Sound.{by_lock, by_pass, start, IsKept, HasNoReason, IsKnown, root_itself, pointed, register_id, IsOnce, in_round, condemned_of, copy_of, IsSound}
 use Rattle.store_model.specs.SoundCells.{AreConsistent}
 use Rattle.store_model.specs.Verdict.{IsCondemned}
-use Rattle.store_model.specs.Steps.{IsQuiet, IsTracked, IsWithout, opened_round, condemned_round, with_listed, with_copy, with_verdict, after_change, after_look, after_collect}
+use Rattle.store_model.specs.Steps.{opened_round, condemned_round, with_copy, with_verdict, after_look, after_collect}
 use Rattle.store_model.proofs.Lists.{Contains-here, Contains-later}
 use Rattle.store_model.proofs.OnceLaws.{nothing-in, once-append, once-one, only-one, once-push, once-rest, once-first, once-none}
-use Rattle.store_model.proofs.EditLaws.{live-there, live-within, edit-other, edit-keeps}
-use Rattle.store_model.proofs.CountLaws.{relinked-live, relinked-bit, relinked-counted}
-use Rattle.store_model.proofs.ConsistentLaws.{consistent-kept}
-use Rattle.store_model.proofs.DeletionLaws.{target-map, unkept}
-use Rattle.store_model.proofs.CondemnedLaws.{zero-no_reason, closed_up-kept}
-use Rattle.store_model.proofs.StepLaws.{Contains-cons, relinked-object_other}
-use Rattle.store_model.proofs.CollectLaws.{strength-objects, flip-objects}
+use Rattle.store_model.proofs.DeletionLaws.{target-map}
+use Rattle.store_model.proofs.CondemnedLaws.{zero-no_reason}
+use Rattle.store_model.proofs.StepLaws.{Contains-cons}
 use Rattle.store_model.proofs.VerdictLaws.{verdict}
-use Rattle.store_model.proofs.StoreSound.{strong-kept, same-self}
 use Rattle.store_model.proofs.ClientSound.{consistent_of}
 
 -- ---- what each event has to show

@@ -1,5 +1,5 @@
 -- Consistent cells stay consistent under each record that fits and is well laid: one citation for each event.
-use Rattle.std.proofs.Common.{◌≡◌, ◌≢◌, ℕ, zero, suc, ◌<◌, List, [], ◌∷◌, Bool, true, false, refl, sym, ap, ◌∙◌, subst, length, length-set, map, replicate, arith, inl, inr, ⊎_elim}
+use Rattle.std.proofs.Common.{◌≡◌, ◌≢◌, ℕ, zero, suc, ◌<◌, List, [], ◌∷◌, Bool, true, false, refl, sym, ap, ◌∙◌, subst, length, length-set, map, replicate, arith, inl, ⊎_elim}
 use Rattle.std.proofs.lemmas.Bool.{cases_eq}
 use Rattle.store_model.specs.Cells.{Pointer, Cell, null, blank_cell, cell_at, pointer_at, is_live, edit, relink, gains, loses, relinked, other_strength, pays, flipped, turned, IsExact}
 use Rattle.store_model.specs.Records.{Record, Begin, Make, Store, Pay, Commit, Undo, UndoPay, AbortEnd, Weaken, Strengthen, Flip, CutDead, Free, after_record, Fits, IsWellLaid}

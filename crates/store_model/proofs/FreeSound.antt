@@ -1,13 +1,10 @@
 -- Where a chosen object is deleted, all that a journal keeps is kept.
-use Rattle.std.proofs.Common.{◌≡◌, ◌≢◌, ℕ, ◌<◌, List, [], ◌∷◌, true, false, not, refl, sym, ap, ◌∙◌, subst, Option, Some, None, ◌⊎◌, inl, inr, ⊎_elim, eq-eqb, ne_eqb}
-use Rattle.std.specs.Prelude.{◌==◌, ◌&&◌, Contains, IfSome, slice_index}
+use Rattle.std.proofs.Common.{◌≡◌, ◌≢◌, ℕ, List, [], ◌∷◌, true, false, not, refl, sym, ap, ◌∙◌, subst, Option, Some, None, ◌⊎◌, inl, inr, ⊎_elim, eq-eqb, ne_eqb}
+use Rattle.std.specs.Prelude.{◌&&◌, Contains, IfSome, slice_index}
 use Rattle.std.specs.Option.{option_map_or}
-use Rattle.std.specs.Set.{remove_key}
-use Rattle.std.specs.Ordering.{nat_cmp}
-use Rattle.std.specs.BTreeMap.{is_at}
 use Rattle.std.proofs.lemmas.Bool.{cases_eq}
 use Rattle.plain_model.specs.declared.object.Object.{Object}
-use Rattle.plain_model.specs.Graphs.{root, object_at, without}
+use Rattle.plain_model.specs.Graphs.{object_at, without}
 use Rattle.plain_model.specs.ActiveTransaction.{ActiveTransaction}
 use Rattle.plain_model.specs.Machine.{is_stored}
 use Rattle.plain_model.specs.History.{holds}
@@ -15,10 +12,9 @@ use Rattle.plain_laws.proofs.Legal.{without_sub}
 use Rattle.plain_laws.proofs.Locks.{stored-remove}
 use Rattle.store_model.specs.Cells.{Cell, blank_cell, cell_at, pointer_in, pointer_at, is_live, edit}
 use Rattle.store_model.specs.Records.{Free, Fits}
-use Rattle.store_model.specs.Core.{Copy, Round, Core, names, is_named, IsActive, slot_in}
+use Rattle.store_model.specs.Core.{Copy, Round, Core, names, IsActive, slot_in}
 use Rattle.store_model.specs.Sound.{IsKnown, root_itself, pointed, register_id, IsOnce, in_round, condemned_of, copy_of, IsSound}
 use Rattle.store_model.specs.Steps.{IsWithout, with_left, after_free}
-use Rattle.store_model.proofs.Lists.{Contains-here}
 use Rattle.store_model.proofs.OnceLaws.{nothing-in, only-one, once-none}
 use Rattle.store_model.proofs.EditLaws.{live-there, live-within, edit-here, edit-other}
 use Rattle.store_model.proofs.ConsistentLaws.{consistent-kept}

@@ -1,5 +1,5 @@
 -- A transaction makes an object before it writes to it.
-use Rattle.std.proofs.Common.{◌≡◌, ◌≢◌, List, [], ◌∷◌, ◌++◌, Bool, true, false, refl, sym, ◌∙◌, subst}
+use Rattle.std.proofs.Common.{◌≡◌, ◌≢◌, List, [], ◌∷◌, ◌++◌, false, refl, sym}
 use Rattle.std.specs.List.{AllByRecursion}
 use Rattle.plain_model.specs.declared.write.Place.{Place}
 use Rattle.plain_model.specs.declared.write.Place.TheVariants.{Slot, Payload, Whole}

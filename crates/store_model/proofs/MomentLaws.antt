@@ -1,5 +1,5 @@
 -- The current graph after each event, one object at a time, whatever the cells.
-use Rattle.std.proofs.Common.{◌≡◌, ◌≢◌, ℕ, zero, suc, ◌+◌, ◌-◌, ◌<◌, List, [], ◌∷◌, ◌++◌, true, false, cond, refl, sym, ap, ap₂, ◌∙◌, subst, append_assoc, arith, Option, Some, None, ◌⊎◌, inl, inr, ⊎_elim, eq-eqb, ne_eqb}
+use Rattle.std.proofs.Common.{◌≡◌, ◌≢◌, ℕ, zero, ◌+◌, ◌-◌, List, [], ◌∷◌, ◌++◌, true, false, cond, refl, sym, ap, ap₂, ◌∙◌, subst, append_assoc, arith, Option, Some, None, ◌⊎◌, inl, inr, ⊎_elim, eq-eqb, ne_eqb}
 use Rattle.std.specs.Prelude.{◌==◌, Contains, count_by}
 use Rattle.std.specs.List.{AllByRecursion}
 use Rattle.std.specs.Option.{option_map_or}
@@ -14,14 +14,14 @@ use Rattle.plain_model.specs.declared.write.Place.{Place}
 use Rattle.plain_model.specs.declared.write.Write.{Write}
 use Rattle.plain_model.specs.Graphs.{object_at, applied}
 use Rattle.plain_model.specs.ActiveTransaction.{ActiveTransaction}
-use Rattle.plain_model.specs.Machine.{State, own_graph, transaction_of, new_transaction}
+use Rattle.plain_model.specs.Machine.{own_graph, transaction_of, new_transaction}
 use Rattle.plain_model.specs.declared.calls.Entry.TheVariants.{Delete, Undo}
 use Rattle.plain_model.specs.History.{Moment, can_be_undone, with_aborting, next}
 use Rattle.plain_laws.specs.Sound.{PassesAscend, IsSoundState}
 use Rattle.plain_laws.proofs.Lookups.{place_at, writes_at, object_at-after_writes}
 use Rattle.plain_laws.proofs.Legal.{without_other}
 use Rattle.store_model.specs.Core.{first_writes, current}
-use Rattle.store_model.specs.Steps.{Replaces, Removes, IsOnlyWriter, moment_with, moment_begun, moment_committed, moment_aborted}
+use Rattle.store_model.specs.Steps.{Replaces, IsOnlyWriter, moment_with, moment_begun, moment_committed, moment_aborted}
 use Rattle.store_model.proofs.Lists.{each, Contains-here, Contains-later}
 use Rattle.store_model.proofs.ObjectLaws.{object_in, current-object, writes_at-apart, object_in-apart, object_in-split, first_writes-all}
 use Rattle.store_model.proofs.StepLaws.{Contains-cons, cmp-same, cmp-above, cmp-below, above-less, replaces, current-replaced}

@@ -1,6 +1,6 @@
 -- Where a client reads or writes a payload, all that a journal keeps is kept.
-use Rattle.std.proofs.Common.{◌≡◌, ◌≢◌, ℕ, ◌<◌, List, true, false, refl, sym, ap, ◌∙◌, subst, Option, Some, None, ◌⊎◌, inl, inr, ⊎_elim}
-use Rattle.std.specs.Prelude.{Contains, IfSome, is_some}
+use Rattle.std.proofs.Common.{◌≡◌, ℕ, false, refl, sym, ap, ◌∙◌, subst, Option, Some, None, ◌⊎◌, inl, inr, ⊎_elim}
+use Rattle.std.specs.Prelude.{Contains, IfSome}
 use Rattle.std.specs.Ordering.{nat_cmp}
 use Rattle.std.specs.BTreeMap.{insert_entry}
 use Rattle.std.proofs.lemmas.List.Elements.{Contains-push_cases}
@@ -9,10 +9,10 @@ use Rattle.plain_model.specs.declared.write.Write.{Write}
 use Rattle.plain_model.specs.Graphs.{set_place}
 use Rattle.plain_model.specs.ActiveTransaction.{ActiveTransaction}
 use Rattle.plain_model.specs.Machine.{transaction_of, blocks_sharing, blocks_owning}
-use Rattle.store_model.specs.Cells.{Cell, cell_at, pointer_in, is_live, edit, pays}
+use Rattle.store_model.specs.Cells.{cell_at, pointer_in, is_live, edit, pays}
 use Rattle.store_model.specs.Records.{Pay, after_record, Fits}
 use Rattle.store_model.specs.Core.{Copy, Round, Core}
-use Rattle.store_model.specs.Sound.{IsKept, condemned_of, copy_of, IsSound}
+use Rattle.store_model.specs.Sound.{condemned_of, copy_of, IsSound}
 use Rattle.store_model.specs.Steps.{get_by, set_by, moment_with, after_transaction}
 use Rattle.store_model.proofs.EditLaws.{live-there, live-within, edit-keeps}
 use Rattle.store_model.proofs.ConsistentLaws.{consistent-kept}

@@ -1,5 +1,5 @@
 -- A sound state of the reference machine stays sound: the steps for which the laws of its states have no name of their own.
-use Rattle.std.proofs.Common.{◌≡◌, ℕ, true, false, refl, sym, ap, List, [], ◌∙◌, subst, Option, Some, None}
+use Rattle.std.proofs.Common.{◌≡◌, ℕ, true, false, refl, sym, ap, [], ◌∙◌, subst, Option, Some, None}
 use Rattle.std.specs.Prelude.{if◌then◌else◌, Contains, unwrap_or}
 use Rattle.std.specs.Option.{option_map_or}
 use Rattle.std.specs.Map.{set_value}

@@ -1,24 +1,22 @@
 -- Where a write is undone, all that a journal keeps is kept.
-use Rattle.std.proofs.Common.{◌≡◌, ◌≢◌, ℕ, ◌+◌, ◌-◌, ◌<◌, List, [], ◌∷◌, ◌++◌, Bool, true, false, refl, sym, ap, ◌∙◌, subst, length, Option, Some, None, ◌⊎◌, inl, inr, ⊎_elim, eq-eqb, ne_eqb}
-use Rattle.std.specs.Prelude.{◌==◌, ◌&&◌, ◌||◌, Contains, IfSome, count_by, slice_index}
-use Rattle.std.specs.List.{AllByRecursion}
+use Rattle.std.proofs.Common.{◌≡◌, ◌≢◌, ℕ, ◌+◌, ◌-◌, List, ◌∷◌, ◌++◌, Bool, true, false, refl, sym, ap, ◌∙◌, subst, Option, Some, None, ◌⊎◌, inl, inr, ⊎_elim, eq-eqb, ne_eqb}
+use Rattle.std.specs.Prelude.{◌==◌, Contains, IfSome, count_by, slice_index}
 use Rattle.std.specs.Option.{option_map_or}
-use Rattle.std.proofs.lemmas.Bool.{cases_eq, cond-true, cond-false, and_from, or_left, or_parts}
+use Rattle.std.proofs.lemmas.Bool.{cases_eq, cond-false, and_from}
 use Rattle.std.proofs.lemmas.List.Elements.{Contains-append_left, Contains-append_right}
 use Rattle.plain_model.specs.declared.object.Object.{Object}
-use Rattle.plain_model.specs.declared.write.Place.{Place}
 use Rattle.plain_model.specs.declared.write.Place.TheVariants.{Slot, Payload}
 use Rattle.plain_model.specs.declared.write.Write.{Write}
 use Rattle.plain_model.specs.declared.calls.Entry.TheVariants.{Undo as UndoEntry}
 use Rattle.plain_model.specs.Graphs.{object_at, set_place, applied}
 use Rattle.plain_model.specs.ActiveTransaction.{ActiveTransaction}
-use Rattle.plain_model.specs.Machine.{transaction_of, is_among}
+use Rattle.plain_model.specs.Machine.{transaction_of}
 use Rattle.plain_model.specs.History.{can_be_undone, with_aborting, holds, next}
-use Rattle.store_model.specs.Cells.{Pointer, Cell, cell_at, pointer_in, pointer_at, is_live, edit, relinked, pays}
+use Rattle.store_model.specs.Cells.{Pointer, cell_at, pointer_in, pointer_at, is_live, edit, relinked, pays}
 use Rattle.store_model.specs.Records.{Undo, UndoPay, after_record, Fits}
-use Rattle.store_model.specs.Core.{Copy, Round, Core, names, IsActive, slot_in, payload_in, new_target, touches, IsMadeFirst, current}
+use Rattle.store_model.specs.Core.{Copy, Round, Core, names, slot_in, payload_in, new_target, IsMadeFirst, current}
 use Rattle.store_model.specs.Sound.{condemned_of, copy_of, IsSound}
-use Rattle.store_model.specs.Steps.{Replaces, IsOnlyWriter, IsTouched, undone_by, after_undo}
+use Rattle.store_model.specs.Steps.{IsTouched, undone_by, after_undo}
 use Rattle.store_model.proofs.Lists.{each, Contains-here}
 use Rattle.store_model.proofs.EditLaws.{live-there, live-within, edit-keeps}
 use Rattle.store_model.proofs.CountLaws.{relinked-live, relinked-which}

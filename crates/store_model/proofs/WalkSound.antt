@@ -1,13 +1,13 @@
 -- Where the collector weakens, strengthens, flips or removes a reference, all that a journal keeps is kept.
-use Rattle.std.proofs.Common.{◌≡◌, ◌≢◌, ℕ, ◌+◌, ◌-◌, ◌<◌, List, [], ◌∷◌, ◌++◌, Bool, true, false, cond, refl, sym, ap, ◌∙◌, subst, length, arith, Option, Some, ◌⊎◌, inl, inr, ⊎_elim, ne_eqb}
+use Rattle.std.proofs.Common.{◌≡◌, ◌≢◌, ℕ, ◌<◌, List, [], ◌∷◌, ◌++◌, Bool, true, false, cond, refl, sym, ap, ◌∙◌, subst, length, arith, Some, ◌⊎◌, inl, inr, ⊎_elim, ne_eqb}
 use Rattle.std.specs.Prelude.{◌==◌, ◌&&◌, Contains}
 use Rattle.std.proofs.lemmas.Bool.{cases_eq}
 use Rattle.std.proofs.lemmas.List.Elements.{Contains-append_cases, Contains-append_left, Contains-append_right}
 use Rattle.plain_model.specs.Graphs.{root}
-use Rattle.store_model.specs.Cells.{Pointer, Cell, null, cell_at, pointer_at, is_live, is_strong, same, object_of, relinked, edit, other_strength, flipped, hits, counted}
+use Rattle.store_model.specs.Cells.{Pointer, Cell, null, cell_at, pointer_at, is_live, is_strong, same, object_of, relinked, other_strength, flipped, hits, counted}
 use Rattle.store_model.specs.Records.{Record, Weaken, Strengthen, Flip, CutDead, after_record, Fits, IsWellLaid}
 use Rattle.store_model.specs.Core.{Copy, Round, Core, is_named}
-use Rattle.store_model.specs.Sound.{IsKept, IsOnce, in_round, condemned_of, copy_of, IsSound}
+use Rattle.store_model.specs.Sound.{IsKept, IsOnce, in_round, condemned_of, IsSound}
 use Rattle.store_model.specs.Steps.{IsQuiet, IsTracked, IsWithout, with_listed, after_change, after_collect}
 use Rattle.store_model.proofs.Lists.{Contains-here}
 use Rattle.store_model.proofs.OnceLaws.{nothing-in, only-one, once-push}
@@ -20,7 +20,7 @@ use Rattle.store_model.proofs.StepLaws.{relinked-object_other}
 use Rattle.store_model.proofs.CollectLaws.{strength-objects, flip-objects}
 use Rattle.store_model.proofs.StoreSound.{strong-kept, same-self}
 use Rattle.store_model.proofs.ClientSound.{consistent_of}
-use Rattle.store_model.proofs.CollectSound.{collect-sound, same-reason, list-is, condemned-is, in_list, from_list, from_condemned, once_listed, listed-sound}
+use Rattle.store_model.proofs.CollectSound.{collect-sound, same-reason, condemned-is, in_list, from_list, from_condemned, once_listed, listed-sound}
 
 same-swap : (a b : Bool) → same a b ≡ same b a
 same-swap true true = refl

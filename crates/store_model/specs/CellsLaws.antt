@@ -1,5 +1,5 @@
 -- The laws of a journal that has cells and collects nothing.
-use Rattle.std.specs.Prelude.{◌≡◌, ◌≢◌, ℕ, ◌+◌, ◌-◌, Bool, true, false, List, ◌∷◌, ◌++◌, count_by, Some, None, Contains}
+use Rattle.std.specs.Prelude.{◌≡◌, ◌≢◌, ℕ, ◌+◌, ◌-◌, Bool, false, List, ◌∷◌, ◌++◌, count_by, Some, None, Contains}
 use Rattle.plain_model.specs.declared.write.Place.TheVariants.{Slot, Payload}
 use Rattle.plain_model.specs.declared.write.Write.{Write}
 use Rattle.plain_model.specs.declared.calls.Entry.TheVariants.{Undo as UndoEntry}
