@@ -20,7 +20,7 @@ use Rattle.store_model.proofs.StepLaws.{was_active, active-cases, other-cases, k
 use Rattle.store_model.proofs.ReadSound.{active-still, active-new}
 use Rattle.store_model.proofs.StoreSound.{apart-cases}
 
--- the parts 1 and 2 of what a journal keeps
+-- a sound journal's cells are consistent
 pub consistent_of : (c : Core) → IsSound c → AreConsistent c.moment.state.slots c.moment.state.ids c.cells
 consistent_of c s = record { exact = s.exact; empty = s.empty; sized = s.sized; slotted = s.slotted; acyclic = s.acyclic }
 
