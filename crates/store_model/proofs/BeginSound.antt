@@ -11,7 +11,7 @@ use Rattle.plain_model.specs.ActiveTransaction.{ActiveTransaction}
 use Rattle.plain_model.specs.Machine.{transaction_of, new_transaction}
 use Rattle.plain_model.specs.History.{holds}
 use Rattle.store_model.specs.Core.{Core, names, IsActive, slot_in, new_target, touches, IsMadeFirst}
-use Rattle.store_model.specs.Sound.{Has, in_register, by_lock, by_name, IsHeld, as_root, by_pass, Kept, start, step, KeptByOthers, IsKnown, root_itself, pointed, register_id, IsSound}
+use Rattle.store_model.specs.Sound.{Has, in_register, by_lock, by_name, IsHeld, as_root, by_pass, Kept, start, step, KeptByOthers, IsKnown, root_itself, pointed, named_id, IsSound}
 use Rattle.store_model.specs.Steps.{moment_begun, after_begin}
 use Rattle.store_model.proofs.StateLaws.{state-begun}
 use Rattle.store_model.proofs.StepLaws.{Contains-cons, Kept-least, names-append}
@@ -108,4 +108,4 @@ module _ (c : Core) (s : IsSound c) (pass : ℕ) (a : transaction_of c.moment.st
       known : (e : ℕ × ActiveTransaction) (id : ℕ) → IsKnown c e id → IsKnown (after_begin c pass) e id
       known e id (root_itself h) = root_itself h
       known e id (pointed v k h l p) = pointed v k h l p
-      known e id (register_id h) = register_id h
+      known e id (named_id h) = named_id h

@@ -9,7 +9,7 @@ use Rattle.plain_model.specs.History.{holds}
 use Rattle.plain_laws.specs.Sound.{IsSoundState}
 use Rattle.store_model.specs.Cells.{Pointer, Cell, cell_at, pointer_at, is_live, relinked}
 use Rattle.store_model.specs.Core.{Copy, Round, Core, names, IsActive, slot_in, slot_value, new_target, has_slot, touches, IsMadeFirst}
-use Rattle.store_model.specs.Sound.{in_register, by_lock, by_name, by_pass, Kept, start, IsKept, KeptByOthers, IsKnown, root_itself, pointed, register_id, condemned_of, in_round, copy_of, IsSound}
+use Rattle.store_model.specs.Sound.{in_register, by_lock, by_name, by_pass, Kept, start, IsKept, KeptByOthers, IsKnown, root_itself, pointed, named_id, condemned_of, in_round, copy_of, IsSound}
 use Rattle.store_model.specs.SoundCells.{AreConsistent, IsCurrentCell}
 use Rattle.store_model.specs.Steps.{Replaces, IsTouched}
 use Rattle.store_model.proofs.EditLaws.{live-there}
@@ -147,9 +147,9 @@ module _ (c : Core) (s : IsSound c) (pass : ℕ) (t u : ActiveTransaction) (next
     where
       known : (e d : ℕ × ActiveTransaction) → IsActive c e → ((v : ℕ) → holds v e.1 ≡ true → holds v d.1 ≡ true) → d.0 ≡ e.0 → (id : ℕ) → is_live c.cells id ≡ true → IsKnown c e id → IsKnown after_client d id
       known e d m f q id l (root_itself h) = root_itself h
-      known e d m f q id l (register_id h) = register_id (subst (λ n. names c.refs n id ≡ true) (sym q) h)
+      known e d m f q id l (named_id h) = named_id (subst (λ n. names c.refs n id ≡ true) (sym q) h)
       known e d m f q id l (pointed v j h lv p) =
           ⊎_elim
           (λ o. pointed v j (f v h) (live v ∙ lv) (o ∙ p))
-          (λ o. register_id (subst (λ n. names c.refs n id ≡ true) (sym q) (subst (λ x. names c.refs e.0 x ≡ true) p (o (λ z. live-there c.cells id s.exact.none l (sym p ∙ z))))))
+          (λ o. named_id (subst (λ n. names c.refs n id ≡ true) (sym q) (subst (λ x. names c.refs e.0 x ≡ true) p (o (λ z. live-there c.cells id s.exact.none l (sym p ∙ z))))))
           (pointers e m v j h lv)

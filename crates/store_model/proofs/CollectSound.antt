@@ -10,7 +10,7 @@ use Rattle.plain_model.specs.ActiveTransaction.{ActiveTransaction}
 use Rattle.plain_model.specs.History.{holds}
 use Rattle.store_model.specs.Cells.{Cell, cell_at, pointer_at, is_live, object_of}
 use Rattle.store_model.specs.Core.{Copy, Round, Core, is_named, IsActive}
-use Rattle.store_model.specs.Sound.{by_lock, by_pass, start, IsKept, HasNoReason, IsKnown, root_itself, pointed, register_id, IsOnce, in_round, condemned_of, copy_of, IsSound}
+use Rattle.store_model.specs.Sound.{by_lock, by_pass, start, IsKept, HasNoReason, IsKnown, root_itself, pointed, named_id, IsOnce, in_round, condemned_of, copy_of, IsSound}
 use Rattle.store_model.specs.SoundCells.{AreConsistent}
 use Rattle.store_model.specs.Verdict.{IsCondemned}
 use Rattle.store_model.specs.Steps.{opened_round, condemned_round, with_copy, with_verdict, after_look, after_collect}
@@ -70,7 +70,7 @@ module _ (c : Core) (s : IsSound c) (cells : List Cell) (queue : List ℕ) (roun
 
       known : (e : ℕ × ActiveTransaction) → IsActive c e → (id : ℕ) → IsKnown c e id → IsKnown (after_collect c cells queue round) e id
       known e m id (root_itself h) = root_itself h
-      known e m id (register_id h) = register_id h
+      known e m id (named_id h) = named_id h
       known e m id (pointed v j h l p) = pointed v j h (live v ∙ l) (target v j (start v (by_pass e m (by_lock h))) ∙ p)
 
   -- the condemned are those from before, or fewer

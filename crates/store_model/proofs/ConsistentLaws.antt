@@ -1,8 +1,10 @@
 -- Consistent cells stay consistent under each record that fits and is well laid: one citation for each event.
-use Rattle.std.proofs.Common.{◌≡◌, ◌≢◌, ℕ, zero, suc, ◌<◌, List, [], ◌∷◌, Bool, true, false, refl, sym, ap, ◌∙◌, subst, length, length-set, map, replicate, arith, inl, ⊎_elim}
+use Rattle.std.proofs.Common.{◌≡◌, ◌≢◌, ℕ, zero, suc, ◌<◌, List, [], ◌∷◌, ◌++◌, Option, Some, None, Bool, true, false, refl, sym, ap, ◌∙◌, subst, length, length-set, map, replicate, arith, inl, ⊎_elim}
+use Rattle.std.specs.Option.{option_map_or}
 use Rattle.std.proofs.lemmas.Bool.{cases_eq}
+use Rattle.std.proofs.lemmas.List.Sums.{fold-append}
 use Rattle.store_model.specs.Cells.{Pointer, Cell, null, blank_cell, cell_at, pointer_at, is_live, edit, relink, gains, loses, relinked, other_strength, pays, flipped, turned, IsExact}
-use Rattle.store_model.specs.Records.{Record, Begin, Make, Store, Pay, Commit, Undo, UndoPay, AbortEnd, Weaken, Strengthen, Flip, CutDead, Free, after_record, Fits, IsWellLaid}
+use Rattle.store_model.specs.Records.{Record, Begin, Make, Store, Pay, Commit, Undo, UndoPay, AbortEnd, Weaken, Strengthen, Flip, CutDead, Free, after_record, cells_after, AllFit, AllWellLaid, Fits, IsWellLaid}
 use Rattle.store_model.specs.Strong.{HasNoStrongCycle}
 use Rattle.store_model.specs.SoundCells.{AreConsistent}
 use Rattle.store_model.proofs.EditLaws.{live-there, live-within, edit-none, edit-here, edit-other, edit-keeps, length-edit}
@@ -107,3 +109,12 @@ consistent-kept slots ids cells r f w k = by r f (exact-kept slots cells r f k.e
     by (Flip id) f e a = edited-consistent slots ids cells k id (flipped id) f.0 (λ c. refl) (λ c. turned-length id c.pointers) e a
     by (CutDead id slot target was_strong) f e a = relinked-consistent slots ids cells k id slot null f.0.live (λ n. absurd (n refl)) e a
     by (Free id) f e a = blank-consistent slots ids cells k id false (live-there cells id k.exact.none f.0) (live-within cells id f.0) e a
+
+-- and so under all records of a journal
+pub consistent-after : (slots ids : ℕ) (cells : List Cell) (records : List (Option Record)) → AllFit slots cells records → AllWellLaid slots cells records → AreConsistent slots ids cells → AreConsistent slots ids (cells_after slots cells records)
+consistent-after slots ids cells [] f w k = k
+consistent-after slots ids cells (Some r ∷ rs) f w k = consistent-after slots ids (after_record slots cells r) rs f.1 w.1 (consistent-kept slots ids cells r f.0 w.0 k)
+consistent-after slots ids cells (None ∷ rs) f w k = consistent-after slots ids cells rs f w k
+
+pub one_more : (slots : ℕ) (cells : List Cell) (records : List (Option Record)) (r : Record) → cells_after slots cells (records ++ Some r ∷ []) ≡ after_record slots (cells_after slots cells records) r
+one_more slots cells records r = fold-append (λ (cs : List Cell) (r : Option Record). option_map_or (after_record slots cs) r cs) cells records (Some r ∷ [])

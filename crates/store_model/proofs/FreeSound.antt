@@ -13,7 +13,7 @@ use Rattle.plain_laws.proofs.Locks.{stored-remove}
 use Rattle.store_model.specs.Cells.{Cell, blank_cell, cell_at, pointer_in, pointer_at, is_live, edit}
 use Rattle.store_model.specs.Records.{Free, Fits}
 use Rattle.store_model.specs.Core.{Copy, Round, Core, names, IsActive, slot_in}
-use Rattle.store_model.specs.Sound.{IsKnown, root_itself, pointed, register_id, IsOnce, in_round, condemned_of, copy_of, IsSound}
+use Rattle.store_model.specs.Sound.{IsKnown, root_itself, pointed, named_id, IsOnce, in_round, condemned_of, copy_of, IsSound}
 use Rattle.store_model.specs.Steps.{IsWithout, with_left, after_free}
 use Rattle.store_model.proofs.OnceLaws.{nothing-in, only-one, once-none}
 use Rattle.store_model.proofs.EditLaws.{live-there, live-within, edit-here, edit-other}
@@ -118,7 +118,7 @@ module _ (c : Core) (s : IsSound c) (r : Round) (q : c.round ≡ Some r) (id : �
 
       known : (e : ℕ × ActiveTransaction) → IsActive c e → (x : ℕ) → IsKnown c e x → IsKnown (after_free c id o) e x
       known e m x (root_itself h) = root_itself h
-      known e m x (register_id h) = register_id h
+      known e m x (named_id h) = named_id h
       known e m x (pointed v j h l p) =
           let n : v ≢ id = λ z. (let no : true ≡ false = sym h ∙ subst (λ y. holds y e.1 ≡ false) (sym z) (s.condemned.not_locked id (from_condemned c s r q id chosen) e m) in cc) in
           let is = edit-other c.cells id v (λ _. blank_cell false c.moment.state.slots) n in

@@ -15,7 +15,7 @@ use Rattle.plain_laws.proofs.Told.{commit-leaves_held_proof}
 use Rattle.store_model.specs.Cells.{cell_at, pointer_at}
 use Rattle.store_model.specs.Records.{Make, Store, after_record, Fits, IsWellLaid}
 use Rattle.store_model.specs.Core.{Ref, Core, names}
-use Rattle.store_model.specs.Sound.{in_register, by_pass, start, IsKept, IsKnown, root_itself, pointed, register_id, IsSound}
+use Rattle.store_model.specs.Sound.{in_register, by_pass, start, IsKept, IsKnown, root_itself, pointed, named_id, IsSound}
 use Rattle.store_model.specs.Steps.{IsOnlyWriter, IsTouched, AreStoreReferences, AreLeftReferences, IsQueueLeft, read_by, store_by, after_transaction, after_make, committed_core, aborted_core}
 use Rattle.store_model.proofs.ObjectLaws.{first_writes-all}
 use Rattle.store_model.proofs.ActiveLaws.{owner}
@@ -65,7 +65,7 @@ moment-sound c n st un s =
       where
         known : (e : ℕ × ActiveTransaction) (id : ℕ) → IsKnown (record c { moment = record { state = st; undone = un; opened = o; commits = k } }) e id → IsKnown (record c { moment = record { state = st; undone = un; opened = opened; commits = commits } }) e id
         known e id (root_itself h) = root_itself h
-        known e id (register_id h) = register_id h
+        known e id (named_id h) = named_id h
         known e id (pointed v j h l p) = pointed v j h l p
 
 -- ---- replies
