@@ -1,8 +1,7 @@
 -- An object with a weak pointer to itself: made strong, that pointer would be a cycle.
-use Rattle.std.proofs.Common.{◌≡◌, ◌≢◌, ℕ, zero, suc, ◌<◌, List, [], ◌∷◌, true, false, refl, sym, ◌∙◌, length, arith}
-use Rattle.store_model.specs.Cells.{Pointer, Cell, null, blank_cell, cell_at, pointer_at, is_live, is_strong, IsExactAt, IsExact}
-use Rattle.store_model.specs.Strong.{IsStrongAt, one, HasNoStrongOut}
-use Rattle.store_model.specs.SoundCells.{AreConsistent}
+use Rattle.std.proofs.Common.{◌≡◌, ◌≢◌, ℕ, zero, suc, ◌<◌, List, [], ◌∷◌, true, false, refl, sym, length, arith}
+use Rattle.store_model.specs.Cells.{Cell, null, blank_cell, cell_at, pointer_at, is_live, is_strong, IsExactAt}
+use Rattle.store_model.specs.Strong.{one, HasNoStrongOut}
 use Rattle.store_model.specs.Laws.{SelfPointerLaw}
 use Rattle.store_model.proofs.StrongLaws.{path-first}
 
