@@ -16,7 +16,8 @@ use Rattle.store_model.specs.Steps.{moment_begun, after_begin}
 use Rattle.store_model.proofs.StateLaws.{state-begun}
 use Rattle.store_model.proofs.StepLaws.{Contains-cons, Kept-least, names-append}
 use Rattle.store_model.proofs.ActiveLaws.{active-at}
-use Rattle.store_model.proofs.MomentLaws.{inserts, insert-cases, insert-old, current-begun}
+use Rattle.store_model.proofs.InsertLaws.{inserts, insert-cases, insert-old}
+use Rattle.store_model.proofs.MomentLaws.{current-begun}
 
 no_write : {X : Type 0} (w : Write) → Contains [] w → X
 no_write w m = let l = m.1 in absurd (omega (arith, l))

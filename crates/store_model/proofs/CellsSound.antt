@@ -1,69 +1,44 @@
 -- The cells of a journal that collects nothing stay sound, event by event.
-use Rattle.std.proofs.Common.{◌≡◌, ◌≢◌, ℕ, ◌+◌, ◌-◌, List, [], ◌∷◌, ◌++◌, Bool, true, false, cond, refl, sym, ap, ◌∙◌, subst, arith, Some, None, inl, inr, ⊎_elim, eq-eqb, ne_eqb}
-use Rattle.std.specs.Prelude.{◌==◌, ◌||◌, Contains, count_by, is_some, option_map, slice_index}
+use Rattle.std.proofs.Common.{◌≡◌, ◌≢◌, ℕ, ◌-◌, List, [], ◌∷◌, Bool, true, false, refl, sym, ap, ◌∙◌, subst, arith, Some, None, inl, inr, ⊎_elim, eq-eqb, ne_eqb}
+use Rattle.std.specs.Prelude.{◌==◌, ◌||◌, Contains, count_by, is_some, slice_index}
 use Rattle.std.specs.List.{AllByRecursion, list_any}
 use Rattle.std.specs.Option.{option_map_or}
 use Rattle.std.specs.Map.{remove_entry}
 use Rattle.std.specs.Ordering.{nat_cmp, is_eq}
 use Rattle.std.specs.BTreeMap.{is_at, insert_entry}
 use Rattle.std.proofs.lemmas.Bool.{cases_eq, cond-true, cond-false, or_left, or_right, and_from}
-use Rattle.std.proofs.lemmas.List.Elements.{Contains-append_right}
 use Rattle.plain_model.specs.declared.object.Object.{Object}
-use Rattle.plain_model.specs.declared.write.Place.{Place}
 use Rattle.plain_model.specs.declared.write.Place.TheVariants.{Slot, Payload, Whole}
 use Rattle.plain_model.specs.declared.write.Write.{Write}
-use Rattle.plain_model.specs.Graphs.{object_at, has_object, set_place, applied, blank}
+use Rattle.plain_model.specs.Graphs.{object_at, has_object, set_place, blank}
 use Rattle.plain_model.specs.ActiveTransaction.{ActiveTransaction}
 use Rattle.plain_model.specs.Machine.{State, own_graph, transaction_of, is_among, is_stored, new_transaction, seen_slot, seen_payload, blocks_sharing, blocks_owning}
-use Rattle.plain_model.specs.declared.calls.Entry.TheVariants.{Undo as UndoEntry}
-use Rattle.plain_model.specs.History.{CommitPoint, Moment, can_be_undone, with_aborting, next}
+use Rattle.plain_model.specs.History.{CommitPoint, Moment, can_be_undone}
 use Rattle.plain_laws.specs.Sound.{has_made, makes, is_whole}
 use Rattle.plain_laws.proofs.States.{sound-commit, sound-abort}
 use Rattle.plain_laws.proofs.Legal.{sound-read, sound-store, sound-made, registers-stored_proof}
 use Rattle.store_model.specs.Cells.{Pointer, Cell, blank_cell, cell_at, pointer_at, is_live, object_of, edit, relinked, pays}
-use Rattle.store_model.specs.Records.{Make, Store, Pay, Undo, UndoPay, after_record, Fits, IsWellLaid}
-use Rattle.store_model.specs.Core.{IsMadeFirst, slot_in, payload_in, current}
-use Rattle.store_model.specs.SoundCells.{IsCurrentCell, IsSoundCells}
-use Rattle.store_model.specs.Steps.{Replaces, IsOnlyWriter, undone_by, read_by, get_by, set_by, store_by, make_by, moment_with, moment_begun, moment_made, moment_committed, moment_aborted}
-use Rattle.store_model.proofs.Lists.{each, Contains-here}
+use Rattle.store_model.specs.Records.{Make, Store, Pay, after_record, Fits, IsWellLaid}
+use Rattle.store_model.specs.Core.{IsMadeFirst, current}
+use Rattle.store_model.specs.SoundCells.{IsSoundCells}
+use Rattle.store_model.specs.Steps.{IsOnlyWriter, read_by, get_by, set_by, store_by, make_by, moment_with, moment_begun, moment_made, moment_committed, moment_aborted}
+use Rattle.store_model.proofs.Lists.{each}
 use Rattle.store_model.proofs.EditLaws.{live-there, live-within, edit-here, edit-other, edit-keeps}
 use Rattle.store_model.proofs.CountLaws.{relinked-live}
 use Rattle.store_model.proofs.DeletionLaws.{target-map}
-use Rattle.store_model.proofs.CurrentCells.{pays-object, pays-object_other, undo-paid, cond-there, written-cell, undone-cell}
+use Rattle.store_model.proofs.CurrentCells.{written-current, same-current, pays-object, pays-object_other}
 use Rattle.store_model.proofs.ConsistentLaws.{consistent-kept}
-use Rattle.store_model.proofs.MadeFirst.{made_first-push, made_first-later}
-use Rattle.store_model.proofs.StateLaws.{state-begun, state-got, state-set, state-undone}
+use Rattle.store_model.proofs.MadeFirst.{place-whole, made_first-push}
+use Rattle.store_model.proofs.StateLaws.{state-begun, state-got, state-set}
 use Rattle.store_model.proofs.StepLaws.{Contains-cons, replaces, cmp-same, relinked-object, relinked-object_other}
-use Rattle.store_model.proofs.ActiveLaws.{owner, active-at, own-only_writer, in_some_register}
+use Rattle.store_model.proofs.ActiveLaws.{owner, active-at, in_some_register}
 use Rattle.store_model.proofs.EndLaws.{removes, gone_active, still_active}
 use Rattle.store_model.proofs.SeenLaws.{owned-alone}
-use Rattle.store_model.proofs.UndoLaws.{undo-object}
 use Rattle.store_model.proofs.MakeLaws.{blank-object}
 use Rattle.store_model.proofs.MakeSound.{stored-insert, differ}
 use Rattle.store_model.proofs.StoreSound.{apart-cases}
-use Rattle.store_model.proofs.MomentLaws.{inserts, insert-cases, current-begun, current-unwritten, current-written, seen-current, current-committed, current-aborted, current-written_alone, undo-replaces, current-undone, undone-object}
-
--- ---- current cells
-
--- an object is written, and its cell with it
-written-current : (cells after : List Cell) (m n : Moment) (y : ℕ) (f : Object → Object) → ((x : ℕ) → object_at (current n) x ≡ cond (y == x) (option_map f (object_at (current m) x)) (object_at (current m) x))
-    → ((x : ℕ) → is_live after x ≡ is_live cells x) → object_of y (cell_at after y) ≡ f (object_of y (cell_at cells y)) → ((x : ℕ) → x ≢ y → object_of x (cell_at after x) ≡ object_of x (cell_at cells x))
-    → ((x : ℕ) → has_object (current m) x ≡ true → IsCurrentCell cells m x) → (x : ℕ) → has_object (current n) x ≡ true → IsCurrentCell after n x
-written-current cells after m n y f is live own others s x h =
-    let B = object_at (current m) x in
-    written-cell cells after m n y f is live own others x (s x (sym (cond-there (y == x) f B) ∙ (ap is_some (sym (is x)) ∙ h)))
-
--- the objects stay
-same-current : (cells : List Cell) (m n : Moment) → ((x : ℕ) → object_at (current n) x ≡ object_at (current m) x) → ((x : ℕ) → has_object (current m) x ≡ true → IsCurrentCell cells m x) → (x : ℕ) → has_object (current n) x ≡ true → IsCurrentCell cells n x
-same-current cells m n is s x h = let c = s x (ap is_some (sym (is x)) ∙ h) in record { live = c.live; contents = is x ∙ c.contents }
-
--- a write is undone, and with it its cell
-undone-current : (cells after : List Cell) (m n : Moment) (y : ℕ) (f g : Object → Object) → ((x : ℕ) → object_at (current m) x ≡ cond (y == x) (option_map f (object_at (current n) x)) (object_at (current n) x))
-    → ((b : Object) → option_map f (object_at (current n) y) ≡ Some b → object_at (current n) y ≡ Some (g b))
-    → ((x : ℕ) → is_live after x ≡ is_live cells x) → object_of y (cell_at after y) ≡ g (object_of y (cell_at cells y)) → ((x : ℕ) → x ≢ y → object_of x (cell_at after x) ≡ object_of x (cell_at cells x))
-    → ((x : ℕ) → has_object (current m) x ≡ true → IsCurrentCell cells m x) → (x : ℕ) → has_object (current n) x ≡ true → IsCurrentCell after n x
-undone-current cells after m n y f g is back live own others s x h =
-    undone-cell cells after m n y f g is back live own others x (s x (ap is_some (is x) ∙ (cond-there (y == x) f (object_at (current n) x) ∙ h)))
+use Rattle.store_model.proofs.InsertLaws.{inserts, insert-cases}
+use Rattle.store_model.proofs.MomentLaws.{current-begun, current-unwritten, current-written, seen-current, current-committed, current-aborted, current-written_alone}
 
 -- ---- Begin
 
@@ -232,11 +207,6 @@ module _ (cells : List Cell) (m : Moment) (s : IsSoundCells cells m) (pass : ℕ
         made_first = λ e k. s.made_first e (still e k);
       }
 
-  place-whole : (p : Place) (id v : ℕ) → can_be_undone (record { id = id; place = p; value = v }) ≡ false → p ≡ Whole
-  place-whole Whole id v h = refl
-  place-whole (Slot k) id v h = cc
-  place-whole Payload id v h = cc
-
   -- where every write is undone; the cells of what the transaction made stay live
   pub abort-cells_sound : count_by can_be_undone t.writes - m.undone pass ≡ 0 → IsSoundCells cells (moment_aborted m pass)
   abort-cells_sound all_undone =
@@ -249,7 +219,7 @@ module _ (cells : List Cell) (m : Moment) (s : IsSoundCells cells m) (pass : ℕ
         stored = s.stored;
         current = λ x h.
             let unmade : AllByRecursion (λ w. can_be_undone w ≡ false → w.id ≢ x) t.writes = each (λ w. can_be_undone w ≡ false → w.id ≢ x) t.writes (λ w k f q.
-            let none : has_object m.state.committed w.id ≡ false = (s.state.transactions pass t a).made_new w.id (made-there t w k (place-whole w.place w.id w.value f)) in
+            let none : has_object m.state.committed w.id ≡ false = (s.state.transactions pass t a).made_new w.id (made-there t w k (place-whole w.place f)) in
             let there : has_object m.state.committed w.id ≡ true = ap is_some (sym (current-written_alone m s.state pass t a w k)) ∙ subst (λ y. has_object (current n) y ≡ true) (sym q) h in
             let no : true ≡ false = sym there ∙ none in cc) in
             let is = current-aborted m s.state pass t a all_undone x unmade in
@@ -269,68 +239,6 @@ module _ (cells : List Cell) (m : Moment) (s : IsSoundCells cells m) (pass : ℕ
 
       made-there : (t : ActiveTransaction) (w : Write) → Contains t.writes w → w.place ≡ Whole → has_made t w.id ≡ true
       made-there t w k p = among w p t.writes k
-
-  -- ---- the undo of a write
-
-  module _ (first later : List Write) (y v : ℕ) where
-    undone_entries : (r : Replaces m.state.active (with_aborting pass m.state.active) pass t (undone_by t)) → (e : ℕ × ActiveTransaction) → Contains (with_aborting pass m.state.active) e → e.1.aborting ≡ false → (next m (UndoEntry pass)).undone e.0 ≡ 0
-    undone_entries r e k = ⊎_elim
-        (λ o f. cond-false (e.0 == pass) (m.undone e.0 + 1) (m.undone e.0) (ne_eqb e.0 pass o.1) ∙ s.none_undone e o.0 f)
-        (λ q. subst (λ (e : ℕ × ActiveTransaction). e.1.aborting ≡ false → (next m (UndoEntry pass)).undone e.0 ≡ 0) q (λ f. let no : true ≡ false = f in cc))
-        (apart-cases m.state.active (with_aborting pass m.state.active) pass t (undone_by t) s.state.passes r e k)
-
-    made_entries : (r : Replaces m.state.active (with_aborting pass m.state.active) pass t (undone_by t)) → (e : ℕ × ActiveTransaction) → Contains (with_aborting pass m.state.active) e → IsMadeFirst e.1.writes
-    made_entries r e k = ⊎_elim
-        (λ o. s.made_first e o.0)
-        (λ q. subst (λ (e : ℕ × ActiveTransaction). IsMadeFirst e.1.writes) q (s.made_first (pass, t) was))
-        (apart-cases m.state.active (with_aborting pass m.state.active) pass t (undone_by t) s.state.passes r e k)
-
-    in_split : (w : Write) → t.writes ≡ first ++ w ∷ later → Contains t.writes w
-    in_split w split = subst (λ l. Contains l w) (sym split) (Contains-append_right first (w ∷ later) w (Contains-here w later))
-
-    pub undo-cells_sound : (slot old : ℕ) (old_strong bit : Bool) (to : ℕ) → t.writes ≡ first ++ record { id = y; place = Slot slot; value = v } ∷ later → count_by can_be_undone t.writes - m.undone pass ≡ count_by can_be_undone first + 1
-        → to ≡ slot_in (applied m.state.slots m.state.committed first) y slot → Fits cells (Undo pass y slot old old_strong to bit)
-        → IsSoundCells (after_record m.state.slots cells (Undo pass y slot old old_strong to bit)) (next m (UndoEntry pass))
-    undo-cells_sound slot old old_strong bit to split turn lays fits =
-        let w : Write = record { id = y; place = Slot slot; value = v } in
-        let p : Pointer = record { target = to; bit = bit } in
-        let n = next m (UndoEntry pass) in
-        let first_made = made_first-later first w later (subst IsMadeFirst split (s.made_first (pass, t) was)) in
-        let alone = own-only_writer m.state s.state pass t was w (in_split w split) in
-        let r = undo-replaces m s.state pass t a first later y (Slot slot) v refl split turn first_made alone in
-        record {
-          consistent = consistent-kept m.state.slots m.state.ids cells (Undo pass y slot old old_strong to bit) fits tt s.consistent;
-          state = state-undone m.state pass t s.state a;
-          stored = λ x. s.stored x ∙ sym (relinked-live cells y slot p x);
-          current = undone-current cells (relinked cells y slot p) m n y (set_place (Slot slot) v) (set_place (Slot slot) to)
-              (current-undone m s.state pass t a first later y (Slot slot) v refl split turn first_made alone)
-              (λ b e. undo-object (object_at (current n) y) b slot v to e (lays ∙ ap (λ o. option_map_or (λ (o : Object). slice_index o.slots slot) o 0) (sym (undone-object m s.state pass t a first later y (Slot slot) v refl split turn first_made alone))))
-              (relinked-live cells y slot p) (relinked-object cells y slot p (live-there cells y s.consistent.exact.none fits.0.live) (live-within cells y fits.0.live)) (relinked-object_other cells y slot p) s.current;
-          none_undone = undone_entries r;
-          made_first = made_entries r;
-        }
-
-    pub undo_pay-cells_sound : (old to : ℕ) → t.writes ≡ first ++ record { id = y; place = Payload; value = v } ∷ later → count_by can_be_undone t.writes - m.undone pass ≡ count_by can_be_undone first + 1
-        → to ≡ payload_in (applied m.state.slots m.state.committed first) y → Fits cells (UndoPay pass y old to) → IsSoundCells (after_record m.state.slots cells (UndoPay pass y old to)) (next m (UndoEntry pass))
-    undo_pay-cells_sound old to split turn lays fits =
-        let w : Write = record { id = y; place = Payload; value = v } in
-        let after = edit cells y (pays to) in
-        let live : (x : ℕ) → is_live after x ≡ is_live cells x = λ x. edit-keeps (λ c. c.live) cells y x (pays to) (λ c. refl) in
-        let n = next m (UndoEntry pass) in
-        let first_made = made_first-later first w later (subst IsMadeFirst split (s.made_first (pass, t) was)) in
-        let alone = own-only_writer m.state s.state pass t was w (in_split w split) in
-        let r = undo-replaces m s.state pass t a first later y Payload v refl split turn first_made alone in
-        record {
-          consistent = consistent-kept m.state.slots m.state.ids cells (UndoPay pass y old to) fits tt s.consistent;
-          state = state-undone m.state pass t s.state a;
-          stored = λ x. s.stored x ∙ sym (live x);
-          current = undone-current cells after m n y (set_place Payload v) (set_place Payload to)
-              (current-undone m s.state pass t a first later y Payload v refl split turn first_made alone)
-              (λ b e. undo-paid (object_at (current n) y) b v to e (lays ∙ ap (λ o. option_map_or (λ (o : Object). o.payload) o 0) (sym (undone-object m s.state pass t a first later y Payload v refl split turn first_made alone))))
-              live (pays-object cells y to (live-there cells y s.consistent.exact.none fits.0) (live-within cells y fits.0)) (pays-object_other cells y to) s.current;
-          none_undone = undone_entries r;
-          made_first = made_entries r;
-        }
 
 -- ---- what a moment doesn't say of it
 

@@ -20,10 +20,6 @@ use Rattle.store_model.proofs.StepLaws.{was_active, active-cases, other-cases, k
 use Rattle.store_model.proofs.ReadSound.{active-still, active-new}
 use Rattle.store_model.proofs.StoreSound.{apart-cases}
 
--- a sound journal's cells are consistent
-pub consistent_of : (c : Core) → IsSound c → AreConsistent c.moment.state.slots c.moment.state.ids c.cells
-consistent_of c s = record { exact = s.exact; empty = s.empty; sized = s.sized; slotted = s.slotted; acyclic = s.acyclic }
-
 -- copies stay current where the changed cells are marked
 pub relinked-copies : (c : Core) → IsSound c → (u k : ℕ) (p : Pointer) (o : Option Round) → o ≡ c.round → IsTouched o u → ((pointer_at c.cells u k).target ≢ 0 → IsTouched o (pointer_at c.cells u k).target) → (p.target ≢ 0 → IsTouched o p.target)
     → IfSome o (λ r. r.judged ≡ false → (id : ℕ) (copy : Copy) → Contains r.copies (id, copy) → Contains r.touched id ⊎ (copy ≡ copy_of (cell_at (relinked c.cells u k p) id)))

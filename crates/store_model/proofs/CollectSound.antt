@@ -18,9 +18,9 @@ use Rattle.store_model.proofs.Lists.{Contains-here, Contains-later}
 use Rattle.store_model.proofs.OnceLaws.{nothing-in, once-append, once-one, only-one, once-push, once-rest, once-first, once-none}
 use Rattle.store_model.proofs.DeletionLaws.{target-map}
 use Rattle.store_model.proofs.CondemnedLaws.{zero-no_reason}
+use Rattle.store_model.proofs.ConsistentLaws.{consistent_of}
 use Rattle.store_model.proofs.StepLaws.{Contains-cons}
 use Rattle.store_model.proofs.VerdictLaws.{verdict}
-use Rattle.store_model.proofs.ClientSound.{consistent_of}
 
 -- ---- what each event has to show
 

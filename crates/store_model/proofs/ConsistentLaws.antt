@@ -6,6 +6,8 @@ use Rattle.std.proofs.lemmas.List.Sums.{fold-append}
 use Rattle.store_model.specs.Cells.{Pointer, Cell, null, blank_cell, cell_at, pointer_at, is_live, edit, relink, gains, loses, relinked, other_strength, pays, flipped, turned, IsExact}
 use Rattle.store_model.specs.Records.{Record, Begin, Make, Store, Pay, Commit, Undo, UndoPay, AbortEnd, Weaken, Strengthen, Flip, CutDead, Free, after_record, cells_after, AllFit, AllWellLaid, Fits, IsWellLaid}
 use Rattle.store_model.specs.Strong.{HasNoStrongCycle}
+use Rattle.store_model.specs.Core.{Core}
+use Rattle.store_model.specs.Sound.{IsSound}
 use Rattle.store_model.specs.SoundCells.{AreConsistent}
 use Rattle.store_model.proofs.EditLaws.{live-there, live-within, edit-none, edit-here, edit-other, edit-keeps, length-edit}
 use Rattle.store_model.proofs.CountLaws.{relinked-live, relinked-pointers, relinked-length}
@@ -118,3 +120,7 @@ consistent-after slots ids cells (None ∷ rs) f w k = consistent-after slots id
 
 pub one_more : (slots : ℕ) (cells : List Cell) (records : List (Option Record)) (r : Record) → cells_after slots cells (records ++ Some r ∷ []) ≡ after_record slots (cells_after slots cells records) r
 one_more slots cells records r = fold-append (λ (cs : List Cell) (r : Option Record). option_map_or (after_record slots cs) r cs) cells records (Some r ∷ [])
+
+-- a sound journal's cells are consistent
+pub consistent_of : (c : Core) → IsSound c → AreConsistent c.moment.state.slots c.moment.state.ids c.cells
+consistent_of c s = record { exact = s.exact; empty = s.empty; sized = s.sized; slotted = s.slotted; acyclic = s.acyclic }

@@ -17,14 +17,13 @@ use Rattle.store_model.specs.Sound.{IsKnown, root_itself, pointed, named_id, IsO
 use Rattle.store_model.specs.Steps.{IsWithout, with_left, after_free}
 use Rattle.store_model.proofs.OnceLaws.{nothing-in, only-one, once-none}
 use Rattle.store_model.proofs.EditLaws.{live-there, live-within, edit-here, edit-other}
-use Rattle.store_model.proofs.ConsistentLaws.{consistent-kept}
+use Rattle.store_model.proofs.ConsistentLaws.{consistent-kept, consistent_of}
 use Rattle.store_model.proofs.StateLaws.{state-deleted}
 use Rattle.store_model.proofs.DeletionLaws.{deletion}
 use Rattle.store_model.proofs.CondemnedLaws.{closed_up-kept}
 use Rattle.store_model.proofs.CollectLaws.{slot-without, free-current}
 use Rattle.store_model.proofs.OthersLaws.{free-others}
 use Rattle.store_model.proofs.AllowedLaws.{stored-contains, active-unheld}
-use Rattle.store_model.proofs.ClientSound.{consistent_of}
 use Rattle.store_model.proofs.CollectSound.{in_list, from_list, from_condemned, condemned-is}
 
 -- a graph without an object has nothing in its slots

@@ -16,7 +16,8 @@ made_first-push (v ∷ vs) w h n = (
   made_first-push vs w h.1 (λ p. (n p).1),
 )
 
-place-whole : (p : Place) → can_be_undone (record { id = 0; place = p; value = 0 }) ≡ false → p ≡ Whole
+-- a write that needs no undoing makes an object
+pub place-whole : (p : Place) → can_be_undone (record { id = 0; place = p; value = 0 }) ≡ false → p ≡ Whole
 place-whole Whole h = refl
 place-whole (Slot k) h = cc
 place-whole Payload h = cc

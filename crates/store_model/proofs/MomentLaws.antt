@@ -1,14 +1,14 @@
 -- The current graph after each event, one object at a time, whatever the cells.
-use Rattle.std.proofs.Common.{◌≡◌, ◌≢◌, ℕ, zero, ◌+◌, ◌-◌, List, [], ◌∷◌, ◌++◌, true, false, cond, refl, sym, ap, ap₂, ◌∙◌, subst, append_assoc, arith, Option, Some, None, ◌⊎◌, inl, inr, ⊎_elim, eq-eqb, ne_eqb}
+use Rattle.std.proofs.Common.{◌≡◌, ◌≢◌, ℕ, zero, ◌+◌, ◌-◌, List, [], ◌∷◌, ◌++◌, true, false, cond, refl, sym, ap, ap₂, ◌∙◌, subst, append_assoc, arith, Option, Some, None, ⊎_elim, eq-eqb, ne_eqb}
 use Rattle.std.specs.Prelude.{◌==◌, Contains, count_by}
 use Rattle.std.specs.List.{AllByRecursion}
 use Rattle.std.specs.Option.{option_map_or}
-use Rattle.std.specs.Map.{lookup, remove_entry, set_value}
-use Rattle.std.specs.Ordering.{nat_cmp, is_eq, match_ordering}
+use Rattle.std.specs.Map.{remove_entry, set_value}
+use Rattle.std.specs.Ordering.{nat_cmp}
 use Rattle.std.specs.BTreeMap.{is_at, insert_entry}
-use Rattle.std.proofs.lemmas.Bool.{cases_eq, cases_order, cond-true, cond-false}
+use Rattle.std.proofs.lemmas.Bool.{cases_eq, cond-true, cond-false}
 use Rattle.std.proofs.lemmas.List.Sums.{fold-append, sum_by_push}
-use Rattle.std.proofs.lemmas.List.Elements.{Contains-append_cases, Contains-append_left, Contains-append_right, All-from_recursion, All-contains}
+use Rattle.std.proofs.lemmas.List.Elements.{Contains-append_left, Contains-append_right, All-from_recursion, All-contains}
 use Rattle.plain_model.specs.declared.object.Object.{Object}
 use Rattle.plain_model.specs.declared.write.Place.{Place}
 use Rattle.plain_model.specs.declared.write.Write.{Write}
@@ -22,80 +22,13 @@ use Rattle.plain_laws.proofs.Lookups.{place_at, writes_at, object_at-after_write
 use Rattle.plain_laws.proofs.Legal.{without_other}
 use Rattle.store_model.specs.Core.{first_writes, current}
 use Rattle.store_model.specs.Steps.{Replaces, IsOnlyWriter, moment_with, moment_begun, moment_committed, moment_aborted}
-use Rattle.store_model.proofs.Lists.{each, Contains-here, Contains-later}
+use Rattle.store_model.proofs.Lists.{each}
 use Rattle.store_model.proofs.ObjectLaws.{object_in, current-object, writes_at-apart, object_in-apart, object_in-split, first_writes-all}
-use Rattle.store_model.proofs.StepLaws.{Contains-cons, cmp-same, cmp-above, cmp-below, above-less, replaces, current-replaced}
-use Rattle.store_model.proofs.EndLaws.{removes, still_active, other_pass}
+use Rattle.store_model.proofs.StepLaws.{replaces, current-replaced}
+use Rattle.store_model.proofs.EndLaws.{exclusive_writes, written_or, removes, still_active, other_pass}
 use Rattle.store_model.proofs.SeenLaws.{Ascend-after, alone-post}
 use Rattle.store_model.proofs.UndoLaws.{replaces_marked, Ascend-before, above-apart, zero-writes, only_whole, object_in-undone}
-use Rattle.store_model.proofs.EndSound.{exclusive_writes, written_or}
-
--- ---- an entry is added
-
--- one entry of the active clients is new
-pub record Inserts (active next : List (ℕ × ActiveTransaction)) (pass : ℕ) (u : ActiveTransaction) : Type 0 where
-  pub pre : List (ℕ × ActiveTransaction)
-  pub post : List (ℕ × ActiveTransaction)
-  pub before : active ≡ pre ++ post
-  pub after : next ≡ pre ++ (pass, u) ∷ post
-  pub pre_others : AllByRecursion (λ e. e.0 ≢ pass) pre
-  pub post_others : AllByRecursion (λ e. e.0 ≢ pass) post
-
-pub inserts : (pass : ℕ) (u : ActiveTransaction) (active : List (ℕ × ActiveTransaction)) → PassesAscend active → lookup (is_at (nat_cmp pass)) active ≡ None → Inserts active (insert_entry nat_cmp active pass u) pass u
-inserts pass u [] s h = record { pre = []; post = []; before = refl; after = refl; pre_others = tt; post_others = tt }
-inserts pass u (e ∷ es) s h =
-    ⊎_elim
-    (λ q. let no : Some e.1 ≡ None = ap (λ o. cond (is_eq o) (Some e.1) (lookup (is_at (nat_cmp pass)) es)) (sym (cmp-same pass e.0 q)) ∙ h in cc)
-    (⊎_elim
-    (λ l. record {
-      pre = [];
-      post = e ∷ es;
-      before = refl;
-      after = ap (λ o. match_ordering o ((pass, u) ∷ e ∷ es) ((e.0, u) ∷ es) (e ∷ insert_entry nat_cmp es pass u)) (cmp-below pass e.0 l);
-      pre_others = tt;
-      post_others = ((λ q. absurd (omega (arith, l, q))), above-apart pass es (above-less pass e.0 l es s.0));
-    })
-    (λ l.
-    let r = inserts pass u es s.1 (ap (λ o. cond (is_eq o) (Some e.1) (lookup (is_at (nat_cmp pass)) es)) (sym (cmp-above pass e.0 l)) ∙ h) in
-    record {
-      pre = e ∷ r.pre;
-      post = r.post;
-      before = ap (λ l. e ∷ l) r.before;
-      after = ap (λ o. match_ordering o ((pass, u) ∷ e ∷ es) ((e.0, u) ∷ es) (e ∷ insert_entry nat_cmp es pass u)) (cmp-above pass e.0 l) ∙ ap (λ l. e ∷ l) r.after;
-      pre_others = ((λ q. absurd (omega (arith, l, q))), r.pre_others);
-      post_others = r.post_others;
-    }))
-    (cases_order pass e.0)
-
-module _ (active next : List (ℕ × ActiveTransaction)) (pass : ℕ) (u : ActiveTransaction) (r : Inserts active next pass u) where
-  -- an entry afterwards is the new one, or was there and is another client's
-  pub insert-cases : (e : ℕ × ActiveTransaction) → Contains next e → (Contains active e × (e.0 ≢ pass)) ⊎ ((pass, u) ≡ e)
-  insert-cases e m =
-      let A : List (ℕ × ActiveTransaction) → Type 0 = λ l. Contains l e in
-      ⊎_elim
-      (λ h. inl (subst A (sym r.before) (Contains-append_left r.pre r.post e h), among r.pre r.pre_others e h))
-      (λ h. ⊎_elim (λ q. inr q) (λ q. inl (subst A (sym r.before) (Contains-append_right r.pre r.post e q), among r.post r.post_others e q)) (Contains-cons (pass, u) r.post e h))
-      (Contains-append_cases r.pre ((pass, u) ∷ r.post) e (subst A r.after m))
-    where
-      among : (es : List (ℕ × ActiveTransaction)) → AllByRecursion (λ e. e.0 ≢ pass) es → (e : ℕ × ActiveTransaction) → Contains es e → e.0 ≢ pass
-      among [] h e m = let l = m.1 in absurd (omega (arith, l))
-      among (d ∷ ds) h e m = ⊎_elim (λ q n. h.0 (ap (λ (e : ℕ × ActiveTransaction). e.0) q ∙ n)) (λ q. among ds h.1 e q) (Contains-cons d ds e m)
-
-  pub insert-old : (e : ℕ × ActiveTransaction) → Contains active e → Contains next e
-  insert-old e m =
-      let A : List (ℕ × ActiveTransaction) → Type 0 = λ l. Contains l e in
-      subst A (sym r.after) (⊎_elim
-      (λ h. Contains-append_left r.pre ((pass, u) ∷ r.post) e h)
-      (λ h. Contains-append_right r.pre ((pass, u) ∷ r.post) e (Contains-later (pass, u) r.post e h))
-      (Contains-append_cases r.pre r.post e (subst A r.before m)))
-
-  pub insert-new : Contains next (pass, u)
-  insert-new = subst (λ l. Contains l (pass, u)) (sym r.after) (Contains-append_right r.pre ((pass, u) ∷ r.post) (pass, u) (Contains-here (pass, u) r.post))
-
--- a client's count of undone writes, where it isn't the one whose count changes
-each_apart : (es : List (ℕ × ActiveTransaction)) (P : ℕ × ActiveTransaction → Type 0) (pass : ℕ) → ((e : ℕ × ActiveTransaction) → e.0 ≢ pass → P e) → AllByRecursion (λ d. d.0 ≢ pass) es → AllByRecursion P es
-each_apart [] P pass f h = tt
-each_apart (e ∷ es) P pass f h = (f e h.0, each_apart es P pass f h.1)
+use Rattle.store_model.proofs.InsertLaws.{inserts, each_apart}
 
 -- ---- Begin
 

@@ -15,7 +15,7 @@ use Rattle.store_model.specs.Core.{Copy, Round, Core}
 use Rattle.store_model.specs.Sound.{condemned_of, copy_of, IsSound}
 use Rattle.store_model.specs.Steps.{get_by, set_by, moment_with, after_transaction}
 use Rattle.store_model.proofs.EditLaws.{live-there, live-within, edit-keeps}
-use Rattle.store_model.proofs.ConsistentLaws.{consistent-kept}
+use Rattle.store_model.proofs.ConsistentLaws.{consistent-kept, consistent_of}
 use Rattle.store_model.proofs.CurrentCells.{pays-object, pays-object_other, written-cell}
 use Rattle.store_model.proofs.MadeFirst.{made_first-push}
 use Rattle.store_model.proofs.StateLaws.{state-got, state-set}
@@ -26,7 +26,7 @@ use Rattle.store_model.proofs.SeenLaws.{owned-alone}
 use Rattle.store_model.proofs.ReadSound.{shares-holds_old}
 use Rattle.store_model.proofs.StoreSound.{owns-holds_old}
 use Rattle.store_model.proofs.MomentLaws.{current-unwritten, current-written}
-use Rattle.store_model.proofs.ClientSound.{consistent_of, client-sound}
+use Rattle.store_model.proofs.ClientSound.{client-sound}
 
 module _ (c : Core) (s : IsSound c) (pass : ℕ) (t : ActiveTransaction) (a : transaction_of c.moment.state pass ≡ Some t) (y : ℕ) (running : t.aborting ≡ false) (reg : Contains t.registers (Some y)) where
   pub get-sound : blocks_sharing c.moment.state pass y ≡ None → IsSound (after_transaction c pass (get_by t y) c.cells c.refs)

@@ -21,7 +21,7 @@ use Rattle.store_model.proofs.Lists.{each, Contains-here}
 use Rattle.store_model.proofs.EditLaws.{live-there, live-within, edit-keeps}
 use Rattle.store_model.proofs.CountLaws.{relinked-live, relinked-which}
 use Rattle.store_model.proofs.SlotLaws.{after_writes-value}
-use Rattle.store_model.proofs.ConsistentLaws.{consistent-kept}
+use Rattle.store_model.proofs.ConsistentLaws.{consistent-kept, consistent_of}
 use Rattle.store_model.proofs.CurrentCells.{pays-object, pays-object_other, undo-paid, undone-cell}
 use Rattle.store_model.proofs.MadeFirst.{made_first-later}
 use Rattle.store_model.proofs.StateLaws.{state-undone}
@@ -33,7 +33,7 @@ use Rattle.store_model.proofs.EndLaws.{transaction-active}
 use Rattle.store_model.proofs.UndoLaws.{undo-object}
 use Rattle.store_model.proofs.StoreSound.{strong-kept}
 use Rattle.store_model.proofs.MomentLaws.{undo-replaces, current-undone, undone-object}
-use Rattle.store_model.proofs.ClientSound.{consistent_of, relinked-copies, client-sound}
+use Rattle.store_model.proofs.ClientSound.{relinked-copies, client-sound}
 
 module _ (c : Core) (s : IsSound c) (pass : ℕ) (t : ActiveTransaction) (a : transaction_of c.moment.state pass ≡ Some t) (earlier later : List Write) (y v : ℕ) where
   in_split : (w : Write) → t.writes ≡ earlier ++ w ∷ later → Contains t.writes w

@@ -13,13 +13,12 @@ use Rattle.store_model.proofs.Lists.{Contains-here}
 use Rattle.store_model.proofs.OnceLaws.{nothing-in, only-one, once-push}
 use Rattle.store_model.proofs.EditLaws.{live-there, live-within, edit-other, edit-keeps}
 use Rattle.store_model.proofs.CountLaws.{relinked-live, relinked-bit, relinked-counted}
-use Rattle.store_model.proofs.ConsistentLaws.{consistent-kept}
+use Rattle.store_model.proofs.ConsistentLaws.{consistent-kept, consistent_of}
 use Rattle.store_model.proofs.DeletionLaws.{unkept}
 use Rattle.store_model.proofs.CondemnedLaws.{LaysOutside, closed_up-kept}
 use Rattle.store_model.proofs.StepLaws.{relinked-object_other}
 use Rattle.store_model.proofs.CollectLaws.{strength-objects, flip-objects}
 use Rattle.store_model.proofs.StoreSound.{strong-kept, same-self}
-use Rattle.store_model.proofs.ClientSound.{consistent_of}
 use Rattle.store_model.proofs.CollectSound.{collect-sound, same-reason, condemned-is, in_list, from_list, from_condemned, once_listed, listed-sound}
 
 same-swap : (a b : Bool) → same a b ≡ same b a
