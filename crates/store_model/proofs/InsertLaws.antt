@@ -70,9 +70,6 @@ module _ (active next : List (ℕ × ActiveTransaction)) (pass : ℕ) (u : Activ
       (λ h. Contains-append_right r.pre ((pass, u) ∷ r.post) e (Contains-later (pass, u) r.post e h))
       (Contains-append_cases r.pre r.post e (subst A r.before m)))
 
-  pub insert-new : Contains next (pass, u)
-  insert-new = subst (λ l. Contains l (pass, u)) (sym r.after) (Contains-append_right r.pre ((pass, u) ∷ r.post) (pass, u) (Contains-here (pass, u) r.post))
-
 -- a client's count of undone writes, where it isn't the one whose count changes
 pub each_apart : (es : List (ℕ × ActiveTransaction)) (P : ℕ × ActiveTransaction → Type 0) (pass : ℕ) → ((e : ℕ × ActiveTransaction) → e.0 ≢ pass → P e) → AllByRecursion (λ d. d.0 ≢ pass) es → AllByRecursion P es
 each_apart [] P pass f h = tt

@@ -71,9 +71,6 @@ module _ (c : Core) (s : IsSound c) (r : Round) (q : c.round ≡ Some r) (quiet 
   -- ---- Weaken
 
   module _ (id slot target : ℕ) (fits : Fits c.cells (Weaken id slot target)) where
-    weak_cells : List Cell
-    weak_cells = after_record c.moment.state.slots c.cells (Weaken id slot target)
-
     -- who has no strong pointer now had none before, or is the target
     weaken-zero : (x : ℕ) → is_live c.cells x ≡ true → x ≢ root → (cell_at (after_record c.moment.state.slots c.cells (Weaken id slot target)) x).strong ≡ 0 → (x ≡ target) ⊎ (Contains c.queue x ⊎ (Contains (in_round c) x ⊎ (is_named c.refs x ≡ true)))
     weaken-zero x l n z =
