@@ -9,7 +9,7 @@ use Rattle.std.proofs.lemmas.Bool.{cases_order}
 use Rattle.std.proofs.lemmas.List.Elements.{Contains-append_cases, Contains-append_left, Contains-append_right}
 use Rattle.plain_model.specs.ActiveTransaction.{ActiveTransaction}
 use Rattle.plain_laws.specs.Sound.{PassesAscend}
-use Rattle.store_model.proofs.Lists.{Contains-here, Contains-later}
+use Rattle.store_model.proofs.Lists.{Contains-later}
 use Rattle.store_model.proofs.StepLaws.{Contains-cons, cmp-same, cmp-above, cmp-below, above-less}
 use Rattle.store_model.proofs.UndoLaws.{above-apart}
 

@@ -28,6 +28,7 @@ pub record IsCurrentCell (cells : List Cell) (m : Moment) (id : ℕ) : Type 0 wh
 
 -- the cells and the moment of a journal that collects nothing are sound
 pub record IsSoundCells (cells : List Cell) (m : Moment) : Type 0 where
+  -- the cells are consistent
   pub consistent : AreConsistent m.state.slots m.state.ids cells
   -- the reference machine's state is sound, and the stored ids are the live ones
   pub state : IsSoundState m.state
@@ -36,5 +37,5 @@ pub record IsSoundCells (cells : List Cell) (m : Moment) : Type 0 where
   pub current : (id : ℕ) → has_object (current m) id ≡ true → IsCurrentCell cells m id
   -- a transaction that isn't being undone has all its writes
   pub none_undone : (e : ℕ × ActiveTransaction) → Contains m.state.active e → e.1.aborting ≡ false → m.undone e.0 ≡ 0
-  -- and made each object before it wrote to it
+  -- a transaction makes an object before it writes to it
   pub made_first : (e : ℕ × ActiveTransaction) → Contains m.state.active e → IsMadeFirst e.1.writes
