@@ -5,11 +5,12 @@ use Rattle.plain_model.specs.declared.write.Write.{Write}
 use Rattle.plain_model.specs.Graphs.{applied}
 use Rattle.plain_model.specs.ActiveTransaction.{ActiveTransaction}
 use Rattle.plain_model.specs.Machine.{transaction_of, seen_slot, seen_payload, blocks_sharing, blocks_owning}
+use Rattle.plain_model.specs.Outcomes.{IsReachableInSomeOutcome}
 use Rattle.plain_model.specs.History.{Moment, can_be_undone}
 use Rattle.store_model.specs.Cells.{cell_at, pointer_at}
 use Rattle.store_model.specs.Records.{Make, Store, Pay, Undo, UndoPay, after_record, Fits, IsWellLaid}
 use Rattle.store_model.specs.Core.{Ref, Core, slot_in, payload_in}
-use Rattle.store_model.specs.Sound.{IsSound}
+use Rattle.store_model.specs.Sound.{IsCurrent, IsSound}
 use Rattle.store_model.specs.Fresh.{fresh_core}
 use Rattle.store_model.specs.Steps.{IsOnlyWriter, IsTouched, AreStoreReferences, store_references, AreLeftReferences, references_left, IsQueueLeft, Joins, read_by, get_by, set_by, store_by, after_transaction, after_begin, after_make, after_undo, committed_core, aborted_core}
 
@@ -28,6 +29,10 @@ SlotLaw = (c : Core) → IsSound c → (pass : ℕ) (t : ActiveTransaction) → 
 -- a client sees as the payload what the cell has
 abbrev pub PayloadLaw : Type 0
 PayloadLaw = (c : Core) → IsSound c → (pass : ℕ) (t : ActiveTransaction) → transaction_of c.moment.state pass ≡ Some t → (id : ℕ) → t.aborting ≡ false → Contains t.registers (Some id) → IsOnlyWriter c.moment.state pass id → seen_payload c.moment.state t id ≡ (cell_at c.cells id).payload
+
+-- what is reachable in some outcome is live, and its cell has its contents
+abbrev pub NeededLaw : Type 0
+NeededLaw = (c : Core) → IsSound c → (id : ℕ) → IsReachableInSomeOutcome c.moment.state id → IsCurrent c id
 
 -- ---- calls
 
