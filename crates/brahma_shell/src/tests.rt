@@ -93,15 +93,45 @@ fn scripts(rt: HostRuntime) -> Result<(), Fail> {
 
 #[test]
 fn faults(rt: HostRuntime) -> Result<(), Fail> {
-    let script = "1 begin\n";
-    let (status, text) = replayed(rt.alloc(), script, Some(2), None)?;
-    assert_eq!(rt; status, 4);
-    assert_eq!(rt; text.as_slice(), b"1 begin: ok\nrefused: read\n".as_slice());
+    for (script, failing_read, failing_write, status, output) in [
+        (
+            "1 begin\n",
+            Some(2),
+            None,
+            4,
+            "1 begin: ok\nrefused: read\n",
+        ),
+        // Both whole lines are done before the next read, and the part of a line behind them is not.
+        (
+            "1 begin\n2 begin\n2 commit",
+            Some(2),
+            None,
+            4,
+            "1 begin: ok\n2 begin: ok\nrefused: read\n",
+        ),
+        // The second read tells the end, and no third one is made.
+        ("1 begin", Some(3), None, 0, "1 begin: ok\nstored 1\n"),
+        // Each line goes out as one piece.
+        ("1 begin\n1 make 1\n", None, Some(2), 5, "1 begin: ok\n"),
+        ("1 begin\n1 stor\n", None, Some(2), 3, "1 begin: ok\n"),
+    ] {
+        let (found, text) = replayed(rt.alloc(), script, failing_read, failing_write)?;
+        assert_eq!(rt; found, status, "{script}");
+        assert_eq!(rt; text.as_slice(), output.as_bytes(), "{script}");
+    }
+    Ok(())
+}
 
-    let script = "1 begin\n1 make 1\n1 store 0 0 1\n1 commit\n";
-    let (status, text) = replayed(rt.alloc(), script, None, Some(2))?;
-    assert_eq!(rt; status, 5);
-    assert_eq!(rt; text.as_slice(), b"1 begin: ok\n".as_slice());
+#[test]
+fn a_line_that_fills_the_buffer(rt: HostRuntime) -> Result<(), Fail> {
+    let mut script = String::new(rt.alloc());
+    for _ in 0..4096 {
+        script.push_str("#")?;
+    }
+    // It is refused without a second read.
+    let (status, text) = replayed(rt.alloc(), script.as_str(), Some(2), None)?;
+    assert_eq!(rt; status, 3);
+    assert_eq!(rt; text.as_slice(), b"refused: line 1\n".as_slice());
     Ok(())
 }
 
