@@ -1,0 +1,6 @@
+pub mod Numbers
+pub mod Broken
+pub mod Rules
+pub mod Cells
+pub mod Pages
+pub mod PointerLemmas

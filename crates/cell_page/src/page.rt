@@ -1,0 +1,79 @@
+//! The page, which holds eight cells.
+
+ghost use Rattle.std.specs.Prelude.{◌≡◌, ◌+◌, ◌-◌, ◌*◌, ◌%◌, ◌≤◌, ℕ, length, slice_index_or, slice_set};
+ghost use Rattle.cell_page.specs.Format.{IsSlotCount, IsCell, IsPage, AreTyped, fresh_page, place_of, HasId};
+
+use crate::cell::Cell;
+use crate::layout::{CELLS, first_id};
+use std::marker::Model;
+
+/// Eight cells, of ids one after another.
+#[derive(Clone, Copy, PartialEq, Eq, Debug)]
+pub struct Page<const SLOTS: usize> {
+    pub(crate) cells: [Cell<SLOTS>; CELLS],
+}
+
+/// Contracts see a page as the list of its cells.
+impl<const SLOTS: usize> Model for Page<SLOTS> {
+    ghost use Rattle.std.specs.Prelude.{◌≡◌, List, length};
+    ghost use Rattle.cell_page.specs.declared.cell.Cell.{Cell};
+    ghost use Rattle.cell_page.specs.Format.{AreTyped};
+
+    ghost Value = { List (Cell SLOTS) };
+
+    ghost view = { λ p. p.cells };
+
+    ghost invariant = { λ p. (length p.cells ≡ 8) × AreTyped p.cells };
+
+    ghost inverse = { λ cells. record { cells = cells } };
+}
+
+impl<const SLOTS: usize> Page<SLOTS> {
+    /// The page of this number, from 0, in a new store: the root is live, with the one strong pointer of its own, and
+    /// all other cells are free.
+    pub fn fresh(page: u16) -> Page<SLOTS>
+        requires { IsSlotCount SLOTS }
+        ensures exact { result ≡ fresh_page SLOTS page }
+        ensures rules { IsPage page result }
+        ensures typed { AreTyped result }
+    {
+        let first = first_id(page);
+        Page {
+            cells: [
+                Cell::fresh(first),
+                Cell::fresh(first + 1),
+                Cell::fresh(first + 2),
+                Cell::fresh(first + 3),
+                Cell::fresh(first + 4),
+                Cell::fresh(first + 5),
+                Cell::fresh(first + 6),
+                Cell::fresh(first + 7),
+            ],
+        }
+    }
+
+    /// The cell of an id of this page.
+    pub fn cell(&self, id: u32) -> &Cell<SLOTS>
+        requires { HasId self.now id }
+        ensures eight { length self.now ≡ 8 }
+        ensures typed { AreTyped self.now }
+        ensures placed { result.now ≡ slice_index_or self.now (place_of id) result.now }
+        ensures id { result.now.id ≡ id }
+
+        // In a page that obeys the rules the cell does.
+        ensures rules { (page : ℕ) → IsPage page self.now → IsCell id result.now }
+    {
+        &self.cells[(id - 1) as usize % CELLS]
+    }
+
+    /// Puts a cell in the place of the one with the same id.
+    pub fn put_cell(&mut self, cell: Cell<SLOTS>)
+        requires { HasId self.old cell.id }
+        ensures placed { self.new ≡ slice_set self.old (place_of cell.entry.id) cell.entry }
+
+        // A page goes on to obey the rules, where the cell does.
+        ensures rules { (page : ℕ) → IsPage page self.old → IsCell cell.entry.id cell.entry → IsPage page self.new }
+    {
+        self.cells[(cell.id - 1) as usize % CELLS] = cell;
+    }
+}
