@@ -1,9 +1,11 @@
 -- What an edit of one held cell leaves.
-use Rattle.std.proofs.Common.{◌≡◌, ◌≢◌, ℕ, Bool, true, false, List, [], ◌∷◌, cond, refl, sym, ap, ◌∙◌, inl, inr}
+use Rattle.std.proofs.Common.{◌≡◌, ◌≢◌, ℕ, ◌-◌, Bool, true, false, not, List, [], ◌∷◌, cond, refl, sym, ap, ◌∙◌, inl, inr, arith}
 use Rattle.std.specs.Prelude.{◌==◌, ◌||◌}
 use Rattle.std.proofs.lemmas.Bool.{eqb-true, eqb-false, eq-eqb, ne_eqb, cond-true, cond-false, or_left, or_right, cases_Bool}
-use Rattle.store_model.specs.Cells.{Cell}
+use Rattle.store_model.specs.Cells.{Pointer, Cell, same, relink, loses, counted}
+use Rattle.store_model.proofs.EditLaws.{loses-shape, loses-counted}
 use Rattle.strength_counts.specs.Held.{Held, is_held, held_cell, edit_held}
+use Rattle.strength_counts.specs.Changes.{count_of}
 
 -- a live cell is held
 pub live-held : (hs : List Held) (id : ℕ) → (held_cell hs id).live ≡ true → is_held hs id ≡ true
@@ -44,3 +46,56 @@ held_cell-edit_keeps {X} g id f (h ∷ hs) other k =
 -- by what a call says of the cell that it puts back
 pub edited : (id n : ℕ) (f : Cell → Cell) (x : Cell) (hs new : List Held) → new ≡ edit_held n (λ _. x) hs → n ≡ id → x ≡ f (held_cell hs id) → new ≡ edit_held id f hs
 edited id n f x hs new is same_id same_cell = is ∙ ap (λ (i : ℕ). edit_held i (λ _. x) hs) same_id ∙ edit_held-put id f x hs same_cell
+
+-- ---- what the edits of a change keep
+
+-- a slot that changes keeps all that its cell counts
+module _ (hs new : List Held) (id slot : ℕ) (p : Pointer) (is : new ≡ edit_held id (relink slot p) hs) (other : ℕ) where
+  pub relink-keeps : {X : Type 0} (g : Cell → X) → ((c : Cell) → g (relink slot p c) ≡ g c) → g (held_cell new other) ≡ g (held_cell hs other)
+  relink-keeps g k = ap (λ (cells : List Held). g (held_cell cells other)) is ∙ held_cell-edit_keeps g id (relink slot p) hs other k
+
+  pub relink-live : (held_cell new other).live ≡ (held_cell hs other).live
+  relink-live = relink-keeps (λ c. c.live) (λ c. refl)
+
+  pub relink-bit : (held_cell new other).bit ≡ (held_cell hs other).bit
+  relink-bit = relink-keeps (λ c. c.bit) (λ c. refl)
+
+  pub relink-counted : (bit : Bool) → counted bit (held_cell new other) ≡ counted bit (held_cell hs other)
+  relink-counted bit = relink-keeps (λ c. counted bit c) (λ c. refl)
+
+-- and a count that falls keeps the other one
+module _ (hs new : List Held) (id : ℕ) (bit : Bool) (is : new ≡ edit_held id (loses bit) hs) (other : ℕ) where
+  loses-keeps : {X : Type 0} (g : Cell → X) → ((c : Cell) → g (loses bit c) ≡ g c) → g (held_cell new other) ≡ g (held_cell hs other)
+  loses-keeps g k = ap (λ (cells : List Held). g (held_cell cells other)) is ∙ held_cell-edit_keeps g id (loses bit) hs other k
+
+  pub loses-live : (held_cell new other).live ≡ (held_cell hs other).live
+  loses-live = loses-keeps (λ c. c.live) (λ c. ap (λ s. s.0) (loses-shape bit c))
+
+  pub loses-other : counted (not bit) (held_cell new other) ≡ counted (not bit) (held_cell hs other)
+  loses-other = loses-keeps (λ c. counted (not bit) c) (λ c. let e = loses-counted bit (not bit) c in by bit c e)
+    where
+      by : (bit : Bool) (c : Cell) → counted (not bit) (loses bit c) ≡ counted (not bit) c - cond (same bit (not bit)) 1 0 → counted (not bit) (loses bit c) ≡ counted (not bit) c
+      by true c e = omega (arith, e)
+      by false c e = omega (arith, e)
+
+-- ---- bits and strengths
+
+same-same : (bit strong : Bool) → same bit (same bit strong) ≡ strong
+same-same true true = refl
+same-same true false = refl
+same-same false true = refl
+same-same false false = refl
+
+same-not : (bit other : Bool) → same bit (not other) ≡ not (same bit other)
+same-not true true = refl
+same-not true false = refl
+same-not false true = refl
+same-not false false = refl
+
+-- what is counted with the bit that gives a strength
+pub counted-strength : (c : Cell) (strong : Bool) → counted (same c.bit strong) c ≡ count_of strong c
+counted-strength c strong = ap (λ (b : Bool). cond b c.strong c.weak) (same-same c.bit strong)
+
+-- and with the other bit
+pub counted-not : (c : Cell) (bit : Bool) → counted (not bit) c ≡ count_of (not (same c.bit bit)) c
+counted-not c bit = ap (λ (b : Bool). cond b c.strong c.weak) (same-not c.bit bit)

@@ -1,6 +1,7 @@
 -- Where in the cells that of an id stands, and what is held after a change there.
-use Rattle.std.proofs.Common.{◌≡◌, ℕ, zero, suc, ◌+◌, ◌<◌, Bool, true, false, List, [], ◌∷◌, ◌++◌, length, get_or, set, take, cond, refl, sym, ap, subst, ◌∙◌, arith}
+use Rattle.std.proofs.Common.{◌≡◌, ℕ, zero, suc, ◌+◌, ◌<◌, Bool, true, false, List, [], ◌∷◌, ◌++◌, length, get_or, set, take, cond, refl, sym, ap, subst, ◌∙◌, inl, inr, arith}
 use Rattle.std.specs.Prelude.{◌==◌, ◌||◌}
+use Rattle.std.specs.List.{AllByRecursion}
 use Rattle.std.proofs.lemmas.Bool.{eqb-true, eq-eqb, eqb-false, ne_eqb, cond-true, cond-false, or_parts, or_from, cases_Bool}
 use Rattle.std.proofs.lemmas.List.{length-take, get_or-take, length-set}
 use Rattle.std.proofs.lemmas.List.Elements.{All-from_recursion, recursion_from_All, All-set}
@@ -20,6 +21,14 @@ held-within (c ∷ cs) (suc k) id h none =
     let other : (c.id == id) ≡ false = none 0 c (omega arith) in
     let rest = held-within cs k id (rw other at h) (λ j d m. none (suc j) d (omega arith)) in
     omega (arith, rest)
+
+pub held-above : {slots : ℕ} (cs : List (Cell slots)) → AllByRecursion IsPlaced cs → (id : ℕ) → is_held (all_held_of cs) id ≡ true → 0 < id
+held-above [] placed id h = absurd cc
+held-above (c ∷ cs) placed id h =
+    elim (cases_Bool (c.id == id)) [
+      | inl e ↦ subst (λ (n : ℕ). 0 < n) (eqb-true c.id id e) placed.0.above
+      | inr e ↦ held-above cs placed.1 id (rw e at h)
+    ]
 
 -- ---- what is held at the place
 

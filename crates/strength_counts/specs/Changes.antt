@@ -1,8 +1,12 @@
 -- What each call does to the held cells.
-use Rattle.std.specs.Prelude.{ℕ, Bool, not, ◌&&◌, ◌==◌, List}
+use Rattle.std.specs.Prelude.{ℕ, Bool, not, ◌&&◌, if◌then◌else◌, ◌==◌, List}
 use Rattle.std.specs.List.{list_all}
 use Rattle.store_model.specs.Cells.{Pointer, Cell, null, same, relink, gains, loses, other_strength, flipped}
-use Rattle.strength_counts.specs.Held.{Held, held_cell, held_pointer, edit_held}
+use Rattle.strength_counts.specs.Held.{Held, held_cell, held_pointer, held_target, edit_held}
+
+-- how many strong pointers lead to the object, or how many weak ones
+abbrev pub count_of : Bool → Cell → ℕ
+count_of strong c = if strong then c.strong else c.weak
 
 -- a pointer is strong where its bit is its target's: so this is the one of this strength
 abbrev pub pointer_to : ℕ → Bool → List Held → Pointer
@@ -10,7 +14,7 @@ pointer_to target strong cells = record { target = target; bit = same (held_cell
 
 -- whether the pointer that a slot holds is strong
 abbrev pub holds_strong : ℕ → ℕ → List Held → Bool
-holds_strong id slot cells = let p = held_pointer cells id slot in same (held_cell cells p.target).bit p.bit
+holds_strong id slot cells = same (held_target cells id slot).bit (held_pointer cells id slot).bit
 
 -- no strong pointer leads to the object, and its slots are null
 abbrev pub takes_strong : Cell → Bool

@@ -19,6 +19,10 @@ held_cell (h ∷ hs) id = if h.id == id then h.cell else held_cell hs id
 abbrev pub held_pointer : List Held → ℕ → ℕ → Pointer
 held_pointer cells id slot = pointer_in (held_cell cells id) slot
 
+-- the cell that it names
+abbrev pub held_target : List Held → ℕ → ℕ → Cell
+held_target cells id slot = held_cell cells (held_pointer cells id slot).target
+
 -- no id is held twice
 abbrev pub AreOnce : List Held → Type 0
 AreOnce [] = Unit {0}

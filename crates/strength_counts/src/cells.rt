@@ -78,10 +78,10 @@ impl<const SLOTS: usize> Cells<SLOTS> {
         requires { is_held self.now id ≡ true }
         ensures held { held_cell self.now id ≡ cell_of result.now }
         ensures id { result.now.id ≡ id }
-        ensures above { 0 < id }
         ensures rules { IsCell id result.now }
 
-        // No id is held twice.
+        // Each held id is above 0, and no id is held twice.
+        ensures above { (other : ℕ) → is_held self.now other ≡ true → 0 < other }
         ensures once { AreOnce self.now }
     {
         &self.cells[place_of(&self.cells[..self.count], id)]

@@ -3,6 +3,7 @@
 
 mod cells;
 mod counts;
+mod flip;
 mod pointers;
 
 pub use cells::Cells;
