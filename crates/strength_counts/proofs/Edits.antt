@@ -1,10 +1,10 @@
 -- What an edit of one held cell leaves.
-use Rattle.std.proofs.Common.{◌≡◌, ◌≢◌, ℕ, ◌-◌, Bool, true, false, not, List, [], ◌∷◌, cond, refl, sym, ap, ◌∙◌, inl, inr, arith}
+use Rattle.std.proofs.Common.{◌≡◌, ◌≢◌, ℕ, ◌-◌, Bool, true, false, not, List, [], ◌∷◌, ◌++◌, cond, refl, sym, ap, ◌∙◌, inl, inr, arith}
 use Rattle.std.specs.Prelude.{◌==◌, ◌||◌}
-use Rattle.std.proofs.lemmas.Bool.{eqb-true, eqb-false, eq-eqb, ne_eqb, cond-true, cond-false, or_left, or_right, cases_Bool}
+use Rattle.std.proofs.lemmas.Bool.{eqb-true, eqb-false, eq-eqb, ne_eqb, cond-true, cond-false, or_left, or_right, or_parts, or_from, cases_Bool}
 use Rattle.store_model.specs.Cells.{Pointer, Cell, same, relink, loses, counted}
 use Rattle.store_model.proofs.EditLaws.{loses-shape, loses-counted}
-use Rattle.strength_counts.specs.Held.{Held, is_held, held_cell, edit_held}
+use Rattle.strength_counts.specs.Held.{Held, is_held, held_cell, AreOnce, edit_held}
 use Rattle.strength_counts.specs.Changes.{count_of}
 
 -- a live cell is held
@@ -80,7 +80,7 @@ module _ (hs new : List Held) (id : ℕ) (bit : Bool) (is : new ≡ edit_held id
 
 -- ---- bits and strengths
 
-same-same : (bit strong : Bool) → same bit (same bit strong) ≡ strong
+pub same-same : (bit strong : Bool) → same bit (same bit strong) ≡ strong
 same-same true true = refl
 same-same true false = refl
 same-same false true = refl
@@ -99,3 +99,44 @@ counted-strength c strong = ap (λ (b : Bool). cond b c.strong c.weak) (same-sam
 -- and with the other bit
 pub counted-not : (c : Cell) (bit : Bool) → counted (not bit) c ≡ count_of (not (same c.bit bit)) c
 counted-not c bit = ap (λ (b : Bool). cond b c.strong c.weak) (same-not c.bit bit)
+
+-- ---- ids stay apart
+
+pub is_held-edit_held : (id : ℕ) (f : Cell → Cell) (hs : List Held) (other : ℕ) → is_held (edit_held id f hs) other ≡ is_held hs other
+is_held-edit_held id f [] other = refl
+is_held-edit_held id f (h ∷ hs) other =
+    elim (h.id == id) as (λ (b : Bool). is_held (cond b (record h { cell = f h.cell } ∷ hs) (h ∷ edit_held id f hs)) other ≡ is_held (h ∷ hs) other) [
+      | true ↦ refl
+      | false ↦ ap (λ (t : Bool). (h.id == other) || t) (is_held-edit_held id f hs other)
+    ]
+
+pub AreOnce-edit_held : (id : ℕ) (f : Cell → Cell) (hs : List Held) → AreOnce hs → AreOnce (edit_held id f hs)
+AreOnce-edit_held id f [] once = tt
+AreOnce-edit_held id f (h ∷ hs) once =
+    elim (h.id == id) as (λ (b : Bool). AreOnce (cond b (record h { cell = f h.cell } ∷ hs) (h ∷ edit_held id f hs))) [
+      | true ↦ once
+      | false ↦ (is_held-edit_held id f hs h.id ∙ once.0, AreOnce-edit_held id f hs once.1)
+    ]
+
+is_held-append : (hs : List Held) (h : Held) (id : ℕ) → is_held hs id ≡ false → (h.id == id) ≡ false → is_held (hs ++ h ∷ []) id ≡ false
+is_held-append [] h id none other = or_from (h.id == id) false other refl
+is_held-append (g ∷ hs) h id none other =
+    let parts = or_parts (g.id == id) (is_held hs id) none in
+    or_from (g.id == id) (is_held (hs ++ h ∷ []) id) parts.0 (is_held-append hs h id parts.1 other)
+
+pub AreOnce-append : (hs : List Held) (h : Held) → AreOnce hs → is_held hs h.id ≡ false → AreOnce (hs ++ h ∷ [])
+AreOnce-append [] h once none = (refl, tt)
+AreOnce-append (g ∷ hs) h once none =
+    let parts = or_parts (g.id == h.id) (is_held hs h.id) none in
+    let other : (h.id == g.id) ≡ false = ne_eqb h.id g.id (λ e. eqb-false g.id h.id parts.0 (sym e)) in
+    (is_held-append hs h g.id once.0 other, AreOnce-append hs h once.1 parts.1)
+
+is_held-prefix : (hs gs : List Held) (id : ℕ) → is_held (hs ++ gs) id ≡ false → is_held hs id ≡ false
+is_held-prefix [] gs id none = refl
+is_held-prefix (h ∷ hs) gs id none =
+    let parts = or_parts (h.id == id) (is_held (hs ++ gs) id) none in
+    or_from (h.id == id) (is_held hs id) parts.0 (is_held-prefix hs gs id parts.1)
+
+pub AreOnce-prefix : (hs gs : List Held) → AreOnce (hs ++ gs) → AreOnce hs
+AreOnce-prefix [] gs once = tt
+AreOnce-prefix (h ∷ hs) gs once = (is_held-prefix hs gs h.id once.0, AreOnce-prefix hs gs once.1)

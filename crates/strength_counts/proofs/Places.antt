@@ -9,7 +9,8 @@ use Rattle.store_model.specs.Cells.{Cell as StoredCell}
 use Rattle.cell_page.specs.declared.cell.Cell.{Cell}
 use Rattle.cell_page.specs.Format.{IsCell}
 use Rattle.cell_page.specs.Pointers.{cell_of}
-use Rattle.strength_counts.specs.Held.{Held, is_held, held_cell, AreOnce, edit_held}
+use Rattle.strength_counts.specs.Held.{Held, is_held, held_cell, edit_held}
+use Rattle.strength_counts.proofs.Edits.{AreOnce-edit_held}
 use Rattle.strength_counts.specs.Inside.{held_of, all_held_of, IsPlaced, AreKept}
 
 -- the place of an id is within the cells
@@ -45,47 +46,6 @@ pub edit_held-at : {slots : ℕ} (cs : List (Cell slots)) (k : ℕ) (c d : Cell 
 edit_held-at [] k c d l e none = absurd (omega arith)
 edit_held-at (b ∷ cs) zero c d l e none = rw (eq-eqb b.id c.id e, e) refl
 edit_held-at (b ∷ cs) (suc k) c d l e none = rw (none 0 (omega arith)) (ap (λ (hs : List Held). held_of b ∷ hs) (edit_held-at cs k c d (omega arith) e (λ j m. none (suc j) (omega arith))))
-
--- ---- ids stay apart
-
-pub is_held-edit_held : (id : ℕ) (f : StoredCell → StoredCell) (hs : List Held) (other : ℕ) → is_held (edit_held id f hs) other ≡ is_held hs other
-is_held-edit_held id f [] other = refl
-is_held-edit_held id f (h ∷ hs) other =
-    elim (h.id == id) as (λ (b : Bool). is_held (cond b (record h { cell = f h.cell } ∷ hs) (h ∷ edit_held id f hs)) other ≡ is_held (h ∷ hs) other) [
-      | true ↦ refl
-      | false ↦ ap (λ (t : Bool). (h.id == other) || t) (is_held-edit_held id f hs other)
-    ]
-
-pub AreOnce-edit_held : (id : ℕ) (f : StoredCell → StoredCell) (hs : List Held) → AreOnce hs → AreOnce (edit_held id f hs)
-AreOnce-edit_held id f [] once = tt
-AreOnce-edit_held id f (h ∷ hs) once =
-    elim (h.id == id) as (λ (b : Bool). AreOnce (cond b (record h { cell = f h.cell } ∷ hs) (h ∷ edit_held id f hs))) [
-      | true ↦ once
-      | false ↦ (is_held-edit_held id f hs h.id ∙ once.0, AreOnce-edit_held id f hs once.1)
-    ]
-
-is_held-append : (hs : List Held) (h : Held) (id : ℕ) → is_held hs id ≡ false → (h.id == id) ≡ false → is_held (hs ++ h ∷ []) id ≡ false
-is_held-append [] h id none other = or_from (h.id == id) false other refl
-is_held-append (g ∷ hs) h id none other =
-    let parts = or_parts (g.id == id) (is_held hs id) none in
-    or_from (g.id == id) (is_held (hs ++ h ∷ []) id) parts.0 (is_held-append hs h id parts.1 other)
-
-pub AreOnce-append : (hs : List Held) (h : Held) → AreOnce hs → is_held hs h.id ≡ false → AreOnce (hs ++ h ∷ [])
-AreOnce-append [] h once none = (refl, tt)
-AreOnce-append (g ∷ hs) h once none =
-    let parts = or_parts (g.id == h.id) (is_held hs h.id) none in
-    let other : (h.id == g.id) ≡ false = ne_eqb h.id g.id (λ e. eqb-false g.id h.id parts.0 (sym e)) in
-    (is_held-append hs h g.id once.0 other, AreOnce-append hs h once.1 parts.1)
-
-is_held-prefix : (hs gs : List Held) (id : ℕ) → is_held (hs ++ gs) id ≡ false → is_held hs id ≡ false
-is_held-prefix [] gs id none = refl
-is_held-prefix (h ∷ hs) gs id none =
-    let parts = or_parts (h.id == id) (is_held (hs ++ gs) id) none in
-    or_from (h.id == id) (is_held hs id) parts.0 (is_held-prefix hs gs id parts.1)
-
-pub AreOnce-prefix : (hs gs : List Held) → AreOnce (hs ++ gs) → AreOnce hs
-AreOnce-prefix [] gs once = tt
-AreOnce-prefix (h ∷ hs) gs once = (is_held-prefix hs gs h.id once.0, AreOnce-prefix hs gs once.1)
 
 -- ---- one of the held cells of a program
 

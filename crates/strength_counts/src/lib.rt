@@ -4,6 +4,8 @@
 mod cells;
 mod counts;
 mod flip;
+mod laws;
 mod pointers;
 
 pub use cells::Cells;
+pub use laws::{changes_are_of_the_store, counts_stay_exact};
