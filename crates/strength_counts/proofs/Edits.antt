@@ -43,6 +43,14 @@ held_cell-edit_keeps {X} g id f (h ∷ hs) other k =
       | false ↦ elim (h.id == other) as (λ (b : Bool). g (cond b h.cell (held_cell (edit_held id f hs) other)) ≡ g (cond b h.cell (held_cell hs other))) [ true ↦ refl | false ↦ held_cell-edit_keeps g id f hs other k ]
     ]
 
+pub held_cell-edit_other : (id : ℕ) (f : Cell → Cell) (hs : List Held) (other : ℕ) → id ≢ other → held_cell (edit_held id f hs) other ≡ held_cell hs other
+held_cell-edit_other id f [] other n = refl
+held_cell-edit_other id f (h ∷ hs) other n =
+    elim (cases_Bool (h.id == id)) [
+      | inl s ↦ let apart : (h.id == other) ≡ false = ne_eqb h.id other (λ e. n (sym (eqb-true h.id id s) ∙ e)) in rw (s, apart) refl
+      | inr s ↦ rw s (ap (λ (c : Cell). cond (h.id == other) h.cell c) (held_cell-edit_other id f hs other n))
+    ]
+
 -- by what a call says of the cell that it puts back
 pub edited : (id n : ℕ) (f : Cell → Cell) (x : Cell) (hs new : List Held) → new ≡ edit_held n (λ _. x) hs → n ≡ id → x ≡ f (held_cell hs id) → new ≡ edit_held id f hs
 edited id n f x hs new is same_id same_cell = is ∙ ap (λ (i : ℕ). edit_held i (λ _. x) hs) same_id ∙ edit_held-put id f x hs same_cell

@@ -1,10 +1,10 @@
 -- Edits of a store, one after another, and of the held cells that are put into it.
-use Rattle.std.proofs.Common.{◌≡◌, ◌≢◌, ℕ, ◌<◌, Bool, true, false, List, [], ◌∷◌, length, set, cond, refl, sym, ap, subst, ◌∙◌, inl, inr, ⊎_elim}
+use Rattle.std.proofs.Common.{◌≡◌, ◌≢◌, ℕ, zero, suc, ◌-◌, ◌<◌, Bool, true, false, List, [], ◌∷◌, length, set, get_or, cond, refl, sym, ap, subst, ◌∙◌, inl, inr, ⊎_elim}
 use Rattle.std.specs.Prelude.{◌==◌, ◌||◌}
-use Rattle.std.proofs.lemmas.Bool.{cases_eq, cases_Bool, eqb-true, eqb-false, or_left, or_right, or_parts, eq-eqb}
-use Rattle.std.proofs.lemmas.List.{set-set, set_comm, set-get_or}
-use Rattle.store_model.specs.Cells.{Cell, blank_cell, cell_at, edit}
-use Rattle.store_model.proofs.EditLaws.{edit-set, edit-none, edit-here, edit-other, there, length-edit}
+use Rattle.std.proofs.lemmas.Bool.{cases_eq, cases_lt, cases_Bool, eqb-true, eqb-false, or_left, or_right, or_parts, eq-eqb}
+use Rattle.std.proofs.lemmas.List.{set-set, set_comm, set-get_or, get_or_past}
+use Rattle.store_model.specs.Cells.{Pointer, Cell, null, blank_cell, cell_at, pointer_in, pointer_at, same, edit, relink, gains, loses, relinked}
+use Rattle.store_model.proofs.EditLaws.{edit-set, edit-none, edit-here, edit-other, edit-keeps, there, length-edit, loses-shape}
 use Rattle.strength_counts.specs.Held.{Held, is_held, held_cell, AreOnce, edit_held}
 use Rattle.strength_counts.specs.Laws.{AreOf, ArePart, with_held}
 
@@ -105,3 +105,50 @@ AreOf-with_held (h ∷ hs) cells once within =
     AreOf-with_held hs (edit cells h.id put) once.1 (λ id l.
     let other = within id (or_right (h.id == id) (is_held hs id) l) in
     (other.0, subst (λ (n : ℕ). id < n) (sym (length-edit cells h.id put)) other.1)))
+
+-- ---- a slot made null and then filled
+
+relink-loses : (slot : ℕ) (p : Pointer) (bit : Bool) (c : Cell) → relink slot p (loses bit c) ≡ loses bit (relink slot p c)
+relink-loses slot p bit c = elim (same c.bit bit) as (λ (b : Bool). relink slot p (cond b (record c { strong = c.strong - 1 }) (record c { weak = c.weak - 1 })) ≡ (let d : Cell = relink slot p c in cond b (record d { strong = d.strong - 1 }) (record d { weak = d.weak - 1 }))) [ true ↦ refl | false ↦ refl ]
+
+relink-relink : (slot : ℕ) (p q : Pointer) (c : Cell) → relink slot q (relink slot p c) ≡ relink slot q c
+relink-relink slot p q c = ap (λ (ps : List Pointer). let d : Cell = record c { pointers = ps } in d) (set-set c.pointers slot p q)
+
+-- what is laid first is laid over
+over : (cells : List Cell) (u slot t : ℕ) (p q : Pointer) (bit : Bool)
+    → edit (edit (edit cells u (relink slot p)) t (loses bit)) u (relink slot q) ≡ edit (edit cells u (relink slot q)) t (loses bit)
+over cells u slot t p q bit =
+    ⊎_elim
+    (λ (e : t ≡ u). subst (λ (v : ℕ). edit (edit (edit cells u (relink slot p)) v (loses bit)) u (relink slot q) ≡ edit (edit cells u (relink slot q)) v (loses bit)) (sym e)
+    (ap (λ (cs : List Cell). edit cs u (relink slot q)) (edit-edit cells u (relink slot p) (loses bit))
+    ∙ edit-edit cells u (λ c. loses bit (relink slot p c)) (relink slot q)
+    ∙ edit-same cells u (λ c. relink slot q (loses bit (relink slot p c))) (λ c. loses bit (relink slot q c))
+    (relink-loses slot q bit (relink slot p (cell_at cells u)) ∙ ap (loses bit) (relink-relink slot p q (cell_at cells u)))
+    ∙ sym (edit-edit cells u (relink slot q) (loses bit))))
+    (λ n. edit-apart (edit cells u (relink slot p)) t u (loses bit) (relink slot q) n
+    ∙ ap (λ (cs : List Cell). edit cs t (loses bit)) (edit-edit cells u (relink slot p) (relink slot q) ∙ edit-same cells u (λ c. relink slot q (relink slot p c)) (relink slot q) (relink-relink slot p q (cell_at cells u))))
+    (cases_eq t u)
+
+null-set : (ps : List Pointer) (k : ℕ) → (get_or (set ps k null) k null).target ≡ 0
+null-set [] k = refl
+null-set (p ∷ ps) zero = refl
+null-set (p ∷ ps) (suc k) = null-set ps k
+
+-- a slot that was made null is null
+null-cut : (cells : List Cell) (u slot t : ℕ) (bit : Bool) → u ≢ 0 → (pointer_at (edit (edit cells u (relink slot null)) t (loses bit)) u slot).target ≡ 0
+null-cut cells u slot t bit n =
+    edit-keeps (λ c. (pointer_in c slot).target) (edit cells u (relink slot null)) t u (loses bit) (λ c. ap (λ s. (get_or s.3 slot null).target) (loses-shape bit c))
+    ∙ ⊎_elim
+      (λ l. ap (λ (c : Cell). (pointer_in c slot).target) (edit-here cells u (relink slot null) n l) ∙ null-set (cell_at cells u).pointers slot)
+      (λ l. ap (λ (cs : List Cell). (pointer_at cs u slot).target) (edit-none cells u (relink slot null) (inr l)) ∙ ap (λ (c : Cell). (pointer_in c slot).target) (get_or_past cells u (blank_cell false 0) l))
+      (cases_lt u (length cells))
+
+pub store-relinked : (cells : List Cell) (u slot : ℕ) (p : Pointer) → u ≢ 0 → relinked (relinked cells u slot null) u slot p ≡ relinked cells u slot p
+store-relinked cells u slot p n =
+    let old = pointer_at cells u slot in
+    let cut = edit (edit cells u (relink slot null)) old.target (loses old.bit) in
+    let is : relinked cells u slot null ≡ cut = edit-none cut 0 (gains false) (inl refl) in
+    let again = pointer_at cut u slot in
+    ap (λ (cs : List Cell). relinked cs u slot p) is
+    ∙ ap (λ (cs : List Cell). edit cs p.target (gains p.bit)) (edit-none (edit cut u (relink slot p)) again.target (loses again.bit) (inl (null-cut cells u slot old.target old.bit n)))
+    ∙ ap (λ (cs : List Cell). edit cs p.target (gains p.bit)) (over cells u slot old.target null p old.bit)

@@ -73,6 +73,16 @@ WellLaidLaw =
     (cells : List Cell) (held : List Held) → ArePart cells held → (id target : ℕ) → is_held held target ≡ true → is_laid_strong id target held ≡ true
     → (id ≢ target) × HasNoPointer (cell_at cells target)
 
+-- nor where a slot of the object was made null before
+abbrev pub WellLaidAfterCutLaw : Type 0
+WellLaidAfterCutLaw =
+    (cells : List Cell) (held : List Held) → ArePart cells held → (id slot target : ℕ) → is_held held target ≡ true → is_laid_strong id target (without_pointer id slot held) ≡ true
+    → (id ≢ target) × HasNoPointer (cell_at cells target)
+
+-- and the pointer of a strength stays the same
+abbrev pub PointerAfterCutLaw : Type 0
+PointerAfterCutLaw = (held : List Held) (id slot target : ℕ) (strong : Bool) → pointer_to target strong (without_pointer id slot held) ≡ pointer_to target strong held
+
 -- ---- exact counts stay exact
 
 abbrev pub ExactPutLaw : Type 0

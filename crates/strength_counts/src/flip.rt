@@ -4,8 +4,12 @@ ghost use Rattle.std.specs.Prelude.{◌≡◌, ◌<◌, ◌≤◌, ◌==◌, ℕ
 ghost use Rattle.store_model.specs.Cells.{relink, pointer_in, self_pointers, turned, flipped};
 ghost use Rattle.cell_page.specs.Format.{IsSlotCount, IsCell};
 ghost use Rattle.cell_page.specs.Pointers.{cell_of};
+ghost use Rattle.strength_counts.specs.Held.{held_cell};
+ghost use Rattle.strength_counts.specs.Changes.{with_flipped};
 
 use cell_page::Cell;
+
+use crate::cells::Cells;
 
 /// How many slots name the id.
 fn names(slots: &[u32], id: u32) -> u32
@@ -50,7 +54,7 @@ fn turn_all_own<const SLOTS: usize>(cell: &mut Cell<SLOTS>)
 }
 
 /// Flips the target bit. Pointers of other objects exchange their strengths, and those of its own keep theirs.
-pub(crate) fn flip<const SLOTS: usize>(cell: &mut Cell<SLOTS>)
+fn flip_cell<const SLOTS: usize>(cell: &mut Cell<SLOTS>)
     requires size { IsSlotCount SLOTS }
     requires live { cell.old.live ≡ true }
     requires above { 0 < cell.old.id }
@@ -65,4 +69,19 @@ pub(crate) fn flip<const SLOTS: usize>(cell: &mut Cell<SLOTS>)
     cell.bit = !cell.bit;
     cell.strong = cell.weak - own;
     cell.weak = own;
+}
+
+impl<const SLOTS: usize> Cells<SLOTS> {
+    /// Flips an object's target bit. Its pointers to itself become the weak ones, and all others become strong.
+    pub fn flip(&mut self, object: u32)
+        requires size { IsSlotCount SLOTS }
+        requires object { (held_cell self.old object).live ≡ true }
+        requires weak_alone { (held_cell self.old object).strong ≡ 0 }
+        requires own { self_pointers object (held_cell self.old object) ≤ (held_cell self.old object).weak }
+        ensures { self.new ≡ with_flipped object self.old }
+    {
+        let mut cell = *self.get(object);
+        flip_cell(&mut cell);
+        self.replace(cell);
+    }
 }

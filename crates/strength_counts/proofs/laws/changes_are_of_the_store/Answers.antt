@@ -1,4 +1,5 @@
-use Rattle.strength_counts.proofs.StoreChanges.{look, put-relinked, cut-relinked, turn-relinked, flip-flipped, strength, holds}
+use Rattle.strength_counts.proofs.StoreEdits.{AreOf-with_held, store-relinked}
+use Rattle.strength_counts.proofs.StoreChanges.{look, put-relinked, cut-relinked, turn-relinked, flip-flipped}
 use Rattle.strength_counts.proofs.laws.changes_are_of_the_store.Goals as goal
 
 pub returns : goal.returns
@@ -9,6 +10,6 @@ returns c =
       cut = cut-relinked;
       turn = turn-relinked;
       flip = flip-flipped;
-      strength = strength;
-      holds = holds;
+      next = λ cells held once within. record { of = AreOf-with_held held cells once within; once = once };
+      store = store-relinked;
     }

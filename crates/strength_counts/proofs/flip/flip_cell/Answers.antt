@@ -2,7 +2,7 @@ use Rattle.std.proofs.Common.{◌≡◌, ℕ, sym, ap, ◌∙◌, arith}
 use Rattle.store_model.specs.Cells.{Cell, self_pointers}
 use Rattle.cell_page.specs.Pointers.{cell_of}
 use Rattle.strength_counts.proofs.Slots.{self_pointers-targets, flipped-turned}
-use Rattle.strength_counts.proofs.flip.flip.Goals as goal
+use Rattle.strength_counts.proofs.flip.flip_cell.Goals as goal
 
 pub overflow_sub-cell : goal.overflow_sub-cell
 overflow_sub-cell g c =
