@@ -1,7 +1,7 @@
 -- What an edit of one held cell leaves.
 use Rattle.std.proofs.Common.{◌≡◌, ◌≢◌, ℕ, ◌-◌, Bool, true, false, not, List, [], ◌∷◌, ◌++◌, cond, refl, sym, ap, ◌∙◌, inl, inr, arith}
 use Rattle.std.specs.Prelude.{◌==◌, ◌||◌}
-use Rattle.std.proofs.lemmas.Bool.{eqb-true, eqb-false, eq-eqb, ne_eqb, cond-true, cond-false, or_left, or_right, or_parts, or_from, cases_Bool}
+use Rattle.std.proofs.lemmas.Bool.{eqb-true, eqb-false, ne_eqb, or_left, or_right, or_parts, or_from, cases_Bool}
 use Rattle.store_model.specs.Cells.{Pointer, Cell, same, relink, loses, counted}
 use Rattle.store_model.proofs.EditLaws.{loses-shape, loses-counted}
 use Rattle.strength_counts.specs.Held.{Held, is_held, held_cell, AreOnce, edit_held}

@@ -1,11 +1,10 @@
 -- Where in the cells that of an id stands, and what is held after a change there.
-use Rattle.std.proofs.Common.{◌≡◌, ℕ, zero, suc, ◌+◌, ◌<◌, Bool, true, false, List, [], ◌∷◌, ◌++◌, length, get_or, set, take, cond, refl, sym, ap, subst, ◌∙◌, inl, inr, arith}
-use Rattle.std.specs.Prelude.{◌==◌, ◌||◌}
+use Rattle.std.proofs.Common.{◌≡◌, ℕ, zero, suc, ◌<◌, true, false, List, [], ◌∷◌, length, get_or, set, take, refl, sym, ap, subst, ◌∙◌, inl, inr, arith}
+use Rattle.std.specs.Prelude.{◌==◌}
 use Rattle.std.specs.List.{AllByRecursion}
-use Rattle.std.proofs.lemmas.Bool.{eqb-true, eq-eqb, eqb-false, ne_eqb, cond-true, cond-false, or_parts, or_from, cases_Bool}
+use Rattle.std.proofs.lemmas.Bool.{eqb-true, eq-eqb, cond-true, cond-false, cases_Bool}
 use Rattle.std.proofs.lemmas.List.{length-take, get_or-take, length-set}
 use Rattle.std.proofs.lemmas.List.Elements.{All-from_recursion, recursion_from_All, All-set}
-use Rattle.store_model.specs.Cells.{Cell as StoredCell}
 use Rattle.cell_page.specs.declared.cell.Cell.{Cell}
 use Rattle.cell_page.specs.Format.{IsCell}
 use Rattle.cell_page.specs.Pointers.{cell_of}
@@ -50,8 +49,7 @@ edit_held-at (b ∷ cs) (suc k) c d l e none = rw (none 0 (omega arith)) (ap (λ
 -- ---- one of the held cells of a program
 
 module _ {slots : ℕ} (cells : List (Cell slots)) (count place id : ℕ) (d : Cell slots) (within : place < length (take count cells))
-  (here : (get_or (take count cells) place d).id ≡ id) (first : (j : ℕ) → j < place → ((get_or (take count cells) j d).id == id) ≡ false) where
-
+    (here : (get_or (take count cells) place d).id ≡ id) (first : (j : ℕ) → j < place → ((get_or (take count cells) j d).id == id) ≡ false) where
   pub held-place : get_or cells place d ≡ get_or (take count cells) place d
   held-place = sym (get_or-take count cells place d (let n = length-take count cells in omega (arith, n, within)))
 
@@ -68,8 +66,7 @@ take-set-within (suc n) (y ∷ ys) zero x l = refl
 take-set-within (suc n) (y ∷ ys) (suc i) x l = ap (λ (rest : List _). y ∷ rest) (take-set-within n ys i x (omega arith))
 
 module _ {slots : ℕ} (cells : List (Cell slots)) (count place : ℕ) (c d : Cell slots) (within : place < length (take count cells))
-  (here : (get_or (take count cells) place d).id ≡ c.id) (first : (j : ℕ) → j < place → ((get_or (take count cells) j d).id == c.id) ≡ false) where
-
+    (here : (get_or (take count cells) place d).id ≡ c.id) (first : (j : ℕ) → j < place → ((get_or (take count cells) j d).id == c.id) ≡ false) where
   below : place < count
   below = let n = length-take count cells in omega (arith, n, within)
 

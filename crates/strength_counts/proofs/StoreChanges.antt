@@ -1,19 +1,18 @@
 -- What each change of the held cells is to a store that has them.
-use Rattle.std.proofs.Common.{◌≡◌, ◌≢◌, ℕ, ◌<◌, Bool, true, false, not, List, [], ◌∷◌, length, get_or, zero, suc, refl, sym, ap, subst, ◌∙◌, inl, inr, ⊎_elim}
+use Rattle.std.proofs.Common.{◌≡◌, ◌≢◌, ℕ, ◌<◌, Bool, true, not, List, [], ◌∷◌, length, get_or, zero, suc, refl, sym, ap, subst, ◌∙◌, inl}
 use Rattle.std.specs.Prelude.{◌==◌, ◌&&◌}
 use Rattle.std.specs.List.{list_all}
-use Rattle.std.proofs.lemmas.Bool.{cases_eq, eqb-true, eqb-false, and_parts, not-true}
-use Rattle.std.proofs.lemmas.List.{set-set}
+use Rattle.std.proofs.lemmas.Bool.{eqb-true, eqb-false, and_parts, not-true}
 use Rattle.store_model.specs.Cells.{Pointer, Cell, null, same, cell_at, pointer_in, pointer_at, is_live, is_strong, edit, relink, gains, loses, relinked, other_strength, flipped, IsExact}
 use Rattle.store_model.specs.Records.{HasNoPointer}
 use Rattle.store_model.proofs.EditLaws.{edit-none, loses-shape}
 use Rattle.store_model.proofs.CountLaws.{relinked-exact}
 use Rattle.store_model.proofs.FlipLaws.{flip-exact}
-use Rattle.strength_counts.specs.Held.{Held, is_held, held_cell, held_pointer, held_target, AreOnce, edit_held}
+use Rattle.strength_counts.specs.Held.{Held, is_held, held_cell, held_pointer, edit_held}
 use Rattle.strength_counts.specs.Changes.{pointer_to, holds_strong, is_laid_strong, takes_strong, with_pointer, without_pointer, with_other_strength, with_flipped}
-use Rattle.strength_counts.specs.Laws.{AreOf, ArePart, with_held}
+use Rattle.strength_counts.specs.Laws.{ArePart, with_held}
 use Rattle.strength_counts.proofs.Edits.{live-held, is_held-edit_held, AreOnce-edit_held, held_cell-edit_keeps, held_cell-edit_other, same-same}
-use Rattle.strength_counts.proofs.StoreEdits.{edit-same, edit-edit, edit-apart, with_held-edit_held, with_held-of, look-of}
+use Rattle.strength_counts.proofs.StoreEdits.{with_held-edit_held, with_held-of, look-of}
 
 -- a slot made null leaves the bits, and the pointers of other cells
 cut-bit : (held : List Held) (id slot target : ℕ) → (held_cell (without_pointer id slot held) target).bit ≡ (held_cell held target).bit
@@ -98,9 +97,10 @@ module _ (cells : List Cell) (held : List Held) (part : ArePart cells held) wher
   takes : (id target : ℕ) (c : Cell) → c.pointers ≡ (held_cell held target).pointers → is_held held target ≡ true → (not (id == target) && takes_strong c) ≡ true → (id ≢ target) × HasNoPointer (cell_at cells target)
   takes id target c same_pointers l h =
       let parts = and_parts (not (id == target)) (takes_strong c) h in
-      let null_alone = (and_parts (c.strong == 0) (list_all (λ p. p.target == 0) c.pointers) parts.1).1 in
-      (eqb-false id target (not-true (id == target) parts.0),
-      λ slot. ap (λ (d : Cell). (pointer_in d slot).target) (sym (look target l)) ∙ ap (λ (ps : List Pointer). (get_or ps slot null).target) (sym same_pointers) ∙ all_null c.pointers null_alone slot)
+      let null_alone = (and_parts (c.strong == 0) (list_all (λ p. p.target == 0) c.pointers) parts.1).1 in (
+        eqb-false id target (not-true (id == target) parts.0),
+        λ slot. ap (λ (d : Cell). (pointer_in d slot).target) (sym (look target l)) ∙ ap (λ (ps : List Pointer). (get_or ps slot null).target) (sym same_pointers) ∙ all_null c.pointers null_alone slot,
+      )
 
   pub well_laid : (id target : ℕ) → is_held held target ≡ true → is_laid_strong id target held ≡ true → (id ≢ target) × HasNoPointer (cell_at cells target)
   well_laid id target l h = takes id target (held_cell held target) refl l h

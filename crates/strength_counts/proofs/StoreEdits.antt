@@ -1,12 +1,12 @@
 -- Edits of a store, one after another, and of the held cells that are put into it.
 use Rattle.std.proofs.Common.{◌≡◌, ◌≢◌, ℕ, zero, suc, ◌-◌, ◌<◌, Bool, true, false, List, [], ◌∷◌, length, set, get_or, cond, refl, sym, ap, subst, ◌∙◌, inl, inr, ⊎_elim}
-use Rattle.std.specs.Prelude.{◌==◌, ◌||◌}
+use Rattle.std.specs.Prelude.{◌==◌}
 use Rattle.std.proofs.lemmas.Bool.{cases_eq, cases_lt, cases_Bool, eqb-true, eqb-false, or_left, or_right, or_parts, eq-eqb}
 use Rattle.std.proofs.lemmas.List.{set-set, set_comm, set-get_or, get_or_past}
 use Rattle.store_model.specs.Cells.{Pointer, Cell, null, blank_cell, cell_at, pointer_in, pointer_at, same, edit, relink, gains, loses, relinked}
 use Rattle.store_model.proofs.EditLaws.{edit-set, edit-none, edit-here, edit-other, edit-keeps, there, length-edit, loses-shape}
 use Rattle.strength_counts.specs.Held.{Held, is_held, held_cell, AreOnce, edit_held}
-use Rattle.strength_counts.specs.Laws.{AreOf, ArePart, with_held}
+use Rattle.strength_counts.specs.Laws.{AreOf, with_held}
 
 -- ---- of a store
 
@@ -72,7 +72,7 @@ with_held-edit_held (h ∷ hs) cells u f l once =
           let is = eqb-true h.id u e in
           let none : is_held hs u ≡ false = subst (λ (n : ℕ). is_held hs n ≡ false) is once.0 in
           let here : edit cells h.id (λ _. f h.cell) ≡ edit (edit cells h.id (λ _. h.cell)) u f =
-            sym (edit-edit cells h.id (λ _. h.cell) f) ∙ ap (λ (n : ℕ). edit (edit cells h.id (λ _. h.cell)) n f) is in
+          sym (edit-edit cells h.id (λ _. h.cell) f) ∙ ap (λ (n : ℕ). edit (edit cells h.id (λ _. h.cell)) n f) is in
           rw e (ap (with_held hs) here ∙ with_held-edit hs (edit cells h.id (λ _. h.cell)) u f none)
       | inr e ↦ rw e (with_held-edit_held hs (edit cells h.id (λ _. h.cell)) u f (rw e at l) once.1)
     ]
@@ -100,11 +100,12 @@ pub AreOf-with_held : (hs : List Held) (cells : List Cell) → AreOnce hs → ((
 AreOf-with_held [] cells once within = tt
 AreOf-with_held (h ∷ hs) cells once within =
     let put : Cell → Cell = λ _. h.cell in
-    let own = within h.id (or_left (h.id == h.id) (is_held hs h.id) (eq-eqb h.id h.id refl)) in
-    (with_held-other hs (edit cells h.id put) h.id once.0 ∙ edit-here cells h.id put own.0 own.1,
-    AreOf-with_held hs (edit cells h.id put) once.1 (λ id l.
-    let other = within id (or_right (h.id == id) (is_held hs id) l) in
-    (other.0, subst (λ (n : ℕ). id < n) (sym (length-edit cells h.id put)) other.1)))
+    let own = within h.id (or_left (h.id == h.id) (is_held hs h.id) (eq-eqb h.id h.id refl)) in (
+      with_held-other hs (edit cells h.id put) h.id once.0 ∙ edit-here cells h.id put own.0 own.1,
+      AreOf-with_held hs (edit cells h.id put) once.1 (λ id l.
+          let other = within id (or_right (h.id == id) (is_held hs id) l) in
+          (other.0, subst (λ (n : ℕ). id < n) (sym (length-edit cells h.id put)) other.1)),
+    )
 
 -- ---- a slot made null and then filled
 
@@ -139,9 +140,9 @@ null-cut : (cells : List Cell) (u slot t : ℕ) (bit : Bool) → u ≢ 0 → (po
 null-cut cells u slot t bit n =
     edit-keeps (λ c. (pointer_in c slot).target) (edit cells u (relink slot null)) t u (loses bit) (λ c. ap (λ s. (get_or s.3 slot null).target) (loses-shape bit c))
     ∙ ⊎_elim
-      (λ l. ap (λ (c : Cell). (pointer_in c slot).target) (edit-here cells u (relink slot null) n l) ∙ null-set (cell_at cells u).pointers slot)
-      (λ l. ap (λ (cs : List Cell). (pointer_at cs u slot).target) (edit-none cells u (relink slot null) (inr l)) ∙ ap (λ (c : Cell). (pointer_in c slot).target) (get_or_past cells u (blank_cell false 0) l))
-      (cases_lt u (length cells))
+    (λ l. ap (λ (c : Cell). (pointer_in c slot).target) (edit-here cells u (relink slot null) n l) ∙ null-set (cell_at cells u).pointers slot)
+    (λ l. ap (λ (cs : List Cell). (pointer_at cs u slot).target) (edit-none cells u (relink slot null) (inr l)) ∙ ap (λ (c : Cell). (pointer_in c slot).target) (get_or_past cells u (blank_cell false 0) l))
+    (cases_lt u (length cells))
 
 pub store-relinked : (cells : List Cell) (u slot : ℕ) (p : Pointer) → u ≢ 0 → relinked (relinked cells u slot null) u slot p ≡ relinked cells u slot p
 store-relinked cells u slot p n =

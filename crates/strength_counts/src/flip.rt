@@ -7,9 +7,8 @@ ghost use Rattle.cell_page.specs.Pointers.{cell_of};
 ghost use Rattle.strength_counts.specs.Held.{held_cell};
 ghost use Rattle.strength_counts.specs.Changes.{with_flipped};
 
-use cell_page::Cell;
-
 use crate::cells::Cells;
+use cell_page::Cell;
 
 /// How many slots name the id.
 fn names(slots: &[u32], id: u32) -> u32

@@ -1,4 +1,4 @@
-use Rattle.std.proofs.Common.{◌<◌, length, arith}
+use Rattle.std.proofs.Common.{length, arith}
 use Rattle.strength_counts.proofs.Places.{held-within}
 use Rattle.strength_counts.proofs.cells.place_of.Goals as goal
 

@@ -1,4 +1,4 @@
-use Rattle.std.proofs.Common.{◌≡◌, ℕ, sym, ap, ◌∙◌, arith}
+use Rattle.std.proofs.Common.{◌≡◌, sym, ap, ◌∙◌, arith}
 use Rattle.store_model.specs.Cells.{Cell, self_pointers}
 use Rattle.cell_page.specs.Pointers.{cell_of}
 use Rattle.strength_counts.proofs.Slots.{self_pointers-targets, flipped-turned}

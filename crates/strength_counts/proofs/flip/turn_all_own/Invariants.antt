@@ -1,4 +1,4 @@
-use Rattle.std.proofs.Common.{◌≡◌, ◌++◌, true, map, take, drop}
+use Rattle.std.proofs.Common.{◌≡◌, ◌++◌, map, take, drop}
 use Rattle.store_model.specs.Cells.{turned}
 use Rattle.cell_page.specs.Format.{IsCell}
 use Rattle.cell_page.specs.Pointers.{cell_of}

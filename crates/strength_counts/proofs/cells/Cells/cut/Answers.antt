@@ -1,6 +1,6 @@
-use Rattle.std.proofs.Common.{◌≡◌, ℕ, ◌<◌, true, Bool, sym, ap, subst, ◌∙◌, rules, arith}
-use Rattle.store_model.specs.Cells.{null, Cell, counted, same}
-use Rattle.strength_counts.specs.Held.{held_cell, held_pointer, held_target}
+use Rattle.std.proofs.Common.{ℕ, ◌<◌, Bool, ap, ◌∙◌, rules, arith}
+use Rattle.store_model.specs.Cells.{null, counted, same}
+use Rattle.strength_counts.specs.Held.{held_cell, held_pointer}
 use Rattle.strength_counts.proofs.Edits.{relink-live, relink-bit, relink-counted}
 use Rattle.strength_counts.proofs.cells.Cells.cut.Goals as goal
 

@@ -15,11 +15,20 @@ flip_cell-requires g c =
     let held = live-held c.args.self.now c.args.object c.requires.object in
     let live : cell.live ≡ true = ap (λ (s : Cell). s.live) (sym c.get.ensures.held) ∙ c.requires.object in
     let own : self_pointers c.args.object (cell_of cell) ≤ cell.weak =
-      subst (λ (s : Cell). self_pointers c.args.object s ≤ s.weak) c.get.ensures.held c.requires.own in
-    let id = sym c.get.ensures.id in
-    (search rules,
-    (c.requires.size, (live, (subst (λ (n : ℕ). 0 < n) id (c.get.ensures.above c.args.object held),
-    (subst (λ (n : ℕ). IsCell n cell) id c.get.ensures.rules, subst (λ (n : ℕ). self_pointers n (cell_of cell) ≤ cell.weak) id own)))))
+    subst (λ (s : Cell). self_pointers c.args.object s ≤ s.weak) c.get.ensures.held c.requires.own in
+    let id = sym c.get.ensures.id in (
+      search rules,
+      (
+        c.requires.size,
+        (
+          live,
+          (
+            subst (λ (n : ℕ). 0 < n) id (c.get.ensures.above c.args.object held),
+            (subst (λ (n : ℕ). IsCell n cell) id c.get.ensures.rules, subst (λ (n : ℕ). self_pointers n (cell_of cell) ≤ cell.weak) id own),
+          ),
+        ),
+      ),
+    )
 
 pub replace-requires : goal.replace-requires
 replace-requires g c =

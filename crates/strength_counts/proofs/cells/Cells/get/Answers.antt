@@ -1,4 +1,4 @@
-use Rattle.std.proofs.Common.{ℕ, ◌<◌, get_or, take, subst, ◌∙◌, ap}
+use Rattle.std.proofs.Common.{ℕ, get_or, take, subst, ◌∙◌, ap}
 use Rattle.cell_page.specs.declared.cell.Cell.{Cell}
 use Rattle.cell_page.specs.Format.{IsCell}
 use Rattle.strength_counts.proofs.Places.{held-above, held-place, held_cell-place, IsPlaced-place}

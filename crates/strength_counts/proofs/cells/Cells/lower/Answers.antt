@@ -1,4 +1,4 @@
-use Rattle.std.proofs.Common.{ℕ, Bool, true, subst, sym, ap, ◌∙◌, ◌≡◌, rules}
+use Rattle.std.proofs.Common.{ℕ, true, subst, sym, ap, ◌∙◌, ◌≡◌, rules}
 use Rattle.store_model.specs.Cells.{Cell, loses}
 use Rattle.cell_page.specs.Format.{IsCell}
 use Rattle.cell_page.specs.Pointers.{cell_of}
