@@ -71,7 +71,7 @@ fn flip_cell<const SLOTS: usize>(cell: &mut Cell<SLOTS>)
 }
 
 impl<const SLOTS: usize> Cells<SLOTS> {
-    /// Flips an object's target bit. Its pointers to itself become the weak ones, and all others become strong.
+    /// Flips an object's target bit: its pointers to itself stay weak, and all others become strong.
     pub fn flip(&mut self, object: u32)
         requires size { IsSlotCount SLOTS }
         requires object { (held_cell self.old object).live ≡ true }
