@@ -134,17 +134,19 @@ mod tests {
         queue.push(3);
         queue.push(3);
         assert_eq!(rt; queue.len(), 1);
-        for id in [8, 1, 5, 3] {
-            queue.push(id);
-        }
+        queue.push(8);
+        queue.push(1);
+        queue.push(5);
+        queue.push(3);
         queue.drop_id(1);
         queue.drop_id(2);
         queue.drop_id(9);
         assert_eq!(rt; queue.len(), 3);
         queue.push(1);
-        for id in [3, 8, 5, 1] {
-            assert_eq!(rt; queue.pop(), Some(id));
-        }
+        assert_eq!(rt; queue.pop(), Some(3));
+        assert_eq!(rt; queue.pop(), Some(8));
+        assert_eq!(rt; queue.pop(), Some(5));
+        assert_eq!(rt; queue.pop(), Some(1));
         assert_eq!(rt; queue.pop(), None);
     }
 }
