@@ -1,5 +1,5 @@
 -- What keeps the entries, their counts and the room in step.
-use Rattle.std.proofs.Common.{◌≡◌, ◌≢◌, ℕ, ◌+◌, ◌*◌, ◌^◌, ◌-◌, ◌≤◌, ◌<◌, ◌==◌, Bool, true, false, cond, zero, suc, List, [], ◌∷◌, ◌++◌, Option, None, Some, Result, Ok, Err, length, unwrap_or, count_by, nat_lt, nat_eq, ⊎_elim, refl, sym, ap, subst, ◌∙◌, arith, vec_len, vec_capacity}
+use Rattle.std.proofs.Common.{◌≡◌, ◌≢◌, ℕ, ◌+◌, ◌*◌, ◌^◌, ◌-◌, ◌≤◌, ◌<◌, ◌==◌, cond, zero, suc, List, [], ◌∷◌, ◌++◌, Option, None, Some, Result, Ok, Err, length, unwrap_or, nat_lt, nat_eq, ⊎_elim, refl, sym, ap, subst, ◌∙◌, arith}
 use Rattle.std.specs.Global.{Vec}
 use Rattle.std.specs.List.{list_any}
 use Rattle.std.specs.Option.{option_map, option_map_or}
@@ -15,7 +15,7 @@ use Rattle.indexmap.specs.IndexMap.{IndexMap, spare}
 use Rattle.ref_tables.specs.declared.kind.TempRef.{TempRef}
 use Rattle.ref_tables.specs.Lists.{Lists, list_of, HasRoom, KeepsRoom, AreSame, AddsEntry, EndsClient}
 use Rattle.ref_tables.specs.Counts.{count_of, count_in}
-use Rattle.ref_tables.specs.Refs.{Table, entries_of, Names, seen, sum_below, count_all, IsSound}
+use Rattle.ref_tables.specs.Refs.{entries_of, Names, seen, sum_below, IsSound}
 
 -- ---- what contracts see
 

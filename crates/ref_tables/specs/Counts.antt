@@ -1,5 +1,5 @@
 -- How many entries have a target.
-use Rattle.std.specs.Prelude.{◌≡◌, ℕ, ◌==◌, List, count_by, unwrap_or, nat_eq}
+use Rattle.std.specs.Prelude.{ℕ, ◌==◌, List, count_by, unwrap_or, nat_eq}
 use Rattle.indexmap.specs.IndexMap.{IndexMap, get}
 use Rattle.ref_tables.specs.declared.kind.TempRef.{TempRef}
 

@@ -1,4 +1,3 @@
-use Rattle.std.proofs.Common.{arith}
 use Rattle.ref_tables.proofs.RefsLaws.{IsSound-part, IsSound-end, seen-ends}
 use Rattle.ref_tables.proofs.temp_refs.TempRefs.end.Goals as goal
 

@@ -1,6 +1,5 @@
 use Rattle.std.proofs.Common.{◌≡◌, false, get_or, arith, sym, ap, ◌∙◌}
 use Rattle.std.proofs.lemmas.Grind.{common_steps}
-use Rattle.ref_tables.specs.Queue.{Queue}
 use Rattle.ref_tables.proofs.QueueLaws.{IsKept-push, IsKept-room, joined-new}
 use Rattle.ref_tables.proofs.zero_queue.ZeroQueue.push.Goals as goal
 
