@@ -13,7 +13,7 @@ use std::marker::Model;
 ///
 /// The ids run from 1 to the limit that the queue was made with. Room for all of them is taken at
 /// the beginning, so that no later call takes memory. `push` and `pop` cost the same however long
-/// the queue is; `drop_id` of an id that is present goes over the queue once.
+/// the queue is; `drop_id` goes over the queue once.
 #[derive(Debug, Drop)]
 pub struct ZeroQueue {
     limit: u32,
