@@ -1,0 +1,3 @@
+pub mod Forgetting
+pub mod QueueLaws
+pub mod RefsLaws

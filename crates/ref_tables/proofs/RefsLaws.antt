@@ -1,0 +1,206 @@
+-- What keeps the entries, their counts and the room in step.
+use Rattle.std.proofs.Common.{◌≡◌, ◌≢◌, ℕ, ◌+◌, ◌*◌, ◌^◌, ◌-◌, ◌≤◌, ◌<◌, ◌==◌, cond, zero, suc, List, [], ◌∷◌, ◌++◌, Option, None, Some, Result, Ok, Err, length, unwrap_or, nat_lt, nat_eq, ⊎_elim, refl, sym, ap, subst, ◌∙◌, arith}
+use Rattle.std.specs.Global.{Vec}
+use Rattle.std.specs.List.{list_any}
+use Rattle.std.specs.Option.{option_map, option_map_or}
+use Rattle.std.specs.Result.{OnErr}
+use Rattle.std.specs.Ordering.{nat_cmp}
+use Rattle.std.specs.BTreeMap.{is_at}
+use Rattle.std.specs.Map.{lookup}
+use Rattle.std.proofs.lemmas.Bool.{cases_eq, cases_lt}
+use Rattle.std.proofs.lemmas.Bool.Decides.{nat_tests}
+use Rattle.std.proofs.lemmas.Map.Made.{lookup-map_values}
+use Rattle.std.proofs.lemmas.List.Sums.{count_by-le-length, sum_by-cons, sum_by_push}
+use Rattle.indexmap.specs.IndexMap.{IndexMap, spare}
+use Rattle.ref_tables.specs.declared.kind.TempRef.{TempRef}
+use Rattle.ref_tables.specs.Lists.{Lists, list_of, HasRoom, KeepsRoom, AreSame, AddsEntry, EndsClient}
+use Rattle.ref_tables.specs.Counts.{count_of, count_in}
+use Rattle.ref_tables.specs.Refs.{entries_of, Names, seen, sum_below, IsSound}
+
+-- ---- what contracts see
+
+-- the two ways to read an option
+read-option : (o : Option (Vec TempRef)) → unwrap_or (option_map (λ list. list.items) o) [] ≡ option_map_or (λ list. list.items) o []
+read-option None = refl
+read-option (Some list) = refl
+
+-- the entries that contracts see are those of the lists
+pub entries-seen : (lists : Lists) (room p : ℕ) → entries_of (record { clients = seen lists; room = room }) p ≡ list_of lists p
+entries-seen lists room p = ap (λ o. unwrap_or o []) (lookup-map_values (λ list. list.items) (is_at (nat_cmp p)) lists) ∙ read-option (lookup (is_at (nat_cmp p)) lists)
+
+-- and so are those after a change
+pub seen-same : (old new : Lists) (r s : ℕ) → AreSame old new → (p : ℕ) → entries_of (record { clients = seen new; room = s }) p ≡ entries_of (record { clients = seen old; room = r }) p
+seen-same old new r s same p = entries-seen new s p ∙ same p ∙ sym (entries-seen old r p)
+
+pub seen-adds : (old same new : Lists) (r s pass : ℕ) (entry : TempRef) → AreSame old same → AddsEntry same new pass entry → (p : ℕ) → entries_of (record { clients = seen new; room = s }) p ≡ cond (p == pass) (entries_of (record { clients = seen old; room = r }) p ++ entry ∷ []) (entries_of (record { clients = seen old; room = r }) p)
+seen-adds old same new r s pass entry kept adds p = entries-seen new s p ∙ adds p ∙ ap (λ xs. cond (p == pass) (xs ++ entry ∷ []) xs) (kept p ∙ sym (entries-seen old r p))
+
+pub seen-ends : (old new : Lists) (r s pass : ℕ) → EndsClient old new pass → (p : ℕ) → entries_of (record { clients = seen new; room = s }) p ≡ cond (p == pass) [] (entries_of (record { clients = seen old; room = r }) p)
+seen-ends old new r s pass ends p = entries-seen new s p ∙ ends p ∙ ap (λ xs. cond (p == pass) [] xs) (sym (entries-seen old r p))
+
+-- a fact that holds anyway holds where there is an error
+pub on_err : {T E P : Type 0} (r : Result T E) → P → OnErr r P
+on_err (Ok x) p = tt
+on_err (Err e) p = p
+
+-- ---- sums over the clients
+
+sum_below-same : (n : ℕ) (f g : ℕ → ℕ) → ((p : ℕ) → g p ≡ f p) → sum_below n g ≡ sum_below n f
+unfolding sum_below
+sum_below-same zero f g same = refl
+sum_below-same (suc n) f g same = let r = sum_below-same n f g same in let s = same n in omega (arith, r, s)
+
+-- with a change beyond the sum
+sum_below-beyond : (n q : ℕ) (f g : ℕ → ℕ) → n ≤ q → ((p : ℕ) → p ≢ q → g p ≡ f p) → sum_below n g ≡ sum_below n f
+unfolding sum_below
+sum_below-beyond zero q f g beyond same = refl
+sum_below-beyond (suc n) q f g beyond same = let r = sum_below-beyond n q f g (omega (arith, beyond)) same in let s = same n (omega (arith, beyond)) in omega (arith, r, s)
+
+-- with a change at one number
+sum_below-change : (n q : ℕ) (f g : ℕ → ℕ) → q < n → ((p : ℕ) → p ≢ q → g p ≡ f p) → sum_below n g + f q ≡ sum_below n f + g q
+unfolding sum_below
+sum_below-change zero q f g within same = absurd (omega (arith, within))
+sum_below-change (suc n) q f g within same =
+    ⊎_elim
+    (λ (here : n ≡ q). let r = sum_below-beyond n q f g (omega (arith, here)) same in subst (λ m. (sum_below n g + g n) + f m ≡ (sum_below n f + f n) + g m) here (omega (arith, r)))
+    (λ (apart : n ≢ q). let r = sum_below-change n q f g (omega (arith, within, apart)) same in let s = same n apart in omega (arith, r, s))
+    (cases_eq n q)
+
+sum_below-le : (n m : ℕ) (f : ℕ → ℕ) → ((p : ℕ) → f p ≤ m) → sum_below n f ≤ n * m
+unfolding sum_below
+sum_below-le zero m f below = omega arith
+sum_below-le (suc n) m f below = let r = sum_below-le n m f below in let s = below n in grind (arith, r, s)
+
+-- without parts there is nothing
+pub sum_below-zero : (n : ℕ) (f : ℕ → ℕ) → ((p : ℕ) → f p ≡ 0) → sum_below n f ≡ 0
+unfolding sum_below
+sum_below-zero zero f none = refl
+sum_below-zero (suc n) f none = let r = sum_below-zero n f none in let s = none n in omega (arith, r, s)
+
+-- a part is no more than the sum
+sum_below-part : (n p : ℕ) (f : ℕ → ℕ) → p < n → f p ≤ sum_below n f
+unfolding sum_below
+sum_below-part zero p f within = absurd (omega (arith, within))
+sum_below-part (suc n) p f within =
+    ⊎_elim
+    (λ (here : p ≡ n). rw here (omega arith))
+    (λ (apart : p ≢ n). let r = sum_below-part n p f (omega (arith, within, apart)) in omega (arith, r))
+    (cases_eq p n)
+
+-- where the sum is not 0, some part is not
+sum_below-some : (n : ℕ) (f : ℕ → ℕ) → 0 < sum_below n f → (p : ℕ) × (0 < f p)
+unfolding sum_below
+sum_below-some zero f some = absurd (omega (arith, some))
+sum_below-some (suc n) f some =
+    ⊎_elim
+    (λ (none : f n ≡ 0). sum_below-some n f (omega (arith, some, none)))
+    (λ (here : f n ≢ 0). (n, omega (arith, here)))
+    (cases_eq (f n) 0)
+
+-- ---- counts
+
+-- entries with the target are counted exactly where there are some
+count_in-any : (t : ℕ) (entries : List TempRef) → nat_lt 0 (count_in t entries) ≡ list_any (λ entry. entry.target == t) entries
+count_in-any t [] = refl
+count_in-any t (e ∷ es) = let r = count_in-any t es in let c = sum_by-cons (λ entry. cond (entry.target == t) 1 0) e es in grind (arith, nat_tests)
+
+count_in-push : (t : ℕ) (entries : List TempRef) (entry : TempRef) → count_in t (entries ++ entry ∷ []) ≡ count_in t entries + cond (t == entry.target) 1 0
+count_in-push t entries entry = sum_by_push (λ e. cond (e.target == t) 1 0) entries entry ∙ ap (λ n. count_in t entries + n) (flip t entry.target)
+  where
+    flip : (x y : ℕ) → cond {A = ℕ} (y == x) 1 0 ≡ cond {A = ℕ} (x == y) 1 0
+    flip x y = grind (arith, nat_tests)
+
+-- a list is shorter than memory
+short-option : (o : Option (Vec TempRef)) → length (option_map_or (λ list. list.items) o []) ≤ 2 ^ 64
+short-option None = omega arith
+short-option (Some list) = omega (arith, list.small, list.ok)
+
+pub count-small : {S : Type 0} (lists : Lists) (counts : IndexMap ℕ ℕ S) (room target : ℕ) → IsSound lists counts room → count_of counts target + 1 < 2 ^ 128
+count-small lists counts room target sound =
+    let short : (p : ℕ) → count_in target (list_of lists p) ≤ 2 ^ 64 = λ p. let s = short-option (lookup (is_at (nat_cmp p)) lists) in let c = count_by-le-length (λ entry. entry.target == target) (list_of lists p) in omega (arith, s, c) in
+    let all = sum_below-le 256 (2 ^ 64) (λ p. count_in target (list_of lists p)) short in
+    omega (arith, all, sound.counted target)
+
+-- ---- what the calls keep
+
+-- a new table has nothing
+pub IsSound-new : {S : Type 0} (lists : Lists) (counts : IndexMap ℕ ℕ S) → lists ≡ [] → counts.entries ≡ [] → IsSound lists counts 0
+IsSound-new lists counts no_lists no_counts = record {
+  counted = λ t. ap (λ entries. unwrap_or (lookup (nat_eq t) entries) 0) no_counts ∙ sym (sum_below-zero 256 (λ p. count_in t (list_of lists p)) (λ p. ap (λ ls. count_in t (list_of ls p)) no_lists));
+  clients = λ p beyond. ap (λ ls. list_of ls p) no_lists;
+  room_of_each = λ some p within. absurd (omega (arith, some));
+  room_of_counts = omega arith;
+}
+
+-- the entries and their counts stay, and so does room
+pub IsSound-same : {S : Type 0} (old new : Lists) (counts kept : IndexMap ℕ ℕ S) (room : ℕ) → AreSame old new → KeepsRoom old new → ((t : ℕ) → count_of kept t ≡ count_of counts t) → room ≤ spare kept → IsSound old counts room → IsSound new kept room
+IsSound-same old new counts kept room same keeps counted left sound = record {
+  counted = λ t. counted t ∙ sound.counted t ∙ sym (sum_below-same 256 (λ p. count_in t (list_of old p)) (λ p. count_in t (list_of new p)) (λ p. ap (count_in t) (same p)));
+  clients = λ p beyond. same p ∙ sound.clients p beyond;
+  room_of_each = λ some p within. keeps p room (sound.room_of_each some p within);
+  room_of_counts = left;
+}
+
+-- with more room
+pub IsSound-more : {S : Type 0} (old new : Lists) (counts : IndexMap ℕ ℕ S) (room more : ℕ) → ((p : ℕ) → p < 256 → HasRoom new p more) → more ≤ spare counts → IsSound new counts room → IsSound new counts more
+IsSound-more old new counts room more each left sound = record {
+  counted = sound.counted;
+  clients = sound.clients;
+  room_of_each = λ some p within. each p within;
+  room_of_counts = left;
+}
+
+-- one entry more
+pub IsSound-add : {S : Type 0} (old new : Lists) (counts added : IndexMap ℕ ℕ S) (room left pass : ℕ) (entry : TempRef) → pass < 256 → AddsEntry old new pass entry → ((p n : ℕ) → HasRoom old p (n + 1) → HasRoom new p n) → ((t : ℕ) → count_of added t ≡ count_of counts t + cond (t == entry.target) 1 0) → spare counts ≤ spare added + 1 → left ≡ room - 1 → IsSound old counts room → IsSound new added left
+IsSound-add old new counts added room left pass entry within adds uses counted spares less sound =
+    let apart : (p : ℕ) → p ≢ pass → list_of new p ≡ list_of old p = λ p other. adds p ∙ grind (arith, nat_tests, other) in
+    let here : list_of new pass ≡ list_of old pass ++ entry ∷ [] = adds pass ∙ grind (arith, nat_tests) in
+    record {
+      counted = λ t.
+          let change = sum_below-change 256 pass (λ p. count_in t (list_of old p)) (λ p. count_in t (list_of new p)) within (λ p other. ap (count_in t) (apart p other)) in
+          let more : count_in t (list_of new pass) ≡ count_in t (list_of old pass) + cond (t == entry.target) 1 0 = ap (count_in t) here ∙ count_in-push t (list_of old pass) entry in
+          let was = sound.counted t in
+          let now = counted t in
+          omega (arith, change, more, was, now);
+      clients = λ p beyond. apart p (omega (arith, beyond, within)) ∙ sound.clients p beyond;
+      room_of_each = λ some p below. uses p left (subst (λ n. HasRoom old p n) (omega (arith, some, less)) (sound.room_of_each (omega (arith, some, less)) p below));
+      room_of_counts = omega (arith, spares, less, sound.room_of_counts);
+    }
+
+-- the client's entries go
+pub IsSound-end : {S : Type 0} (old new : Lists) (counts left : IndexMap ℕ ℕ S) (room pass : ℕ) → pass < 256 → EndsClient old new pass → KeepsRoom old new → ((t : ℕ) → count_of left t + count_in t (list_of old pass) ≡ count_of counts t) → spare counts ≤ spare left → IsSound old counts room → IsSound new left room
+IsSound-end old new counts left room pass within ends keeps counted spares sound =
+    let apart : (p : ℕ) → p ≢ pass → list_of new p ≡ list_of old p = λ p other. ends p ∙ grind (arith, nat_tests, other) in
+    let here : list_of new pass ≡ [] = ends pass ∙ grind (arith, nat_tests) in
+    record {
+      counted = λ t.
+          let change = sum_below-change 256 pass (λ p. count_in t (list_of old p)) (λ p. count_in t (list_of new p)) within (λ p other. ap (count_in t) (apart p other)) in
+          let none : count_in t (list_of new pass) ≡ 0 = ap (count_in t) here in
+          let was = sound.counted t in
+          let now = counted t in
+          omega (arith, change, none, was, now);
+      clients = λ p beyond. apart p (omega (arith, beyond, within)) ∙ sound.clients p beyond;
+      room_of_each = λ some p below. keeps p room (sound.room_of_each some p below);
+      room_of_counts = omega (arith, spares, sound.room_of_counts);
+    }
+
+-- the client's entries are counted
+pub IsSound-part : {S : Type 0} (lists : Lists) (counts : IndexMap ℕ ℕ S) (room pass : ℕ) → pass < 256 → IsSound lists counts room → (t : ℕ) → count_in t (list_of lists pass) ≤ count_of counts t
+IsSound-part lists counts room pass within sound t = let part = sum_below-part 256 pass (λ p. count_in t (list_of lists p)) within in omega (arith, part, sound.counted t)
+
+-- a target that is counted is that of some entry
+pub IsSound-named : {S : Type 0} (lists : Lists) (counts : IndexMap ℕ ℕ S) (room id : ℕ) → IsSound lists counts room → 0 < count_of counts id → (p : ℕ) × Names (list_of lists p) id
+IsSound-named lists counts room id sound some =
+    let found = sum_below-some 256 (λ p. count_in id (list_of lists p)) (omega (arith, some, sound.counted id)) in
+    let any = count_in-any id (list_of lists found.0) in
+    (found.0, sym any ∙ grind (arith, nat_tests, found.1))
+
+-- and one that is not counted is that of none
+pub IsSound-unnamed : {S : Type 0} (lists : Lists) (counts : IndexMap ℕ ℕ S) (room id : ℕ) → IsSound lists counts room → count_of counts id ≡ 0 → (p : ℕ) → ¬ Names (list_of lists p) id
+IsSound-unnamed lists counts room id sound none p named =
+    let any = count_in-any id (list_of lists p) in
+    let some : 0 < count_in id (list_of lists p) = grind (arith, nat_tests, any, named) in
+    ⊎_elim
+    (λ (below : p < 256). let part = sum_below-part 256 p (λ q. count_in id (list_of lists q)) below in omega (arith, part, some, none, sound.counted id))
+    (λ (beyond : 256 ≤ p). let empty = ap (count_in id) (sound.clients p beyond) in omega (arith, empty, some))
+    (cases_lt p 256)

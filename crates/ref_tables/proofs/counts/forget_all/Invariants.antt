@@ -1,0 +1,5 @@
+use Rattle.ref_tables.proofs.Forgetting.{AreBeingForgotten}
+use Rattle.ref_tables.proofs.counts.forget_all.Given as goal
+
+abbrev pub invariant-loop-entry : goal.invariant-loop-entry
+invariant-loop-entry l = AreBeingForgotten l.initial.counts l.counts l.entries l.entry-index

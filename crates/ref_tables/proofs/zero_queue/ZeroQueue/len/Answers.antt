@@ -1,0 +1,6 @@
+use Rattle.std.proofs.Common.{arith}
+use Rattle.ref_tables.proofs.QueueLaws.{IsKept-length}
+use Rattle.ref_tables.proofs.zero_queue.ZeroQueue.len.Goals as goal
+
+pub overflow_cast-result : goal.overflow_cast-result
+overflow_cast-result c = let le = IsKept-length _ _ _ _ c.self.invariant in grind (arith, le, c.len.ensures)

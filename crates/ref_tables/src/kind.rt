@@ -1,0 +1,19 @@
+//! What a client did with a reference.
+
+/// What a client did with the target of an entry.
+#[derive(Clone, Copy, PartialEq, Eq, Debug)]
+pub enum Kind {
+    /// It made the object.
+    Made,
+    /// It laid a reference to the object into a slot.
+    Put,
+    /// It took a reference to the object out of a slot.
+    Cut,
+}
+
+/// An entry of the temporary reference table: the object's id, and what the client did with it.
+#[derive(Clone, Copy, PartialEq, Eq, Debug)]
+pub(crate) struct TempRef {
+    pub(crate) target: u32,
+    pub(crate) kind: Kind,
+}

@@ -1,0 +1,95 @@
+//! The entries of each client.
+ghost use Rattle.std.specs.Prelude.{◌≡◌, ◌<◌, ◌≤◌, ◌+◌, ℕ, ◌++◌, ◌∷◌, [], OnOk, IsOk, option_map, slice_get, vec_len, vec_capacity};
+ghost use Rattle.ref_tables.specs.Lists.{list_of, HasRoom, KeepsRoom, AreSame, AddsEntry, EndsClient};
+
+use crate::Memory;
+use crate::kind::TempRef;
+use std::alloc::Global;
+use std::collections::BTreeMap;
+
+/// Appends the entry, for which there is room.
+fn push_into_room(list: &mut Vec<TempRef>, entry: TempRef)
+    requires { vec_len list.old < vec_capacity list.old }
+    ensures items { list.new.items ≡ list.old.items ++ entry ∷ [] }
+    ensures len { vec_len list.new ≡ vec_len list.old + 1 }
+    ensures capacity { vec_capacity list.old ≤ vec_capacity list.new }
+{
+    let _ = list.push(entry);
+}
+
+/// Takes room for so many more entries of the client.
+pub(crate) fn reserve(
+    lists: &mut BTreeMap<u8, Vec<TempRef>>,
+    alloc: Global,
+    pass: u8,
+    more: u32,
+) -> Result<(), Memory>
+    ensures same { AreSame lists.old.entries lists.new.entries }
+    ensures keeps { KeepsRoom lists.old.entries lists.new.entries }
+    ensures room { OnOk result (HasRoom lists.new.entries pass more) }
+    ensures succeeds { HasRoom lists.old.entries pass more → IsOk result }
+{
+    match lists.get_mut(&pass) {
+        Some(list) => list.reserve(more as usize),
+        None => {
+            let list = Vec::with_capacity(alloc, more as usize)?;
+            lists.insert(pass, list)?;
+            Ok(())
+        }
+    }
+}
+
+/// Appends the entry to the client's, for which there is room.
+pub(crate) fn add(lists: &mut BTreeMap<u8, Vec<TempRef>>, pass: u8, entry: TempRef)
+    requires { HasRoom lists.old.entries pass 1 }
+    ensures adds { AddsEntry lists.old.entries lists.new.entries pass entry }
+    ensures room { (p n : ℕ) → HasRoom lists.old.entries p (n + 1) → HasRoom lists.new.entries p n }
+{
+    if let Some(list) = lists.get_mut(&pass) {
+        push_into_room(list, entry);
+    }
+}
+
+/// The client's entries.
+pub(crate) fn list(lists: &BTreeMap<u8, Vec<TempRef>>, pass: u8) -> &[TempRef]
+    ensures { result.now ≡ list_of lists.now.entries pass }
+{
+    match lists.get(&pass) {
+        Some(list) => list.as_slice(),
+        None => &[],
+    }
+}
+
+/// The target of the entry at this place, counted from 0.
+pub(crate) fn target_at(list: &[TempRef], place: u32) -> Option<u32>
+    ensures { result ≡ option_map (λ entry. entry.target) (slice_get list.now place) }
+{
+    let entry = list.get(place as usize)?;
+    Some(entry.target)
+}
+
+/// Takes the client's entries out, and keeps their room.
+pub(crate) fn clear(lists: &mut BTreeMap<u8, Vec<TempRef>>, pass: u8)
+    ensures ends { EndsClient lists.old.entries lists.new.entries pass }
+    ensures keeps { KeepsRoom lists.old.entries lists.new.entries }
+{
+    if let Some(list) = lists.get_mut(&pass) {
+        list.clear();
+    }
+}
+
+/// Takes room for so many more entries of every client.
+pub(crate) fn reserve_all(
+    lists: &mut BTreeMap<u8, Vec<TempRef>>,
+    alloc: Global,
+    more: u32,
+) -> Result<(), Memory>
+    ensures same { AreSame lists.old.entries lists.new.entries }
+    ensures keeps { KeepsRoom lists.old.entries lists.new.entries }
+    ensures room { OnOk result ((p : ℕ) → p < 256 → HasRoom lists.new.entries p more) }
+{
+    for pass in 0..256u16 {
+        reserve(lists, alloc, pass as u8, more)?;
+    }
+    Ok(())
+}
