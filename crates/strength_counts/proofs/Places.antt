@@ -7,7 +7,7 @@ use Rattle.std.proofs.lemmas.List.{length-take, get_or-take, length-set}
 use Rattle.std.proofs.lemmas.List.Elements.{All-from_recursion, recursion_from_All, All-set}
 use Rattle.cell_page.specs.declared.cell.Cell.{Cell}
 use Rattle.cell_page.specs.Format.{IsCell}
-use Rattle.cell_page.specs.Pointers.{cell_of}
+use Rattle.cell_page.specs.Stored.{cell_of}
 use Rattle.strength_counts.specs.Held.{Held, is_held, held_cell, edit_held}
 use Rattle.strength_counts.proofs.Edits.{AreOnce-edit_held}
 use Rattle.strength_counts.specs.Inside.{held_of, all_held_of, IsPlaced, AreKept}

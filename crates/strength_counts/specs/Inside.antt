@@ -3,7 +3,7 @@ use Rattle.std.specs.Prelude.{◌≡◌, ℕ, ◌<◌, ◌≤◌, List, map, tak
 use Rattle.std.specs.List.{AllByRecursion}
 use Rattle.cell_page.specs.declared.cell.Cell.{Cell}
 use Rattle.cell_page.specs.Format.{IsCell}
-use Rattle.cell_page.specs.Pointers.{cell_of}
+use Rattle.cell_page.specs.Stored.{cell_of}
 use Rattle.strength_counts.specs.Held.{Held, AreOnce}
 
 abbrev pub held_of : {slots : ℕ} → Cell slots → Held

@@ -2,7 +2,7 @@
 
 ghost use Rattle.std.specs.Prelude.{◌≡◌, ℕ, ◌<◌, ◌==◌, true, false, [], ◌∷◌, ◌++◌, length, slice_index_or, IfSome, IfNone};
 ghost use Rattle.cell_page.specs.Format.{IsCell};
-ghost use Rattle.cell_page.specs.Pointers.{cell_of};
+ghost use Rattle.cell_page.specs.Stored.{cell_of};
 ghost use Rattle.strength_counts.specs.Held.{is_held, held_cell, AreOnce, edit_held};
 ghost use Rattle.strength_counts.specs.Inside.{held_of, all_held_of};
 

@@ -1,7 +1,7 @@
 use Rattle.std.proofs.Common.{◌≤◌, ℕ, List, length, ap, subst, ◌∙◌, arith}
 use Rattle.store_model.specs.Cells.{Pointer, Cell, turned}
 use Rattle.cell_page.specs.Format.{IsCell}
-use Rattle.cell_page.specs.Pointers.{cell_of}
+use Rattle.cell_page.specs.Stored.{cell_of}
 use Rattle.cell_page.proofs.PointerLemmas.{length-pointers_from}
 use Rattle.strength_counts.proofs.Slots.{turned_more, changed_all}
 use Rattle.strength_counts.proofs.flip.turn_all_own.Goals as goal
