@@ -1,0 +1,4 @@
+pub mod Ids
+pub mod Walk
+pub mod Inside
+pub mod Rounds
