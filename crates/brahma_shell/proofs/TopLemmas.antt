@@ -71,11 +71,11 @@ FollowsPart-all (Some bytes) (Some ys) h f = record {
   next = refl;
 }
 
--- what holds of the replay's history holds of the journal that is handed back
-pub of_journal : (P : History → Type 0) (o : Option JournalView) (h : History) → IfSome o (λ j. j.history ≡ h) → P h → IfSome o (λ j. P j.history)
-of_journal P None h e p = tt
-of_journal P (Some j) h e p = subst P (sym e) p
+-- what holds of the replay's journal holds of the one that is handed back
+pub of_journal : (P : JournalView → Type 0) (o : Option JournalView) (store : JournalView) → IfSome o (λ j. j ≡ store) → P store → IfSome o P
+of_journal P None store is p = tt
+of_journal P (Some j) store is p = subst P (sym is) p
 
 -- the replay began with a fresh store
-pub of_fresh : (g h : History) → h ≡ fresh_history store_ids → g ≡ record h { entries = g.entries } → IsOfFreshStore g
+pub of_fresh : (g h : History) → h ≡ fresh_history 6 store_ids → g ≡ record h { entries = g.entries } → IsOfFreshStore g
 of_fresh g h e s = s ∙ ap (λ (x : History). let r : History = record x { entries = g.entries } in r) e

@@ -6,7 +6,8 @@ ghost use Rattle.brahma_shell.specs.Grammar.{IsLineInRange};
 ghost use Rattle.brahma_shell.specs.Replay.{with_entries, answer_text, Performs};
 
 use crate::grammar::Line;
-use core_store::{AbortStep, Journal};
+use crate::store::Store;
+use core_store::AbortStep;
 use plain_model::{Call, Entry, Memory, Reply};
 use std::alloc::AllocError;
 
@@ -19,14 +20,14 @@ pub(crate) struct Answer {
 }
 
 /// Does one call.
-fn ask(journal: &mut Journal, client: u8, call: Call) -> Result<Answer, Memory>
+fn ask(store: &mut Store, client: u8, call: Call) -> Result<Answer, Memory>
     requires in_range { IsInRange 6 call }
-    requires no_abort { call ≡ Call.Abort → transaction_of (end_of journal.old.history).state client ≡ None }
+    requires no_abort { call ≡ Call.Abort → transaction_of (end_of store.old.history).state client ≡ None }
     ensures ok { IfOk result (λ a. (a.client ≡ client) × (a.call ≡ call)
-        × (journal.new.history ≡ with_entry journal.old.history (Entry.Call client call a.reply))) }
-    ensures err { OnErr result (journal.new ≡ journal.old) }
+        × (store.new.history ≡ with_entry store.old.history (Entry.Call client call a.reply))) }
+    ensures err { OnErr result (store.new ≡ store.old) }
 {
-    let reply = journal.apply(client, &call);
+    let reply = store.call(client, &call);
     if reply == Reply::Memory {
         return Err(AllocError);
     }
@@ -38,14 +39,14 @@ fn ask(journal: &mut Journal, client: u8, call: Call) -> Result<Answer, Memory>
 }
 
 /// Undoes each write of the client's transaction that isn't undone, and ends the transaction.
-fn abort(journal: &mut Journal, client: u8)
-    requires { IsSome (transaction_of (end_of journal.old.history).state client) }
-    ensures { journal.new.history ≡ with_entries journal.old.history
-        (replicate (left_to_undo (end_of journal.old.history) client) (Entry.Undo client)
+fn abort(store: &mut Store, client: u8)
+    requires { IsSome (transaction_of (end_of store.old.history).state client) }
+    ensures { store.new.history ≡ with_entries store.old.history
+        (replicate (left_to_undo (end_of store.old.history) client) (Entry.Undo client)
         ++ Entry.Call client Call.Abort Reply.Done ∷ []) }
 {
     'steps: loop {
-        match journal.abort_step(client) {
+        match store.abort_step(client) {
             AbortStep::Undone => {}
             AbortStep::Ended => return,
         }
@@ -53,23 +54,23 @@ fn abort(journal: &mut Journal, client: u8)
 }
 
 /// Does what the line asks. Answers what is to be printed, where there is something.
-pub(crate) fn perform(journal: &mut Journal, line: &Line) -> Result<Option<Answer>, Memory>
+pub(crate) fn perform(store: &mut Store, line: &Line) -> Result<Option<Answer>, Memory>
     requires { IsLineInRange line.now }
     ensures ok { IfOk result (λ answer.
-        Performs journal.old.history journal.new.history line.now (answer_text answer)) }
-    ensures err { OnErr result (journal.new ≡ journal.old) }
+        Performs store.old.history store.new.history line.now (answer_text answer)) }
+    ensures err { OnErr result (store.new ≡ store.old) }
 {
     match *line {
         Line::Nothing => Ok(None),
-        Line::Ask { client, call } => Ok(Some(ask(journal, client, call)?)),
-        Line::Abort { client } | Line::Undo { client } if !journal.active(client) => {
-            Ok(Some(ask(journal, client, Call::Abort)?))
+        Line::Ask { client, call } => Ok(Some(ask(store, client, call)?)),
+        Line::Abort { client } | Line::Undo { client } if !store.active(client) => {
+            Ok(Some(ask(store, client, Call::Abort)?))
         }
         Line::Abort { client } => {
-            abort(journal, client);
+            abort(store, client);
             Ok(Some(aborted(client)))
         }
-        Line::Undo { client } => match journal.abort_step(client) {
+        Line::Undo { client } => match store.abort_step(client) {
             AbortStep::Undone => Ok(None),
             AbortStep::Ended => Ok(Some(aborted(client))),
         },

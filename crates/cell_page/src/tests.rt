@@ -28,33 +28,78 @@ fn other_bytes(rt: HostRuntime) {
     );
 }
 
+/// The bytes of the first page of a new store, with these bytes changed: each with its offset.
+fn damaged(changes: &[(usize, u8)]) -> [u8; 512] {
+    let mut bytes = fresh_bytes();
+    for (offset, byte) in changes {
+        if let Some(changed) = bytes.get_mut(*offset) {
+            *changed = *byte;
+        }
+    }
+    bytes
+}
+
 #[test]
 fn damage(rt: HostRuntime) {
-    // the offset that is changed, its new byte, and the place of the answer
+    // the offset that is changed, its new byte, and the place of the answer: cell 1 is live, and the others are free
     for (offset, byte, at) in [
+        // a state of 2 and more
         (0, 2, 0),
+        (64, 2, 64),
+        (448, 255, 448),
+        // a target bit of 2, and one in a free cell
         (1, 2, 1),
-        (3, 64, 2),
-        (3, 1, 2),
         (65, 1, 65),
+        // the pointer bit of a null slot, those of no slot, and those of a free cell
+        (3, 1, 2),
+        (3, 64, 2),
+        (2, 128, 2),
         (67, 1, 66),
+        (66, 1, 66),
+        // a foreign id
+        (7, 2, 4),
         (71, 3, 68),
+        (68, 1, 68),
+        // a free cell with counts
         (0, 0, 8),
         (75, 1, 72),
+        (72, 1, 72),
         (79, 1, 76),
+        // with a payload
         (80, 1, 80),
+        (87, 1, 80),
+        // with a slot
+        (91, 1, 88),
         (95, 1, 92),
-        (111, 1, 108),
+        (108, 1, 108),
+        // an end that isn't 0
+        (48, 1, 48),
         (63, 1, 48),
         (112, 1, 112),
         (511, 1, 496),
     ] {
-        let mut bytes = fresh_bytes();
-        if let Some(changed) = bytes.get_mut(offset) {
-            *changed = byte;
-        }
-        let answer = Page::<6>::decode(0, &bytes);
+        let answer = Page::<6>::decode(0, &damaged(&[(offset, byte)]));
         assert_eq!(rt; answer, Err(BadCell { at }), "at {offset}");
+    }
+    // three bytes that are changed, and the place of the first fault
+    for (changes, at) in [
+        ([(7, 9), (3, 64), (1, 2)], 1),
+        ([(79, 1), (75, 1), (71, 9)], 68),
+        ([(511, 1), (111, 1), (95, 1)], 92),
+        ([(128, 2), (65, 2), (3, 0)], 65),
+        ([(66, 1), (60, 1), (2, 0)], 48),
+        ([(27, 2), (3, 32), (64, 1)], 2),
+    ] {
+        let answer = Page::<6>::decode(0, &damaged(&changes));
+        assert_eq!(rt; answer, Err(BadCell { at }), "{changes:?}");
+    }
+    // a page that is cut off, whatever its bytes are
+    for len in [511, 100, 1, 0] {
+        let bytes = damaged(&[(0, 2)]);
+        if let Some(front) = bytes.get(..len as usize) {
+            let answer = Page::<6>::decode(0, front);
+            assert_eq!(rt; answer, Err(BadCell { at: len }), "{len} bytes");
+        }
     }
 }
 

@@ -1,116 +1,90 @@
--- One client's transaction changes, or begins.
-use Rattle.std.proofs.Common.{◌≡◌, ◌≢◌, ℕ, List, true, sym, ap, ap₂, ◌∙◌, subst, Some, ⊎_elim, ◌⊎◌, length, ◌+◌}
+-- One client's transaction changes, or begins; or it ends.
+use Rattle.std.proofs.Common.{◌≡◌, ◌≢◌, ℕ, List, Bool, true, false, sym, ap, ◌∙◌, subst, Option, Some, None, ⊎_elim, map}
+use Rattle.std.specs.Prelude.{Contains}
 use Rattle.std.specs.List.{list_any}
 use Rattle.std.specs.Ordering.{nat_cmp}
 use Rattle.std.specs.BTreeMap.{is_at}
-use Rattle.plain_model.specs.declared.object.Object.{Object}
-use Rattle.plain_model.specs.Graphs.{object_at, applied}
+use Rattle.plain_model.specs.declared.write.Write.{Write}
 use Rattle.plain_model.specs.ActiveTransaction.{ActiveTransaction}
-use Rattle.plain_model.specs.Machine.{State, transaction_of, own_graph, is_among}
-use Rattle.plain_laws.proofs.Entries.{same_or_apart, some_same}
+use Rattle.plain_model.specs.Machine.{State, transaction_of, is_among}
+use Rattle.plain_model.specs.History.{Moment}
+use Rattle.plain_laws.proofs.Entries.{same_or_apart}
 use Rattle.strict_locks.specs.Locks.{holders_of, is_owner, is_sharer}
-use Rattle.core_store.specs.declared.contents.Contents.{Contents}
-use Rattle.core_store.specs.Versions.{version_at, object_of}
+use Rattle.store_model.specs.Cells.{Cell, is_live}
+use Rattle.store_model.specs.SoundCells.{IsSoundCells}
+use Rattle.core_store.specs.Changes.{has_no_strong}
 use Rattle.core_store.specs.Transactions.{Running, running_at}
 use Rattle.core_store.specs.Tables.{TablesView}
-use Rattle.core_store.specs.Stands.{IsRunning, Matches, owns_in, shares_in, writes_to, is_free, IsWrittenBy, HasWriter, Stands}
+use Rattle.core_store.proofs.LayLaws.{CanLay-later}
+use Rattle.core_store.proofs.MapLaws.{same_running}
+use Rattle.core_store.specs.Stands.{IsRunning, CanLay, Matches, owns_in, shares_in, is_free, Stands}
 
--- from v and s to w and z, this client's transaction alone changes, and becomes u; the committed graph stays
-pub record Changes (v w : TablesView) (s z : State) (undone after : ℕ → ℕ) (pass : ℕ) (kept : Running) (u : ActiveTransaction) : Type 0 where
+-- from v to w and from the state s to z, this client's transaction alone changes, and becomes u; the committed graph stays
+pub record Changes (slots : ℕ) (v w : TablesView) (s z : State) (undone after : ℕ → ℕ) (pass : ℕ) (kept : Running) (u : ActiveTransaction) : Type 0 where
   pub same_ids : w.ids ≡ v.ids
   pub state_ids : z.ids ≡ s.ids
   pub state_slots : z.slots ≡ s.slots
-  pub sized : length w.versions ≡ length v.versions
   pub here : running_at w.transactions pass ≡ Some kept
   pub others : (q : ℕ) → q ≢ pass → running_at w.transactions q ≡ running_at v.transactions q
   pub state_here : transaction_of z pass ≡ Some u
   pub state_others : (q : ℕ) → q ≢ pass → transaction_of z q ≡ transaction_of s q
   pub undone_others : (q : ℕ) → q ≢ pass → after q ≡ undone q
-  pub runs : IsRunning kept u (after pass)
+  pub runs : IsRunning slots s.committed kept u (after pass)
   pub owner : (id : ℕ) → is_owner (holders_of w.locks id) pass ≡ is_among id u.owned
   pub other_owners : (id q : ℕ) → q ≢ pass → is_owner (holders_of w.locks id) q ≡ is_owner (holders_of v.locks id) q
   pub sharer : (id : ℕ) → is_sharer (holders_of w.locks id) pass ≡ is_among id u.shared
   pub other_sharers : (id q : ℕ) → q ≢ pass → is_sharer (holders_of w.locks id) q ≡ is_sharer (holders_of v.locks id) q
   pub graph : z.committed ≡ s.committed
-  pub versions : (id : ℕ) → (version_at w.versions id).committed ≡ (version_at v.versions id).committed
-  pub written : (id : ℕ) → writes_to id u ≡ true → IsWrittenBy w z id u
-  pub untouched : (q id : ℕ) (t : ActiveTransaction) → q ≢ pass → transaction_of s q ≡ Some t → writes_to id t ≡ true → (version_at w.versions id).written ≡ (version_at v.versions id).written
-  pub writer : (id : ℕ) (c : Contents) → (version_at w.versions id).written ≡ Some c → (writes_to id u ≡ true) ⊎ ((version_at v.versions id).written ≡ Some c)
-  pub more : (t : ActiveTransaction) → transaction_of s pass ≡ Some t → (id : ℕ) → writes_to id t ≡ true → writes_to id u ≡ true
   pub free : (id : ℕ) → list_any (is_at (nat_cmp id)) w.free ≡ is_free z id
 
--- another client's transaction sees what it saw
-pub own-other : (s z : State) (t : ActiveTransaction) → z.slots ≡ s.slots → z.committed ≡ s.committed → own_graph z t ≡ own_graph s t
-own-other s z t a b = ap₂ (λ (n : ℕ) (g : List Object). applied n g t.writes) a b
+module _ (slots : ℕ) (v w : TablesView) (cells later : List Cell) (m n : Moment) (z : State) (pass : ℕ) (kept : Running) (u : ActiveTransaction) (h : Stands slots v cells m) (c : Changes slots v w m.state z m.undone n.undone pass kept u)
+    (state_is : n.state ≡ z) (zeros : w.zeros ≡ map has_no_strong later) (sound : IsSoundCells later n)
+    (alive : (x : ℕ) → is_live cells x ≡ true → is_live later x ≡ true) (lays : (x : Write) → Contains kept.replaced x → CanLay slots later x) where
+  restorable : (q : ℕ) (kept2 : Running) → running_at w.transactions q ≡ Some kept2 → (x : Write) → Contains kept2.replaced x → CanLay slots later x
+  restorable q kept2 f x k =
+      ⊎_elim
+      (λ (e : q ≡ pass). lays x (subst (λ (y : Running). Contains y.replaced x) (same_running (running_at w.transactions pass) kept2 kept (subst (λ p. running_at w.transactions p ≡ Some kept2) e f) c.here) k))
+      (λ (d : q ≢ pass). CanLay-later slots cells later alive x (h.restorable q kept2 (sym (c.others q d) ∙ f) x k))
+      (same_or_apart q pass)
 
-module _ (v w : TablesView) (s z : State) (undone after : ℕ → ℕ) (pass : ℕ) (kept : Running) (u : ActiveTransaction) (h : Stands v s undone) (c : Changes v w s z undone after pass kept u) where
-  running : (q : ℕ) → Matches (running_at w.transactions q) (transaction_of z q) (after q)
+  running : (q : ℕ) → Matches slots m.state.committed (running_at w.transactions q) (transaction_of z q) (n.undone q)
   running q =
       ⊎_elim
-      (λ (e : q ≡ pass). subst (λ p. Matches (running_at w.transactions p) (transaction_of z p) (after p)) (sym e)
-      (subst (λ o. Matches o (transaction_of z pass) (after pass)) (sym c.here) (subst (λ o. Matches (Some kept) o (after pass)) (sym c.state_here) c.runs)))
-      (λ (n : q ≢ pass).
-      subst (λ o. Matches o (transaction_of z q) (after q)) (sym (c.others q n))
-      (subst (λ o. Matches (running_at v.transactions q) o (after q)) (sym (c.state_others q n))
-      (subst (λ k. Matches (running_at v.transactions q) (transaction_of s q) k) (sym (c.undone_others q n)) (h.running q))))
+      (λ (e : q ≡ pass). subst (λ p. Matches slots m.state.committed (running_at w.transactions p) (transaction_of z p) (n.undone p)) (sym e)
+      (subst (λ o. Matches slots m.state.committed o (transaction_of z pass) (n.undone pass)) (sym c.here)
+      (subst (λ o. Matches slots m.state.committed (Some kept) o (n.undone pass)) (sym c.state_here) c.runs)))
+      (λ (d : q ≢ pass).
+      subst (λ o. Matches slots m.state.committed o (transaction_of z q) (n.undone q)) (sym (c.others q d))
+      (subst (λ o. Matches slots m.state.committed (running_at v.transactions q) o (n.undone q)) (sym (c.state_others q d))
+      (subst (λ k. Matches slots m.state.committed (running_at v.transactions q) (transaction_of m.state q) k) (sym (c.undone_others q d)) (h.running q))))
       (same_or_apart q pass)
 
   owners : (id q : ℕ) → is_owner (holders_of w.locks id) q ≡ owns_in (transaction_of z q) id
   owners id q =
       ⊎_elim
       (λ (e : q ≡ pass). subst (λ p. is_owner (holders_of w.locks id) p ≡ owns_in (transaction_of z p) id) (sym e) (c.owner id ∙ ap (λ o. owns_in o id) (sym c.state_here)))
-      (λ (n : q ≢ pass). c.other_owners id q n ∙ (h.owners id q ∙ ap (λ o. owns_in o id) (sym (c.state_others q n))))
+      (λ (d : q ≢ pass). c.other_owners id q d ∙ (h.owners id q ∙ ap (λ o. owns_in o id) (sym (c.state_others q d))))
       (same_or_apart q pass)
 
   sharers : (id q : ℕ) → is_sharer (holders_of w.locks id) q ≡ shares_in (transaction_of z q) id
   sharers id q =
       ⊎_elim
       (λ (e : q ≡ pass). subst (λ p. is_sharer (holders_of w.locks id) p ≡ shares_in (transaction_of z p) id) (sym e) (c.sharer id ∙ ap (λ o. shares_in o id) (sym c.state_here)))
-      (λ (n : q ≢ pass). c.other_sharers id q n ∙ (h.sharers id q ∙ ap (λ o. shares_in o id) (sym (c.state_others q n))))
+      (λ (d : q ≢ pass). c.other_sharers id q d ∙ (h.sharers id q ∙ ap (λ o. shares_in o id) (sym (c.state_others q d))))
       (same_or_apart q pass)
 
-  written : (q id : ℕ) (t : ActiveTransaction) → transaction_of z q ≡ Some t → writes_to id t ≡ true → IsWrittenBy w z id t
-  written q id t f m =
-      ⊎_elim
-      (λ (e : q ≡ pass).
-      let same : t ≡ u = some_same (transaction_of z pass) t u c.state_here (subst (λ p. transaction_of z p ≡ Some t) e f) in
-      subst (λ t. IsWrittenBy w z id t) (sym same) (c.written id (subst (λ t. writes_to id t ≡ true) same m)))
-      (λ (n : q ≢ pass).
-      let g : transaction_of s q ≡ Some t = sym (c.state_others q n) ∙ f in
-      let k = h.written q id t g m in
-      record {
-        contents = k.contents;
-        here = c.untouched q id t n g m ∙ k.here;
-        object = ap (λ g. object_at g id) (own-other s z t c.state_slots c.graph) ∙ k.object;
-      })
-      (same_or_apart q pass)
-
-  writer : (id : ℕ) (x : Contents) → (version_at w.versions id).written ≡ Some x → HasWriter z id
-  writer id x e =
-      ⊎_elim
-      (λ (m : writes_to id u ≡ true). record { pass = pass; transaction = u; found = c.state_here; writes = m })
-      (λ (k : (version_at v.versions id).written ≡ Some x).
-      let old = h.writer id x k in
-      ⊎_elim
-      (λ (p : old.pass ≡ pass).
-      let f : transaction_of s pass ≡ Some old.transaction = subst (λ p. transaction_of s p ≡ Some old.transaction) p old.found in
-      let r : HasWriter z id = record { pass = pass; transaction = u; found = c.state_here; writes = c.more old.transaction f id old.writes } in r)
-      (λ (n : old.pass ≢ pass). let r : HasWriter z id = record { pass = old.pass; transaction = old.transaction; found = c.state_others old.pass n ∙ old.found; writes = old.writes } in r)
-      (same_or_apart old.pass pass))
-      (c.writer id x e)
-
-  pub Stands-change : Stands w z after
+  pub Stands-change : Stands slots w later n
   Stands-change = record {
-    ids = c.state_ids ∙ (h.ids ∙ sym c.same_ids);
-    slots = c.state_slots ∙ h.slots;
-    sized = c.sized ∙ (h.sized ∙ ap (λ (n : ℕ). n + 1) (sym c.same_ids));
-    running = running;
-    owners = owners;
-    sharers = sharers;
-    free = c.free;
-    committed = λ id o e.
-        let g : object_at s.committed id ≡ Some o = ap (λ g. object_at g id) (sym c.graph) ∙ e in
-        h.committed id o g ∙ ap (λ x. object_of id x) (sym (c.versions id));
-    written = written;
-    writer = writer;
+    ids = ap (λ (s : State). s.ids) state_is ∙ (c.state_ids ∙ (h.ids ∙ sym c.same_ids));
+    few = rw c.same_ids h.few;
+    slots_are = ap (λ (s : State). s.slots) state_is ∙ (c.state_slots ∙ h.slots_are);
+    counted = h.counted;
+    sound = sound;
+    restorable = restorable;
+    running = subst (λ (s : State). (q : ℕ) → Matches slots s.committed (running_at w.transactions q) (transaction_of s q) (n.undone q)) (sym state_is)
+        (λ q. subst (λ g. Matches slots g (running_at w.transactions q) (transaction_of z q) (n.undone q)) (sym c.graph) (running q));
+    owners = subst (λ (s : State). (id q : ℕ) → is_owner (holders_of w.locks id) q ≡ owns_in (transaction_of s q) id) (sym state_is) owners;
+    sharers = subst (λ (s : State). (id q : ℕ) → is_sharer (holders_of w.locks id) q ≡ shares_in (transaction_of s q) id) (sym state_is) sharers;
+    free = subst (λ (s : State). (id : ℕ) → list_any (is_at (nat_cmp id)) w.free ≡ is_free s id) (sym state_is) c.free;
+    zeros = zeros;
   }

@@ -7,14 +7,15 @@ use Rattle.std.specs.BTreeMap.{is_at}
 use Rattle.std.proofs.lemmas.Bool.{cases_lt}
 use Rattle.std.proofs.lemmas.Bool.Decides.{nat_tests}
 use Rattle.plain_model.specs.Machine.{State, is_stored}
-use Rattle.plain_model.specs.History.{History, end_of}
+use Rattle.plain_model.specs.History.{end_of}
 use Rattle.plain_laws.specs.Sound.{Ascend}
 use Rattle.plain_laws.proofs.Ids.{or_right}
 use Rattle.core_store.specs.FreeIds.{taken}
 use Rattle.core_store.specs.Tables.{TablesView}
 use Rattle.core_store.specs.Stands.{is_free}
 use Rattle.core_store.specs.Journal.{Keeps}
-use Rattle.core_store.proofs.JournalLaws.{proper-end}
+use Rattle.core_store.specs.JournalView.{JournalView}
+use Rattle.store_model.proofs.EditLaws.{live-within, live-there}
 
 -- of ascending ids, those up to n
 abbrev pub up_to : ℕ → List ℕ → List ℕ
@@ -99,13 +100,16 @@ within_free : (s : State) (k : ℕ) → 0 < k → k ≤ s.ids → is_free s k �
 within_free s k a b = grind (arith, nat_tests)
 
 -- the ids that aren't free are the stored ones
-pub taken-stored : (h : History) (v : TablesView) → Keeps h v → taken v.free v.ids ≡ (end_of h).state.stored
-taken-stored h v k =
-    let s = (end_of h).state in
-    let p = proper-end h v k in
-    let ids = k.stands.ids in
-    taken-up_to v.free s.stored v.ids v.ids p.sound.ascend
-    (λ i a b. k.stands.free i ∙ within_free s i a (omega (arith, b, ids)))
-    (λ i e. (p.ids i e).0)
+pub taken-stored : (j : JournalView) (v : TablesView) → Keeps j v → taken v.free v.ids ≡ (end_of j.history).state.stored
+taken-stored j v k =
+    let h = k.stands in
+    let s = (end_of j.history).state in
+    let ids = h.ids in
+    let size = h.sound.consistent.sized in
+    let within : (i : ℕ) → is_stored s.stored i ≡ true → (0 < i) × (i ≤ v.ids) =
+    λ i e. (let live = sym (h.sound.stored i) ∙ e in let low = live-there _ i h.sound.consistent.exact.none live in let high = live-within _ i live in (omega (arith, low), omega (arith, high, size, ids))) in
+    taken-up_to v.free s.stored v.ids v.ids h.sound.state.ascend
+    (λ i a b. h.free i ∙ within_free s i a (omega (arith, b, ids)))
+    (λ i e. (within i e).0)
     (omega arith)
-    ∙ up_to-all v.ids s.stored (λ i e. (let b = (p.ids i e).1 in omega (arith, b, ids)))
+    ∙ up_to-all v.ids s.stored (λ i e. (within i e).1)

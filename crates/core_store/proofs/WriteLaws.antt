@@ -1,133 +1,138 @@
 -- A transaction owns an object and writes it.
-use Rattle.std.proofs.Common.{◌≡◌, ◌≢◌, ℕ, ◌<◌, ◌≤◌, List, [], ◌∷◌, ◌++◌, true, false, refl, sym, ap, ap₂, ◌∙◌, subst, Option, Some, None, inl, inr, ⊎_elim, arith, length, length-set, get_or-set_same, get_or-set_other, ne_eqb}
-use Rattle.std.specs.Prelude.{◌==◌}
-use Rattle.std.specs.List.{list_any}
-use Rattle.std.specs.Ordering.{nat_cmp}
-use Rattle.std.specs.BTreeMap.{is_at}
-use Rattle.std.proofs.lemmas.List.Sums.{fold-append}
+use Rattle.std.proofs.Common.{◌≡◌, ℕ, ◌+◌, List, [], ◌∷◌, ◌++◌, Bool, true, false, cond, refl, sym, ap, ◌∙◌, subst, Option, Some, None, inl, inr, ◌⊎◌, ◌<◌, arith, length, map}
+use Rattle.std.specs.Prelude.{count_by, Contains}
+use Rattle.std.specs.Option.{option_map_or}
+use Rattle.std.proofs.lemmas.List.{length_push, take_all}
+use Rattle.std.proofs.lemmas.List.Elements.{Contains-append_cases}
 use Rattle.plain_model.specs.declared.object.Object.{Object}
+use Rattle.plain_model.specs.declared.write.Place.TheVariants.{Slot, Payload}
 use Rattle.plain_model.specs.declared.write.Write.{Write}
-use Rattle.plain_model.specs.Graphs.{object_at, applied, after_write as graph_after_write}
+use Rattle.plain_model.specs.declared.calls.Call.TheVariants.{Store, SetPay}
+use Rattle.plain_model.specs.declared.calls.Entry.TheVariants.{Call}
+use Rattle.plain_model.specs.declared.calls.Reply.{Reply}
+use Rattle.plain_model.specs.declared.calls.Reply.TheVariants.{Done}
 use Rattle.plain_model.specs.ActiveTransaction.{ActiveTransaction}
-use Rattle.plain_model.specs.Machine.{State, transaction_of, with_id, is_among, own_graph}
-use Rattle.plain_model.specs.History.{holds}
-use Rattle.plain_laws.proofs.Entries.{same_or_apart, some_same}
-use Rattle.plain_laws.proofs.Ids.{any-push_more, any-push_here, any-push_cases, test_same}
-use Rattle.plain_laws.proofs.Lookups.{object_at-after_writes, writes_at-other}
-use Rattle.strict_locks.specs.Locks.{holders_of, is_owner, AddsOwner}
-use Rattle.core_store.specs.declared.contents.Contents.{Contents}
-use Rattle.core_store.specs.declared.contents.Version.{Version}
-use Rattle.core_store.specs.Versions.{blank_version, version_at, object_of, rewritten}
-use Rattle.core_store.specs.Transactions.{Running}
-use Rattle.core_store.specs.Tables.{TablesView}
-use Rattle.core_store.specs.Stands.{IsRunning, owns_in, shares_in, writes_to, is_free, IsWrittenBy, Stands, IsProper}
-use Rattle.core_store.proofs.SeenLaws.{writer-owns, owner-holds, contradict}
-use Rattle.core_store.proofs.ChangeLaws.{Stands-change}
-use Rattle.core_store.proofs.MapLaws.{PutsAt}
-use Rattle.core_store.proofs.AnswerLaws.{not_true, IsHeldByNone}
-use Rattle.core_store.proofs.ShareLaws.{among-here, among-apart}
+use Rattle.plain_model.specs.Graphs.{applied}
+use Rattle.plain_model.specs.Machine.{State, register_id, with_write, with_owned, blocks_owning, transaction_of}
+use Rattle.plain_model.specs.History.{Moment, next, can_be_undone}
+use Rattle.strict_locks.specs.Locks.{Table, holders_of, StandsInWayOfOwn, Nobody, AddsOwner}
+use Rattle.log_record.specs.declared.cell_record.CellRecord.{CellRecord}
+use Rattle.log_record.specs.declared.cell_record.CellRecord.TheVariants as logs
+use Rattle.log_record.specs.Records.{FitsCells, LaysWell}
+use Rattle.store_model.specs.Cells.{Cell, cell_at, pointer_at, edit, pays, is_live}
+use Rattle.store_model.specs.Core.{slot_in, payload_in}
+use Rattle.store_model.proofs.CallLaws.{call-granted}
+use Rattle.store_model.proofs.CallCells.{store-call_cells, set-call_cells, old-cells, old_pay-cells}
+use Rattle.store_model.proofs.EndLaws.{transaction-active}
+use Rattle.store_model.proofs.CountLaws.{relinked-live}
+use Rattle.store_model.proofs.EditLaws.{edit-keeps}
+use Rattle.store_model.proofs.GrantLaws.{served, served_store}
+use Rattle.core_store.specs.declared.three.HeldFrame.{HeldFrame}
+use Rattle.core_store.specs.declared.slots.SlotChange.{SlotChange}
+use Rattle.core_store.specs.Changes.{stored_change, store_record, after_change, has_no_strong}
+use Rattle.core_store.specs.Frames.{Agree, IsSameElsewhere}
+use Rattle.core_store.specs.Logged.{stored_target}
+use Rattle.core_store.specs.Replaced.{replaced, before_write}
+use Rattle.core_store.specs.Transactions.{Running, writing}
+use Rattle.core_store.specs.Tables.{TablesView, changed_at}
+use Rattle.core_store.specs.Stands.{IsRunning, CanLay, Stands, Answers}
+use Rattle.core_store.proofs.LockChanges.{Locked-own}
+use Rattle.core_store.proofs.StepLaws.{Serves, logged-granted, after-granted, Stands-with}
+use Rattle.core_store.proofs.MapLaws.{puts-changed}
+use Rattle.core_store.proofs.LayLaws.{CanLay-later, only_item}
+use Rattle.core_store.proofs.ReplacedLaws.{replaced-push, replaced_by-undoable, length-replaced, count-push}
 
--- ---- a version that is rewritten
+-- a transaction of which nothing is undone, with one write more that can be undone, and what that replaced
+pub runs-writing : (slots : ℕ) (g : List Object) (kept : Running) (t u : ActiveTransaction) (undone : ℕ) (w x : Write) → IsRunning slots g kept t undone → undone ≡ 0 → can_be_undone w ≡ true → x ≡ before_write (applied slots g t.writes) w
+    → u.registers ≡ t.registers → u.aborting ≡ t.aborting → u.writes ≡ t.writes ++ w ∷ [] → IsRunning slots g (writing x kept) u undone
+runs-writing slots g kept t u undone w x runs none can is registers aborting writes =
+    let more = count-push t.writes w ∙ ap (λ b. count_by can_be_undone t.writes + cond b 1 0) can in
+    let old = runs.left in
+    let len = length_push kept.replaced x in
+    let count = ap (count_by can_be_undone) writes ∙ more in
+    let whole : kept.replaced ≡ replaced slots g t.writes =
+    runs.replaced ∙ (let l = length-replaced slots g t.writes in take_all (length kept.replaced) (replaced slots g t.writes) (omega (arith, l, old, none))) in
+    let next : kept.replaced ++ x ∷ [] ≡ replaced slots g u.writes =
+    ap (λ xs. xs ++ x ∷ []) whole ∙ (ap (λ (y : Write). replaced slots g t.writes ++ y ∷ []) is ∙ (ap (λ ys. replaced slots g t.writes ++ ys) (sym (replaced_by-undoable (applied slots g t.writes) w can)) ∙ (sym (replaced-push slots g t.writes w) ∙ ap (replaced slots g) (sym writes)))) in
+    record {
+      registers = runs.registers ∙ sym registers;
+      aborting = runs.aborting ∙ sym aborting;
+      left = omega (arith, len, old, count);
+      replaced = next ∙ sym (let l = length-replaced slots g u.writes in take_all (length (kept.replaced ++ x ∷ [])) (replaced slots g u.writes) (omega (arith, l, len, old, count, none)));
+    }
 
-pub rewritten-same : (id : ℕ) (c : Contents) (vs : List Version) → id < length vs → version_at (rewritten id c vs) id ≡ record { committed = (version_at vs id).committed; written = Some c }
-rewritten-same id c vs h = get_or-set_same vs id (record { committed = (version_at vs id).committed; written = Some c }) blank_version h
+-- what was replaced before can still be laid again, and so can what is replaced now
+lays-push : (slots : ℕ) (cells later : List Cell) (kept : Running) (x : Write) → ((y : ℕ) → is_live cells y ≡ true → is_live later y ≡ true) → ((w : Write) → Contains kept.replaced w → CanLay slots cells w) → CanLay slots cells x
+    → (w : Write) → Contains (kept.replaced ++ x ∷ []) w → CanLay slots later w
+lays-push slots cells later kept x alive old now w k = CanLay-later slots cells later alive w (by (Contains-append_cases kept.replaced (x ∷ []) w k))
+  where
+    by : Contains kept.replaced w ⊎ Contains (x ∷ []) w → CanLay slots cells w
+    by (inl c) = old w c
+    by (inr c) = subst (λ y. CanLay slots cells y) (only_item x w c) now
 
-pub rewritten-other : (id k : ℕ) (c : Contents) (vs : List Version) → k ≢ id → version_at (rewritten id c vs) k ≡ version_at vs k
-rewritten-other id k c vs n = get_or-set_other vs id k (record { committed = (version_at vs id).committed; written = Some c }) blank_version n
+module _ (slots : ℕ) (v : TablesView) (cells : List Cell) (m : Moment) (held new : List (HeldFrame slots)) (h : Stands slots v cells m) (locks : Table) (pass r n : ℕ) (kept : Running) (t : ActiveTransaction)
+    (adds : AddsOwner v.locks locks pass (register_id t r)) (nobody : Nobody (StandsInWayOfOwn (holders_of v.locks (register_id t r)) pass)) where
+  -- nothing of a transaction is undone that isn't being undone
+  none : transaction_of m.state pass ≡ Some t → t.aborting ≡ false → m.undone pass ≡ 0
+  none f a = h.sound.none_undone (pass, t) (transaction-active m.state h.sound.state pass t f) a
 
--- ---- a graph with one write more
+  pub answers-store : (slot : ℕ) (source : Option ℕ) (change : SlotChange) (marks : List Bool) → slot < slots → Serves slots v m pass (Store r slot source) kept t
+      → (let id = register_id t r in
+      let target = stored_target t source in
+      change ≡ stored_change cells id slot target → FitsCells cells (store_record pass id slot target change) → LaysWell cells (store_record pass id slot target change)
+      → Agree (after_change cells id slot target change) new → IsSameElsewhere cells (after_change cells id slot target change) held → marks ≡ map has_no_strong (after_change cells id slot target change)
+      → Answers slots (record v { zeros = marks; locks = locks; transactions = changed_at pass (writing (record { id = id; place = Slot slot; value = (pointer_at cells id slot).target })) v.transactions; owed = n }) cells m held new pass (Store r slot source) Done (Some (store_record pass id slot target change)))
+  answers-store slot source change marks within s is fits lays agree elsewhere marked =
+      let id = register_id t r in
+      let target = stored_target t source in
+      let w : Write = record { id = id; place = Slot slot; value = target } in
+      let x : Write = record { id = id; place = Slot slot; value = (pointer_at cells id slot).target } in
+      let u = with_write id (Slot slot) target (with_owned id t) in
+      let running = (served_store m.state t r source (blocks_owning m.state pass id) s.granted).0.running in
+      let old = old-cells cells m h.sound pass t s.found r slot source s.granted in
+      let seen : x ≡ before_write (applied slots m.state.committed t.writes) w =
+      ap (λ (k : ℕ). let y : Write = record { id = id; place = Slot slot; value = k } in y) (sym old ∙ ap (λ (k : ℕ). slot_in (applied k m.state.committed t.writes) id slot) h.slots_are) in
+      record {
+        machine = sym (ap (λ (y : Reply × State). y.0) (call-granted m.state pass t (Store r slot source) s.found s.granted));
+        record_is = ap (λ (c : SlotChange). Some (store_record pass id slot target c)) is ∙ sym (logged-granted m.state cells pass (Store r slot source) t s.found s.granted);
+        moves = record { fits = fits; lays = lays; agree = agree; elsewhere = elsewhere };
+        stands = Stands-with slots v (record v { zeros = marks; locks = locks; transactions = changed_at pass (writing x) v.transactions; owed = n }) cells (after_change cells id slot target change) m (next m (Call pass (Store r slot source) Done)) pass (writing x kept) u h refl refl marked
+            (puts-changed pass (writing x) kept v.transactions s.here)
+            (Locked-own slots v cells m h pass t u s.found locks id adds nobody refl refl)
+            (runs-writing slots m.state.committed kept t u (m.undone pass) w x s.runs (none s.found running) refl seen refl refl refl)
+            (after-granted m pass (Store r slot source) Done t s.found s.granted)
+            (λ q. refl)
+            (store-call_cells cells m h.sound pass t s.found r slot source change.old_target change.old_strong change.new_bit change.new_strong s.granted fits lays Done)
+            (λ y e. relinked-live cells id slot (record { target = target; bit = change.new_bit }) y ∙ e)
+            (lays-push slots cells (after_change cells id slot target change) kept x (λ y e. relinked-live cells id slot (record { target = target; bit = change.new_bit }) y ∙ e) (h.restorable pass kept s.here) (fits.0.live, (within, λ d. h.sound.consistent.exact.closed id slot fits.0.live d)));
+      }
 
-pub own-more : (s z : State) (t u : ActiveTransaction) (x : Write) → z.slots ≡ s.slots → z.committed ≡ s.committed → u.writes ≡ t.writes ++ x ∷ [] → own_graph z u ≡ graph_after_write s.slots (own_graph s t) x
-own-more s z t u x a b e = ap₂ (λ (n : ℕ) (g : List Object). applied n g u.writes) a b ∙ (ap (λ ws. applied s.slots s.committed ws) e ∙ fold-append (graph_after_write s.slots) s.committed t.writes (x ∷ []))
-
-pub after-other : (slots : ℕ) (g : List Object) (x : Write) (k : ℕ) → (x.id == k) ≡ false → object_at (graph_after_write slots g x) k ≡ object_at g k
-after-other slots g x k n = object_at-after_writes slots g (x ∷ []) k ∙ writes_at-other slots k (object_at g k) (x ∷ []) (n, tt)
-
-nobody_owns : (o : Option ActiveTransaction) (id : ℕ) → ((y : ActiveTransaction) → o ≡ Some y → holds id y ≡ false) → owns_in o id ≡ false
-nobody_owns None id h = refl
-nobody_owns (Some y) id h = not_true (is_among id y.owned) (λ e. contradict (holds id y) (owner-holds id y e) (h y refl))
-
-module _ (v w : TablesView) (s z : State) (undone : ℕ → ℕ) (pass id : ℕ) (next : Contents) (kept : Running) (t u : ActiveTransaction) (x : Write) (h : Stands v s undone) (p : IsProper s)
-    (found : transaction_of s pass ≡ Some t) (same_ids : w.ids ≡ v.ids) (versions : w.versions ≡ rewritten id next v.versions) (adds : AddsOwner v.locks w.locks pass id) (alone : IsHeldByNone s pass id)
-    (puts : PutsAt v.transactions w.transactions pass kept) (runs : IsRunning kept u (undone pass))
-    (z_ids : z.ids ≡ s.ids) (z_slots : z.slots ≡ s.slots) (z_committed : z.committed ≡ s.committed) (z_here : transaction_of z pass ≡ Some u) (z_others : (q : ℕ) → q ≢ pass → transaction_of z q ≡ transaction_of s q)
-    (writes : u.writes ≡ t.writes ++ x ∷ []) (x_id : x.id ≡ id) (owned : u.owned ≡ with_id id t.owned) (shared : u.shared ≡ t.shared) (within : id ≤ v.ids)
-    (object : object_at (graph_after_write s.slots (own_graph s t) x) id ≡ Some (object_of id next)) (free : (k : ℕ) → list_any (is_at (nat_cmp k)) w.free ≡ is_free z k) where
-  inside : id < length v.versions
-  inside = let e = h.sized in omega arith
-
-  here : version_at w.versions id ≡ record { committed = (version_at v.versions id).committed; written = Some next }
-  here = ap (λ vs. version_at vs id) versions ∙ rewritten-same id next v.versions inside
-
-  apart : (k : ℕ) → k ≢ id → version_at w.versions k ≡ version_at v.versions k
-  apart k n = ap (λ vs. version_at vs k) versions ∙ rewritten-other id k next v.versions n
-
-  owner : (k : ℕ) → is_owner (holders_of w.locks k) pass ≡ is_among k u.owned
-  owner k =
-      ⊎_elim
-      (λ (e : k ≡ id). subst (λ y. is_owner (holders_of w.locks y) pass ≡ true) (sym e) (adds.owner pass ∙ test_same pass) ∙ (sym (among-here k id t.owned e) ∙ ap (is_among k) (sym owned)))
-      (λ (n : k ≢ id). adds.other_owners k pass n ∙ (h.owners k pass ∙ (ap (λ o. owns_in o k) found ∙ (sym (among-apart k id t.owned n) ∙ ap (is_among k) (sym owned)))))
-      (same_or_apart k id)
-
-  other_owners : (k q : ℕ) → q ≢ pass → is_owner (holders_of w.locks k) q ≡ is_owner (holders_of v.locks k) q
-  other_owners k q n =
-      ⊎_elim
-      (λ (e : k ≡ id). subst (λ y. is_owner (holders_of w.locks y) q ≡ is_owner (holders_of v.locks y) q) (sym e) (adds.owner q ∙ (ne_eqb q pass n ∙ sym (h.owners id q ∙ nobody_owns (transaction_of s q) id (λ y f. alone q y f n)))))
-      (λ (m : k ≢ id). adds.other_owners k q m)
-      (same_or_apart k id)
-
-  pub Stands-write : Stands w z undone
-  Stands-write = Stands-change v w s z undone undone pass kept u h (record {
-    same_ids = same_ids;
-    state_ids = z_ids;
-    state_slots = z_slots;
-    sized = ap (λ (vs : List Version). length vs) versions ∙ length-set v.versions id (record { committed = (version_at v.versions id).committed; written = Some next });
-    here = puts.here;
-    others = puts.others;
-    state_here = z_here;
-    state_others = z_others;
-    undone_others = λ q n. refl;
-    runs = runs;
-    owner = owner;
-    other_owners = other_owners;
-    sharer = λ k. adds.sharers k pass ∙ (h.sharers k pass ∙ (ap (λ o. shares_in o k) found ∙ ap (is_among k) (sym shared)));
-    other_sharers = λ k q n. adds.sharers k q;
-    graph = z_committed;
-    versions = λ k.
-        ⊎_elim
-        (λ (e : k ≡ id). subst (λ y. (version_at w.versions y).committed ≡ (version_at v.versions y).committed) (sym e) (ap (λ (y : Version). y.committed) here))
-        (λ (n : k ≢ id). ap (λ (y : Version). y.committed) (apart k n))
-        (same_or_apart k id);
-    written = λ k m.
-        ⊎_elim
-        (λ (e : k ≡ id). subst (λ y. IsWrittenBy w z y u) (sym e) (record {
-          contents = next;
-          here = ap (λ (y : Version). y.written) here;
-          object = ap (λ g. object_at g id) (own-more s z t u x z_slots z_committed writes) ∙ object;
-        }))
-        (λ (n : k ≢ id).
-        let other : (x.id == k) ≡ false = ne_eqb x.id k (λ e. n (sym e ∙ x_id)) in
-        let old : writes_to k t ≡ true = ⊎_elim (λ a. a) (λ a. contradict (x.id == k) a other) (any-push_cases (λ (y : Write). y.id == k) t.writes x (subst (λ ws. list_any (λ (y : Write). y.id == k) ws ≡ true) writes m)) in
-        let i = h.written pass k t found old in
-        let r : IsWrittenBy w z k u = record {
-          contents = i.contents;
-          here = ap (λ (y : Version). y.written) (apart k n) ∙ i.here;
-          object = ap (λ g. object_at g k) (own-more s z t u x z_slots z_committed writes) ∙ (after-other s.slots (own_graph s t) x k other ∙ i.object);
-        } in
-        r)
-        (same_or_apart k id);
-    untouched = λ q k y n f m.
-        ⊎_elim
-        (λ (e : k ≡ id). contradict (holds id y) (owner-holds id y (writer-owns s q id y p.sound f (subst (λ a. writes_to a y ≡ true) e m))) (alone q y f n))
-        (λ (a : k ≢ id). ap (λ (y : Version). y.written) (apart k a))
-        (same_or_apart k id);
-    writer = λ k c e.
-        ⊎_elim
-        (λ (a : k ≡ id). inl (subst (λ ws. list_any (λ (y : Write). y.id == k) ws ≡ true) (sym writes) (any-push_here (λ (y : Write). y.id == k) t.writes x (subst (λ b. (x.id == b) ≡ true) (x_id ∙ sym a) (test_same x.id)))))
-        (λ (n : k ≢ id). inr (ap (λ (y : Version). y.written) (sym (apart k n)) ∙ e))
-        (same_or_apart k id);
-    more = λ y f k m.
-        let same = some_same (transaction_of s pass) y t found f in
-        subst (λ ws. list_any (λ (y : Write). y.id == k) ws ≡ true) (sym writes) (any-push_more (λ (y : Write). y.id == k) t.writes x (subst (λ (a : ActiveTransaction). writes_to k a ≡ true) same m));
-    free = free;
-  })
+  pub answers-set : (value : ℕ) → Serves slots v m pass (SetPay r value) kept t
+      → (let id = register_id t r in
+      let old = (cell_at cells id).payload in
+      is_live cells id ≡ true → Agree (edit cells id (pays value)) new → IsSameElsewhere cells (edit cells id (pays value)) held → v.zeros ≡ map has_no_strong (edit cells id (pays value))
+      → Answers slots (record v { locks = locks; transactions = changed_at pass (writing (record { id = id; place = Payload; value = old })) v.transactions; owed = n }) cells m held new pass (SetPay r value) Done (Some (logs.Pay pass id old value)))
+  answers-set value s live agree elsewhere marked =
+      let id = register_id t r in
+      let old = (cell_at cells id).payload in
+      let w : Write = record { id = id; place = Payload; value = value } in
+      let x : Write = record { id = id; place = Payload; value = old } in
+      let u = with_write id Payload value (with_owned id t) in
+      let running = (served m.state t r (blocks_owning m.state pass id) s.granted).running in
+      let was = old_pay-cells cells m h.sound pass t s.found r value s.granted in
+      let seen : x ≡ before_write (applied slots m.state.committed t.writes) w =
+      ap (λ (k : ℕ). let y : Write = record { id = id; place = Payload; value = k } in y) (sym was ∙ ap (λ (k : ℕ). payload_in (applied k m.state.committed t.writes) id) h.slots_are) in
+      record {
+        machine = sym (ap (λ (y : Reply × State). y.0) (call-granted m.state pass t (SetPay r value) s.found s.granted));
+        record_is = sym (logged-granted m.state cells pass (SetPay r value) t s.found s.granted);
+        moves = record { fits = (live, refl); lays = tt; agree = agree; elsewhere = elsewhere };
+        stands = Stands-with slots v (record v { locks = locks; transactions = changed_at pass (writing x) v.transactions; owed = n }) cells (edit cells id (pays value)) m (next m (Call pass (SetPay r value) Done)) pass (writing x kept) u h refl refl marked
+            (puts-changed pass (writing x) kept v.transactions s.here)
+            (Locked-own slots v cells m h pass t u s.found locks id adds nobody refl refl)
+            (runs-writing slots m.state.committed kept t u (m.undone pass) w x s.runs (none s.found running) refl seen refl refl refl)
+            (after-granted m pass (SetPay r value) Done t s.found s.granted)
+            (λ q. refl)
+            (set-call_cells cells m h.sound pass t s.found r value old s.granted (live, refl) Done)
+            (λ y e. edit-keeps (λ (c : Cell). c.live) cells id y (pays value) (λ c. refl) ∙ e)
+            (lays-push slots cells (edit cells id (pays value)) kept x (λ y e. edit-keeps (λ (c : Cell). c.live) cells id y (pays value) (λ c. refl) ∙ e) (h.restorable pass kept s.here) (live, tt));
+      }

@@ -1,95 +1,131 @@
--- How what a journal keeps stands for a state of the reference machine.
-use Rattle.std.specs.Prelude.{◌≡◌, ℕ, ◌+◌, ◌<◌, if◌then◌else◌, Bool, true, false, not, ◌==◌, ◌&&◌, nat_lt, nat_le, length, count_by, Option, Some, None}
+-- How what a journal keeps, and the cells in its pages, stand for a moment of the reference machine.
+use Rattle.std.specs.Prelude.{◌≡◌, ◌≢◌, ℕ, ◌+◌, ◌<◌, ◌≤◌, if◌then◌else◌, Bool, true, false, not, ◌==◌, ◌&&◌, nat_lt, nat_le, List, length, take, map, count_by, Contains, Option, Some, None, IfSome, option_map}
 use Rattle.std.specs.List.{list_any}
 use Rattle.std.specs.Option.{option_map_or}
 use Rattle.std.specs.Ordering.{nat_cmp}
 use Rattle.std.specs.BTreeMap.{is_at}
 use Rattle.plain_model.specs.declared.object.Object.{Object}
+use Rattle.plain_model.specs.declared.write.Place.{Place}
+use Rattle.plain_model.specs.declared.write.Place.TheVariants.{Slot, Payload, Whole}
+use Rattle.plain_model.specs.declared.write.Write.{Write}
 use Rattle.plain_model.specs.declared.calls.Call.{Call as TransactionCall}
 use Rattle.plain_model.specs.declared.calls.Reply.{Reply}
-use Rattle.plain_model.specs.Graphs.{object_at}
+use Rattle.plain_model.specs.declared.calls.Entry.{Entry}
+use Rattle.plain_model.specs.declared.calls.Entry.TheVariants.{Call, Undo}
 use Rattle.plain_model.specs.ActiveTransaction.{ActiveTransaction}
-use Rattle.plain_model.specs.Machine.{State, step, transaction_of, own_graph, is_among, is_stored}
-use Rattle.plain_model.specs.History.{can_be_undone, undoable, undone_after, after_undo, IsId}
+use Rattle.plain_model.specs.Machine.{State, step, transaction_of, is_among, is_stored}
+use Rattle.plain_model.specs.History.{Moment, can_be_undone, undoable, left_to_undo, next}
 use Rattle.plain_model.specs.declared.calls.Call.TheVariants.{Abort}
 use Rattle.plain_model.specs.declared.calls.Reply.TheVariants.{Done}
-use Rattle.plain_laws.specs.Sound.{IsSoundState}
 use Rattle.strict_locks.specs.Locks.{holders_of, is_owner, is_sharer}
-use Rattle.core_store.specs.declared.contents.Contents.{Contents}
-use Rattle.core_store.specs.Versions.{version_at, object_of}
+use Rattle.cell_page.specs.Format.{IsSlotCount}
+use Rattle.store_model.specs.Cells.{Cell, is_live}
+use Rattle.store_model.specs.SoundCells.{IsSoundCells}
+use Rattle.log_record.specs.declared.cell_record.CellRecord.{CellRecord}
+use Rattle.log_record.specs.declared.cell_record.CellRecord.TheVariants.{AbortEnd}
+use Rattle.log_record.specs.Records.{after_cell_record, FitsCells, LaysWell}
+use Rattle.core_store.specs.declared.three.HeldFrame.{HeldFrame}
+use Rattle.core_store.specs.Frames.{Agree, IsSameElsewhere, pages_held}
+use Rattle.core_store.specs.Changes.{has_no_strong}
+use Rattle.core_store.specs.Replaced.{replaced, next_to_restore}
+use Rattle.core_store.specs.Logged.{logged_by, logged_by_undo, after_logged}
 use Rattle.core_store.specs.Transactions.{Running, running_at}
 use Rattle.core_store.specs.Tables.{TablesView}
 
--- what is kept of a transaction of the machine, so many of whose writes are undone
-pub record IsRunning (kept : Running) (t : ActiveTransaction) (undone : ℕ) : Type 0 where
+-- ---- one transaction
+
+-- what is kept of a transaction of the machine, so many of whose writes are undone; it runs over this committed graph
+pub record IsRunning (slots : ℕ) (g : List Object) (kept : Running) (t : ActiveTransaction) (undone : ℕ) : Type 0 where
   pub registers : kept.registers ≡ t.registers
   pub aborting : kept.aborting ≡ t.aborting
-  pub left : kept.left + undone ≡ count_by can_be_undone t.writes
+  pub left : length kept.replaced + undone ≡ count_by can_be_undone t.writes
+  pub replaced : kept.replaced ≡ take (length kept.replaced) (replaced slots g t.writes)
 
 -- a client has a transaction in both, or in neither
-abbrev pub Matches : Option Running → Option ActiveTransaction → ℕ → Type 0
-Matches None None undone = Unit {0}
-Matches (Some kept) (Some t) undone = IsRunning kept t undone
-Matches _ _ undone = ⊥
+abbrev pub Matches : ℕ → List Object → Option Running → Option ActiveTransaction → ℕ → Type 0
+Matches slots g None None undone = Unit {0}
+Matches slots g (Some kept) (Some t) undone = IsRunning slots g kept t undone
+Matches slots g _ _ undone = ⊥
 
--- the transaction owns the object, shares it, has written to it
+-- the transaction owns the object, shares it
 abbrev pub owns_in : Option ActiveTransaction → ℕ → Bool
 owns_in found id = option_map_or (λ t. is_among id t.owned) found false
 
 abbrev pub shares_in : Option ActiveTransaction → ℕ → Bool
 shares_in found id = option_map_or (λ t. is_among id t.shared) found false
 
-abbrev pub writes_to : ℕ → ActiveTransaction → Bool
-writes_to id t = list_any (λ w. w.id == id) t.writes
-
 -- an id of the store that isn't stored
 abbrev pub is_free : State → ℕ → Bool
 is_free s id = nat_lt 0 id && nat_le id s.ids && not (is_stored s.stored id)
 
--- the uncommitted contents of the object are those that the transaction sees
-pub record IsWrittenBy (v : TablesView) (s : State) (id : ℕ) (t : ActiveTransaction) : Type 0 where
-  pub contents : Contents
-  pub here : (version_at v.versions id).written ≡ Some contents
-  pub object : object_at (own_graph s t) id ≡ Some (object_of id contents)
+-- what a write replaced can be laid again: its object is live, its slot is there, and what it names is live
+abbrev pub CanLay : ℕ → List Cell → Write → Type 0
+CanLay slots cells w = (is_live cells w.id ≡ true) × by w.place w.value
+  where
+    by : Place → ℕ → Type 0
+    by (Slot slot) value = (slot < slots) × (value ≢ 0 → is_live cells value ≡ true)
+    by Payload value = Unit {0}
+    by Whole value = ⊥
 
--- some active transaction has written to the object
-pub record HasWriter (s : State) (id : ℕ) : Type 0 where
-  pub pass : ℕ
-  pub transaction : ActiveTransaction
-  pub found : transaction_of s pass ≡ Some transaction
-  pub writes : writes_to id transaction ≡ true
+-- ---- all together
 
--- the tables stand for the state, in which so many writes of each client are undone
-pub record Stands (v : TablesView) (s : State) (undone : ℕ → ℕ) : Type 0 where
-  pub ids : s.ids ≡ v.ids
-  pub slots : s.slots ≡ 6
-  pub sized : length v.versions ≡ v.ids + 1
-  pub running : (pass : ℕ) → Matches (running_at v.transactions pass) (transaction_of s pass) (undone pass)
-  pub owners : (id pass : ℕ) → is_owner (holders_of v.locks id) pass ≡ owns_in (transaction_of s pass) id
-  pub sharers : (id pass : ℕ) → is_sharer (holders_of v.locks id) pass ≡ shares_in (transaction_of s pass) id
-  pub free : (id : ℕ) → list_any (is_at (nat_cmp id)) v.free ≡ is_free s id
-  pub committed : (id : ℕ) (o : Object) → object_at s.committed id ≡ Some o → o ≡ object_of id (version_at v.versions id).committed
-  pub written : (pass id : ℕ) (t : ActiveTransaction) → transaction_of s pass ≡ Some t → writes_to id t ≡ true → IsWrittenBy v s id t
-  pub writer : (id : ℕ) (c : Contents) → (version_at v.versions id).written ≡ Some c → HasWriter s id
+-- how many ids a store has at most
+abbrev pub most_ids : ℕ
+most_ids = 8192
 
--- a state of a legal history: sound, and with ids of the store
-pub record IsProper (s : State) : Type 0 where
-  pub sound : IsSoundState s
-  pub ids : (id : ℕ) → is_stored s.stored id ≡ true → IsId s.ids id
+-- the tables and the cells stand for the moment, in a store whose objects have so many slots
+pub record Stands (slots : ℕ) (v : TablesView) (cells : List Cell) (m : Moment) : Type 0 where
+  pub ids : m.state.ids ≡ v.ids
+  pub few : v.ids ≤ most_ids
+  pub slots_are : m.state.slots ≡ slots
+  pub counted : IsSlotCount slots
+  -- counts are exact, strong pointers form no cycle, and each cell has what the committed graph with all writes not undone gives it
+  pub sound : IsSoundCells cells m
+  pub running : (pass : ℕ) → Matches slots m.state.committed (running_at v.transactions pass) (transaction_of m.state pass) (m.undone pass)
+  pub restorable : (pass : ℕ) (kept : Running) → running_at v.transactions pass ≡ Some kept → (w : Write) → Contains kept.replaced w → CanLay slots cells w
+  pub owners : (id pass : ℕ) → is_owner (holders_of v.locks id) pass ≡ owns_in (transaction_of m.state pass) id
+  pub sharers : (id pass : ℕ) → is_sharer (holders_of v.locks id) pass ≡ shares_in (transaction_of m.state pass) id
+  pub free : (id : ℕ) → list_any (is_at (nat_cmp id)) v.free ≡ is_free m.state id
+  -- the marks are those of the cells
+  pub zeros : v.zeros ≡ map has_no_strong cells
 
--- the reply is the machine's, and the new tables stand for its next state
-pub record Answers (w : TablesView) (s : State) (undone : ℕ → ℕ) (pass : ℕ) (call : TransactionCall) (reply : Reply) : Type 0 where
-  pub machine : reply ≡ (step s pass call).0
-  pub stands : Stands w (step s pass call).1 (undone_after undone pass call reply)
+-- ---- events
 
--- whatever state the tables stand for, the call is done as the machine does it
-abbrev pub Performs : TablesView → TablesView → ℕ → TransactionCall → Reply → Type 0
-Performs v w pass call reply = (s : State) (undone : ℕ → ℕ) → Stands v s undone → IsProper s → Answers w s undone pass call reply
+-- from cells with these held pages to the cells after what was logged
+pub record Moves (slots : ℕ) (cells : List Cell) (held new : List (HeldFrame slots)) (logged : Option CellRecord) : Type 0 where
+  -- the record fits the cells, and a strong pointer that it lays closes no cycle
+  pub fits : IfSome logged (FitsCells cells)
+  pub lays : IfSome logged (LaysWell cells)
+  -- the held pages are those of the cells after it, and all others stay
+  pub agree : Agree (after_logged slots cells logged) new
+  pub elsewhere : IsSameElsewhere cells (after_logged slots cells logged) held
 
--- whatever state the tables stand for, one write of the client is undone
-abbrev pub UndoesOne : TablesView → TablesView → ℕ → Type 0
-UndoesOne v w pass = (s : State) (undone : ℕ → ℕ) → Stands v s undone → IsProper s → (undone pass < undoable s pass) × Stands w (after_undo s pass) (λ p. if p == pass then undone p + 1 else undone p)
+-- the reply and the record are those of the call, and the new tables stand for the machine's next moment
+pub record Answers (slots : ℕ) (w : TablesView) (cells : List Cell) (m : Moment) (held new : List (HeldFrame slots)) (pass : ℕ) (call : TransactionCall) (reply : Reply) (logged : Option CellRecord) : Type 0 where
+  pub machine : reply ≡ (step m.state pass call).0
+  pub record_is : logged ≡ logged_by m.state cells pass call
+  pub moves : Moves slots cells held new logged
+  pub stands : Stands slots w (after_logged slots cells logged) (next m (Call pass call reply))
 
--- whatever state the tables stand for, all writes of the client are undone, and its abort is done
-abbrev pub EndsAbort : TablesView → TablesView → ℕ → Type 0
-EndsAbort v w pass = (s : State) (undone : ℕ → ℕ) → Stands v s undone → IsProper s → (undone pass ≡ undoable s pass) × Answers w s undone pass Abort Done
+-- whatever the tables and the held pages stand for, the call is done as the machine does it
+abbrev pub Performs : (slots : ℕ) → TablesView → TablesView → List (HeldFrame slots) → List (HeldFrame slots) → ℕ → TransactionCall → Reply → Option CellRecord → Type 0
+Performs slots v w held new pass call reply logged = (cells : List Cell) (m : Moment) → Stands slots v cells m → Agree cells held → Answers slots w cells m held new pass call reply logged
+
+-- one write of the client is undone, with this record
+pub record Undoes (slots : ℕ) (w : TablesView) (cells : List Cell) (m : Moment) (held new : List (HeldFrame slots)) (pass : ℕ) (logged : CellRecord) : Type 0 where
+  pub some_left : 0 < left_to_undo m pass
+  pub record_is : Some logged ≡ option_map (logged_by_undo cells pass) (next_to_restore m pass)
+  pub moves : Moves slots cells held new (Some logged)
+  pub stands : Stands slots w (after_cell_record slots cells logged) (next m (Undo pass))
+
+abbrev pub UndoesOne : (slots : ℕ) → TablesView → TablesView → List (HeldFrame slots) → List (HeldFrame slots) → ℕ → CellRecord → Type 0
+UndoesOne slots v w held new pass logged = (cells : List Cell) (m : Moment) → Stands slots v cells m → Agree cells held → Undoes slots w cells m held new pass logged
+
+-- all writes of the client are undone, and its transaction has ended
+pub record Ended (slots : ℕ) (w : TablesView) (cells : List Cell) (m : Moment) (pass : ℕ) : Type 0 where
+  pub all_undone : m.undone pass ≡ undoable m.state pass
+  pub machine : Done ≡ (step m.state pass Abort).0
+  pub stands : Stands slots w cells (next m (Call pass Abort Done))
+
+abbrev pub EndsAbort : ℕ → TablesView → TablesView → ℕ → Type 0
+EndsAbort slots v w pass = (cells : List Cell) (m : Moment) → Stands slots v cells m → Ended slots w cells m pass

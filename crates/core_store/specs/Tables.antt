@@ -1,20 +1,19 @@
--- What a journal keeps beside its history: the objects, the free ids, the locks and the transactions.
-use Rattle.std.specs.Prelude.{ℕ, ◌+◌, List, sum_by}
+-- What a journal keeps beside its history: the free ids, the marks, the locks and the transactions.
+use Rattle.std.specs.Prelude.{ℕ, ◌+◌, Bool, List, length, sum_by}
 use Rattle.std.specs.Option.{option_map_or}
 use Rattle.std.specs.Map.{set_value, values_of}
 use Rattle.std.specs.Ordering.{nat_cmp}
 use Rattle.std.specs.BTreeMap.{is_at}
-use Rattle.core_store.specs.declared.contents.Version.{Version}
 use Rattle.strict_locks.specs.Locks.{Table}
 use Rattle.core_store.specs.Transactions.{Running, running_at}
 
 pub record TablesView : Type 0 where
   -- the store has the ids from 1 to `ids`
   pub ids : ℕ
-  -- the version of each id, at its index
-  pub versions : List Version
   -- the ids that aren't stored, ascending
   pub free : List ℕ
+  -- for each id, at its index, whether no strong pointer leads to its cell
+  pub zeros : List Bool
   pub locks : Table
   -- the active clients, ascending, each with its transaction
   pub transactions : List (ℕ × Running)
@@ -23,7 +22,7 @@ pub record TablesView : Type 0 where
 
 -- a transaction owes an entry for its end, and one for each write that can be undone and isn't
 abbrev pub owed_by : List (ℕ × Running) → ℕ
-owed_by transactions = sum_by (λ t. t.left + 1) (values_of transactions)
+owed_by transactions = sum_by (λ t. length t.replaced + 1) (values_of transactions)
 
 -- the transactions where that of the client is changed so
 abbrev pub changed_at : ℕ → (Running → Running) → List (ℕ × Running) → List (ℕ × Running)

@@ -1,33 +1,31 @@
-//! Locks, as calls ask for them.
-ghost use Rattle.std.specs.Prelude.{◌≡◌, ℕ, OnErr, Ok, Some, None};
-ghost use Rattle.strict_locks.specs.Locks.{holders_of, AddsShare, AddsOwner, StandsInWayOfShare, StandsInWayOfOwn, Nobody, IsLeast};
+//! Locks that nobody stands in the way of.
+ghost use Rattle.std.specs.Prelude.{◌≡◌, OnErr, OnOk};
+ghost use Rattle.strict_locks.specs.Locks.{holders_of, AddsShare, AddsOwner, StandsInWayOfShare, StandsInWayOfOwn, Nobody};
 
 use plain_model::Memory;
 use std::alloc::AllocError;
 use strict_locks::{LockRefusal, LockTable};
 
-/// Lets the client share the object, or names the least client in the way.
-pub(crate) fn share(locks: &mut LockTable, pass: u8, id: u32) -> Result<Option<u8>, Memory>
-    ensures granted { result ≡ Ok None → AddsShare locks.old locks.new pass id × Nobody (StandsInWayOfShare (holders_of locks.old id) pass) }
-    ensures busy { (p : ℕ) → result ≡ Ok (Some p) → (locks.new ≡ locks.old) × IsLeast (StandsInWayOfShare (holders_of locks.old id) pass) p }
+/// Lets the client share the object, which no other client owns.
+pub(crate) fn share(locks: &mut LockTable, pass: u8, id: u32) -> Result<(), Memory>
+    requires { Nobody (StandsInWayOfShare (holders_of locks.old id) pass) }
+    ensures ok { OnOk result (AddsShare locks.old locks.new pass id) }
     ensures err { OnErr result (locks.new ≡ locks.old) }
 {
     match locks.share(pass, id) {
-        Ok(()) => Ok(None),
-        Err(LockRefusal::Busy { pass }) => Ok(Some(pass)),
-        Err(LockRefusal::Memory) => Err(AllocError),
+        Ok(()) => Ok(()),
+        Err(LockRefusal::Memory | LockRefusal::Busy { .. }) => Err(AllocError),
     }
 }
 
-/// Lets the client own the object, or names the least client in the way.
-pub(crate) fn own(locks: &mut LockTable, pass: u8, id: u32) -> Result<Option<u8>, Memory>
-    ensures granted { result ≡ Ok None → AddsOwner locks.old locks.new pass id × Nobody (StandsInWayOfOwn (holders_of locks.old id) pass) }
-    ensures busy { (p : ℕ) → result ≡ Ok (Some p) → (locks.new ≡ locks.old) × IsLeast (StandsInWayOfOwn (holders_of locks.old id) pass) p }
+/// Lets the client own the object, which no other client holds.
+pub(crate) fn own(locks: &mut LockTable, pass: u8, id: u32) -> Result<(), Memory>
+    requires { Nobody (StandsInWayOfOwn (holders_of locks.old id) pass) }
+    ensures ok { OnOk result (AddsOwner locks.old locks.new pass id) }
     ensures err { OnErr result (locks.new ≡ locks.old) }
 {
     match locks.own(pass, id) {
-        Ok(()) => Ok(None),
-        Err(LockRefusal::Busy { pass }) => Ok(Some(pass)),
-        Err(LockRefusal::Memory) => Err(AllocError),
+        Ok(()) => Ok(()),
+        Err(LockRefusal::Memory | LockRefusal::Busy { .. }) => Err(AllocError),
     }
 }

@@ -1,28 +1,59 @@
-//! What a journal keeps beside its history: the objects, the free ids, the locks and the transactions.
-ghost use Rattle.std.specs.Prelude.{◌≡◌, ℕ, ◌+◌, ◌^◌, ◌<◌, ◌≤◌, IfOk, OnErr, OnOk, IfSome, IsSome, is_some, Some, None, Ok, if◌then◌else◌, ◌==◌};
+//! What a journal keeps beside its history: the free ids, the marks, the locks and the transactions.
+ghost use Rattle.std.specs.Prelude.{◌≡◌, ℕ, ◌+◌, ◌^◌, ◌<◌, ◌≤◌, List, IfOk, OnErr, OnOk, IfSome, IsSome, is_some, Some, None, if◌then◌else◌, ◌==◌};
+ghost use Rattle.plain_model.specs.Graphs.{FitsPlace};
+ghost use Rattle.plain_model.specs.Machine.{IsInRange};
+ghost use Rattle.plain_model.specs.History.{Moment};
+ghost use Rattle.strict_locks.specs.Locks.{holders_of, StandsInWayOfOwn, Nobody};
+ghost use Rattle.cell_page.specs.Format.{IsSlotCount};
+ghost use Rattle.store_model.specs.Cells.{Cell as StoredCell};
+ghost use Rattle.core_store.specs.declared.three.HeldFrame.{HeldFrame};
 ghost use Rattle.core_store.specs.Tables.{owed_by};
 ghost use Rattle.core_store.specs.Transactions.{running_at};
+ghost use Rattle.core_store.specs.Frames.{Agree, IsNext, pages_held};
+ghost use Rattle.core_store.specs.Logged.{want_of, pages_for, pages_for_undo};
+ghost use Rattle.core_store.specs.Replaced.{next_to_restore};
+ghost use Rattle.core_store.specs.Work.{work_of, work_of_undo};
 
 use crate::abort_step::AbortStep;
-use crate::contents::{self, Contents, Version};
+use crate::plan::Plan;
+use crate::three::Three;
 use crate::transaction::Transaction;
 use crate::transactions::{self, Transactions};
-use crate::{free_ids, locks};
-use plain_model::{Call, Memory, Reply};
+use crate::want::{Want, Work, wanted};
+use crate::{free_ids, locks, slots};
+use cell_page::Cell;
+use log_record::{CellRecord, PAYLOAD_PLACE};
+use plain_model::{Call, Memory, Place, Reply, Write};
 use std::alloc::Global;
 use std::collections::{BTreeMap, BTreeSet};
 use strict_locks::LockTable;
 
-/// The objects, the free ids, the locks and the transactions.
+/// The free ids, the marks, the locks and the transactions.
 #[derive(Debug, Drop)]
 pub(crate) struct Tables {
+    alloc: Global,
     ids: u32,
-    versions: Vec<Version>,
-    free: BTreeSet<u32>,
-    locks: LockTable,
-    transactions: Transactions,
+    pub(crate) free: BTreeSet<u32>,
+    /// For each id, at its index, whether no strong pointer leads to its cell.
+    zeros: Vec<bool>,
+    pub(crate) locks: LockTable,
+    pub(crate) transactions: Transactions,
     owed: usize,
     ghost owes: { owed ≡ owed_by transactions.entries },
+}
+
+/// What a call is answered, and what it logs.
+#[derive(Clone, Copy)]
+pub(crate) struct Outcome {
+    pub(crate) reply: Reply,
+    pub(crate) logged: Option<CellRecord>,
+}
+
+/// What an abort step did, and what it logs.
+#[derive(Clone, Copy)]
+pub(crate) struct AbortOutcome {
+    pub(crate) step: AbortStep,
+    pub(crate) logged: CellRecord,
 }
 
 /// What a register holds after a read: 0 empties it.
@@ -34,10 +65,11 @@ fn nonzero(id: u32) -> Option<u32>
 
 impl Tables {
     ghost use Rattle.core_store.specs.Views.{view_of};
-    ghost use Rattle.core_store.specs.Stands.{Performs, UndoesOne, EndsAbort};
-    ghost use Rattle.core_store.specs.Steps.{after_write, Ends, IsFreshOf};
+    ghost use Rattle.core_store.specs.Stands.{Stands, Performs, UndoesOne, EndsAbort};
+    ghost use Rattle.core_store.specs.Plans.{IsGranted};
+    ghost use Rattle.core_store.specs.Steps.{Ends, IsFreshOf};
     ghost use Rattle.core_store.specs.FreeIds.{taken};
-    ghost use Rattle.plain_model.specs.Machine.{IsInRange};
+    ghost use Rattle.core_store.specs.Ready.{IsReady, IsReadyToCall, IsReadyToUndo, IsReadyToRestore, Restores, IsNoted, Does, IsStanding};
 
     /// How many history entries the active transactions owe.
     pub(crate) fn owed(&self) -> usize
@@ -46,148 +78,186 @@ impl Tables {
         self.owed
     }
 
-    fn begin(&mut self, pass: u8) -> Result<Reply, Memory>
-        requires { self.old.owed + 1 < 2 ^ 64 }
-        ensures ok { IfOk result (Performs (view_of self.old) (view_of self.new) pass Call.Begin) }
+    fn begin(&mut self, pass: u8) -> Result<Outcome, Memory>
+        requires room { self.old.owed + 1 < 2 ^ 64 }
+        requires none { running_at self.old.transactions.entries pass ≡ None }
+        ensures ok { IfOk result (λ o. (slots : ℕ) (held : List (HeldFrame slots)) → Does (view_of self.old) (view_of self.new) held held pass Plan.Begin o) }
         ensures owed { self.new.owed ≤ self.old.owed + 1 }
         ensures err { OnErr result (view_of self.new ≡ view_of self.old) }
     {
-        if self.transactions.contains_key(&pass) {
-            return Ok(Reply::HasTxn);
-        }
-        self.transactions.insert(pass, Transaction::new())?;
+        self.transactions
+            .insert(pass, Transaction::new(self.alloc))?;
         self.owed += 1;
-        Ok(Reply::Done)
+        Ok(Outcome {
+            reply: Reply::Done,
+            logged: Some(CellRecord::Begin { pass }),
+        })
     }
 
-    fn read(&mut self, pass: u8, r: u8, slot: u8, into: u8) -> Result<Reply, Memory>
-        requires register { r < 8 }
-        requires slot { slot < 6 }
-        requires into { into < 8 }
-        ensures ok { IfOk result (Performs (view_of self.old) (view_of self.new) pass (Call.Read r slot into)) }
+    fn read<const SLOTS: usize>(
+        &mut self,
+        held: &Three<SLOTS>,
+        pass: u8,
+        id: u32,
+        slot: u8,
+        into: u8,
+    ) -> Result<Outcome, Memory>
+        requires ready { IsReady (view_of self.old) held.now pass (Plan.Read id slot into) }
+        ensures ok { IfOk result (Does (view_of self.old) (view_of self.new) held.now held.now pass (Plan.Read id slot into)) }
         ensures owed { self.new.owed ≡ self.old.owed }
         ensures err { OnErr result (view_of self.new ≡ view_of self.old) }
     {
-        let id = match transactions::subject(&self.transactions, pass, r) {
-            Ok(id) => id,
-            Err(reply) => return Ok(reply),
-        };
-        if let Some(owner) = locks::share(&mut self.locks, pass, id)? {
-            return Ok(Reply::Busy { pass: owner });
-        }
-        let value = contents::current_of(self.versions.as_slice(), id).slot(slot);
+        locks::share(&mut self.locks, pass, id)?;
+        let value = held.cell(id).slots[slot as usize];
         transactions::load(&mut self.transactions, pass, into, nonzero(value));
-        Ok(Reply::Id(value))
+        Ok(Outcome {
+            reply: Reply::Id(value),
+            logged: None,
+        })
     }
 
-    fn get(&mut self, pass: u8, r: u8) -> Result<Reply, Memory>
-        requires { r < 8 }
-        ensures ok { IfOk result (Performs (view_of self.old) (view_of self.new) pass (Call.GetPay r)) }
+    fn get<const SLOTS: usize>(
+        &mut self,
+        held: &Three<SLOTS>,
+        pass: u8,
+        id: u32,
+    ) -> Result<Outcome, Memory>
+        requires ready { IsReady (view_of self.old) held.now pass (Plan.Get id) }
+        ensures ok { IfOk result (Does (view_of self.old) (view_of self.new) held.now held.now pass (Plan.Get id)) }
         ensures owed { self.new.owed ≡ self.old.owed }
         ensures err { OnErr result (view_of self.new ≡ view_of self.old) }
     {
-        let id = match transactions::subject(&self.transactions, pass, r) {
-            Ok(id) => id,
-            Err(reply) => return Ok(reply),
-        };
-        if let Some(owner) = locks::share(&mut self.locks, pass, id)? {
-            return Ok(Reply::Busy { pass: owner });
-        }
-        let value = contents::current_of(self.versions.as_slice(), id).payload;
-        Ok(Reply::Pay(value))
+        locks::share(&mut self.locks, pass, id)?;
+        Ok(Outcome {
+            reply: Reply::Pay(held.cell(id).payload),
+            logged: None,
+        })
     }
 
-    fn store(&mut self, pass: u8, r: u8, slot: u8, from: Option<u8>) -> Result<Reply, Memory>
-        requires register { r < 8 }
-        requires slot { slot < 6 }
-        requires source { IfSome from (λ f. f < 8) }
-        requires room { self.old.owed + 1 < 2 ^ 64 }
-        ensures ok { IfOk result (Performs (view_of self.old) (view_of self.new) pass (Call.Store r slot from)) }
-        ensures owed { self.new.owed ≤ self.old.owed + 1 }
-        ensures err { OnErr result (view_of self.new ≡ view_of self.old) }
-    {
-        let id = match transactions::subject(&self.transactions, pass, r) {
-            Ok(id) => id,
-            Err(reply) => return Ok(reply),
-        };
-        let value = match transactions::source(&self.transactions, pass, from) {
-            Ok(value) => value,
-            Err(reply) => return Ok(reply),
-        };
-        if let Some(holder) = locks::own(&mut self.locks, pass, id)? {
-            return Ok(Reply::Busy { pass: holder });
-        }
-        let next = contents::current_of(self.versions.as_slice(), id).with_slot(slot, value);
-        self.write(pass, id, next);
-        Ok(Reply::Done)
-    }
-
-    fn set(&mut self, pass: u8, r: u8, value: u64) -> Result<Reply, Memory>
-        requires register { r < 8 }
-        requires room { self.old.owed + 1 < 2 ^ 64 }
-        ensures ok { IfOk result (Performs (view_of self.old) (view_of self.new) pass (Call.SetPay r value)) }
-        ensures owed { self.new.owed ≤ self.old.owed + 1 }
-        ensures err { OnErr result (view_of self.new ≡ view_of self.old) }
-    {
-        let id = match transactions::subject(&self.transactions, pass, r) {
-            Ok(id) => id,
-            Err(reply) => return Ok(reply),
-        };
-        if let Some(holder) = locks::own(&mut self.locks, pass, id)? {
-            return Ok(Reply::Busy { pass: holder });
-        }
-        let next = contents::current_of(self.versions.as_slice(), id).with_payload(value);
-        self.write(pass, id, next);
-        Ok(Reply::Done)
-    }
-
-    /// The client, which owns the object, writes it and owes an undo more.
-    fn write(&mut self, pass: u8, id: u32, next: Contents)
+    /// The client owns the object, and owes the undo of a write that replaced this.
+    fn own_to_write(&mut self, pass: u8, id: u32, replaced: Write) -> Result<(), Memory>
+        requires nobody { Nobody (StandsInWayOfOwn (holders_of self.old.locks id) pass) }
         requires active { IsSome (running_at self.old.transactions.entries pass) }
         requires room { self.old.owed + 1 < 2 ^ 64 }
-        ensures { view_of self.new ≡ after_write pass id next (view_of self.old) }
-    {
-        contents::rewrite(&mut self.versions, id, next);
-        transactions::owe(&mut self.transactions, pass);
-        self.owed += 1;
-    }
-
-    fn make(&mut self, pass: u8, into: u8) -> Result<Reply, Memory>
-        requires { into < 8 }
-        ensures ok { IfOk result (Performs (view_of self.old) (view_of self.new) pass (Call.Make into)) }
-        ensures owed { self.new.owed ≡ self.old.owed }
+        ensures ok { OnOk result (IsNoted (view_of self.old) (view_of self.new) pass id replaced) }
         ensures err { OnErr result (view_of self.new ≡ view_of self.old) }
     {
-        if let Some(reply) = transactions::not_running(&self.transactions, pass) {
-            return Ok(reply);
+        transactions::note(&mut self.transactions, pass, replaced)?;
+        if let Err(error) = locks::own(&mut self.locks, pass, id) {
+            transactions::forget(&mut self.transactions, pass);
+            return Err(error);
         }
-        let Some(id) = free_ids::least(&self.free) else {
-            return Ok(Reply::Full);
-        };
-        if let Some(holder) = locks::own(&mut self.locks, pass, id)? {
-            return Ok(Reply::Busy { pass: holder });
-        }
-        self.free.remove(&id);
-        contents::rewrite(&mut self.versions, id, Contents::blank());
-        transactions::load(&mut self.transactions, pass, into, Some(id));
-        Ok(Reply::Id(id))
+        self.owed += 1;
+        Ok(())
     }
 
-    fn commit(&mut self, pass: u8) -> Reply
-        ensures done { Performs (view_of self.old) (view_of self.new) pass Call.Commit result }
+    fn store<const SLOTS: usize>(
+        &mut self,
+        held: &mut Three<SLOTS>,
+        pass: u8,
+        id: u32,
+        slot: u8,
+        target: u32,
+    ) -> Result<Outcome, Memory>
+        requires ready { IsReady (view_of self.old) held.old pass (Plan.Store id slot target) }
+        requires room { self.old.owed + 1 < 2 ^ 64 }
+        ensures ok { IfOk result (Does (view_of self.old) (view_of self.new) held.old held.new pass (Plan.Store id slot target)) }
+        ensures owed { self.new.owed ≤ self.old.owed + 1 }
+        ensures err { OnErr result ((view_of self.new ≡ view_of self.old) × (held.new ≡ held.old)) }
+        ensures pages { pages_held held.new ≡ pages_held held.old }
+    {
+        let replaced = Write {
+            id,
+            place: Place::Slot(slot),
+            value: held.cell(id).slots[slot as usize].into(),
+        };
+        self.own_to_write(pass, id, replaced)?;
+        let change = slots::store(held, &mut self.zeros, id, slot, target);
+        Ok(Outcome {
+            reply: Reply::Done,
+            logged: Some(CellRecord::Store {
+                pass,
+                id,
+                slot,
+                old_target: change.old_target,
+                old_strong: change.old_strong,
+                new_target: target,
+                new_bit: change.new_bit,
+                new_strong: change.new_strong,
+            }),
+        })
+    }
+
+    fn set<const SLOTS: usize>(
+        &mut self,
+        held: &mut Three<SLOTS>,
+        pass: u8,
+        id: u32,
+        value: u64,
+    ) -> Result<Outcome, Memory>
+        requires ready { IsReady (view_of self.old) held.old pass (Plan.Set id value) }
+        requires room { self.old.owed + 1 < 2 ^ 64 }
+        ensures ok { IfOk result (Does (view_of self.old) (view_of self.new) held.old held.new pass (Plan.Set id value)) }
+        ensures owed { self.new.owed ≤ self.old.owed + 1 }
+        ensures err { OnErr result ((view_of self.new ≡ view_of self.old) × (held.new ≡ held.old)) }
+        ensures pages { pages_held held.new ≡ pages_held held.old }
+    {
+        let replaced = Write {
+            id,
+            place: Place::Payload,
+            value: held.cell(id).payload,
+        };
+        self.own_to_write(pass, id, replaced)?;
+        let old_value = slots::pay(held, id, value);
+        Ok(Outcome {
+            reply: Reply::Done,
+            logged: Some(CellRecord::Pay {
+                pass,
+                id,
+                old_value,
+                new_value: value,
+            }),
+        })
+    }
+
+    fn make<const SLOTS: usize>(
+        &mut self,
+        held: &mut Three<SLOTS>,
+        pass: u8,
+        id: u32,
+        into: u8,
+    ) -> Result<Outcome, Memory>
+        requires ready { IsReady (view_of self.old) held.old pass (Plan.Make id into) }
+        ensures ok { IfOk result (Does (view_of self.old) (view_of self.new) held.old held.new pass (Plan.Make id into)) }
+        ensures owed { self.new.owed ≡ self.old.owed }
+        ensures err { OnErr result ((view_of self.new ≡ view_of self.old) × (held.new ≡ held.old)) }
+        ensures pages { pages_held held.new ≡ pages_held held.old }
+    {
+        locks::own(&mut self.locks, pass, id)?;
+        self.free.remove(&id);
+        held.put_cell(Cell::new_object(id));
+        transactions::load(&mut self.transactions, pass, into, Some(id));
+        Ok(Outcome {
+            reply: Reply::Id(id),
+            logged: Some(CellRecord::Make { pass, id }),
+        })
+    }
+
+    fn commit(&mut self, pass: u8) -> Outcome
+        ensures does { (slots : ℕ) (held : List (HeldFrame slots)) → Does (view_of self.old) (view_of self.new) held held pass Plan.Commit result }
         ensures owed { self.new.owed ≤ self.old.owed }
     {
-        if let Some(reply) = transactions::not_running(&self.transactions, pass) {
-            return reply;
-        }
-        contents::publish(&mut self.versions, self.locks.held(pass));
         self.end(pass);
-        Reply::Done
+        Outcome {
+            reply: Reply::Done,
+            logged: Some(CellRecord::Commit { pass }),
+        }
     }
 
     /// The client's transaction is over: it gives its locks back and owes nothing more.
     fn end(&mut self, pass: u8)
-        ensures { Ends (view_of self.old) (view_of self.new) pass }
+        ensures ends { Ends (view_of self.old) (view_of self.new) pass }
+        ensures owed { self.new.owed ≤ self.old.owed }
     {
         self.locks.drop_all(pass);
         if let Some(transaction) = self.transactions.remove(&pass) {
@@ -196,41 +266,150 @@ impl Tables {
         }
     }
 
-    /// Undoes the client's last write that isn't undone, or ends its transaction where none is left.
-    pub(crate) fn abort_step(&mut self, pass: u8) -> AbortStep
-        requires { IsSome (running_at self.old.transactions.entries pass) }
-        ensures undone { result ≡ AbortStep.Undone → UndoesOne (view_of self.old) (view_of self.new) pass }
-        ensures ended { result ≡ AbortStep.Ended → EndsAbort (view_of self.old) (view_of self.new) pass }
-        ensures owed { self.new.owed + 1 ≡ self.old.owed }
+    fn perform<const SLOTS: usize>(
+        &mut self,
+        held: &mut Three<SLOTS>,
+        pass: u8,
+        plan: Plan,
+    ) -> Result<Outcome, Memory>
+        requires ready { IsReady (view_of self.old) held.old pass plan }
+        requires room { self.old.owed + 1 < 2 ^ 64 }
+        ensures ok { IfOk result (Does (view_of self.old) (view_of self.new) held.old held.new pass plan) }
+        ensures owed { self.new.owed ≤ self.old.owed + 1 }
+        ensures err { OnErr result ((view_of self.new ≡ view_of self.old) × (held.new ≡ held.old)) }
+        ensures pages { pages_held held.new ≡ pages_held held.old }
     {
-        if transactions::left(&self.transactions, pass) > 0 {
-            transactions::undo(&mut self.transactions, pass);
-            self.owed -= 1;
-            return AbortStep::Undone;
+        match plan {
+            Plan::Begin => self.begin(pass),
+            Plan::Read { id, slot, into } => self.read(held, pass, id, slot, into),
+            Plan::Make { id, into } => self.make(held, pass, id, into),
+            Plan::Store { id, slot, target } => self.store(held, pass, id, slot, target),
+            Plan::Get { id } => self.get(held, pass, id),
+            Plan::Set { id, value } => self.set(held, pass, id, value),
+            Plan::Commit => Ok(self.commit(pass)),
         }
-        contents::discard(&mut self.versions, self.locks.held(pass));
-        self.end(pass);
-        AbortStep::Ended
     }
 
-    /// Does the call, as the reference machine does it. Out of memory leaves the tables as they were.
-    pub(crate) fn call(&mut self, pass: u8, call: &Call) -> Result<Reply, Memory>
-        requires in_range { IsInRange 6 call.now }
+    /// Does the call, as the reference machine does it. Out of memory leaves all as it was.
+    pub(crate) fn call<const SLOTS: usize>(
+        &mut self,
+        held: &mut Three<SLOTS>,
+        pass: u8,
+        call: &Call,
+    ) -> Result<Outcome, Memory>
+        requires in_range { IsInRange SLOTS call.now }
         requires no_abort { call.now ≡ Call.Abort → running_at self.old.transactions.entries pass ≡ None }
+        requires ready { IsReadyToCall (view_of self.old) held.old pass call.now }
         requires room { self.old.owed + 1 < 2 ^ 64 }
-        ensures ok { IfOk result (Performs (view_of self.old) (view_of self.new) pass call.now) }
+        ensures ok { IfOk result (λ o. Performs SLOTS (view_of self.old) (view_of self.new) held.old held.new pass call.now o.reply o.logged) }
         ensures owed { self.new.owed ≤ self.old.owed + 1 }
-        ensures err { OnErr result (view_of self.new ≡ view_of self.old) }
+        ensures err { OnErr result ((view_of self.new ≡ view_of self.old) × (held.new ≡ held.old)) }
+        ensures pages { pages_held held.new ≡ pages_held held.old }
     {
-        match *call {
-            Call::Begin => self.begin(pass),
-            Call::Read { r, slot, into } => self.read(pass, r, slot, into),
-            Call::Make { into } => self.make(pass, into),
-            Call::Store { r, slot, from } => self.store(pass, r, slot, from),
-            Call::GetPay { r } => self.get(pass, r),
-            Call::SetPay { r, value } => self.set(pass, r, value),
-            Call::Commit => Ok(self.commit(pass)),
-            Call::Abort => Ok(Reply::NoTxn),
+        match self.plan(pass, call) {
+            Ok(plan) => self.perform(held, pass, plan),
+            Err(reply) => Ok(Outcome {
+                reply,
+                logged: None,
+            }),
+        }
+    }
+
+    /// Lays again what a write replaced.
+    fn restore<const SLOTS: usize>(
+        &mut self,
+        held: &mut Three<SLOTS>,
+        pass: u8,
+        replaced: Write,
+    ) -> CellRecord
+        requires ready { IsReadyToRestore held.old self.old.zeros.items replaced }
+        requires size { IsSlotCount SLOTS }
+        ensures restores { Restores held.old held.new self.old.zeros.items self.new.zeros.items pass replaced result }
+        ensures same { view_of self.new ≡ record (view_of self.old) { zeros = self.new.zeros.items } }
+        ensures pages { pages_held held.new ≡ pages_held held.old }
+    {
+        let Write { id, place, value } = replaced;
+        match place {
+            Place::Slot(slot) => {
+                let target = value as u32;
+                let change = slots::restore(held, &mut self.zeros, id, slot, target);
+                CellRecord::Undo {
+                    pass,
+                    id,
+                    place: slot,
+                    from: change.old_target.into(),
+                    from_strong: change.old_strong,
+                    to: value,
+                    to_bit: change.new_bit,
+                }
+            }
+            Place::Payload | Place::Whole => CellRecord::Undo {
+                pass,
+                id,
+                place: PAYLOAD_PLACE,
+                from: slots::pay(held, id, value),
+                from_strong: false,
+                to: value,
+                to_bit: false,
+            },
+        }
+    }
+
+    /// Undoes the client's last write that isn't undone, or ends its transaction where none is left.
+    pub(crate) fn abort_step<const SLOTS: usize>(
+        &mut self,
+        held: &mut Three<SLOTS>,
+        pass: u8,
+    ) -> AbortOutcome
+        requires active { IsSome (running_at self.old.transactions.entries pass) }
+        requires ready { IsReadyToUndo (view_of self.old) held.old pass }
+        ensures undone { result.step ≡ AbortStep.Undone → UndoesOne SLOTS (view_of self.old) (view_of self.new) held.old held.new pass result.logged }
+        ensures ended { result.step ≡ AbortStep.Ended → EndsAbort SLOTS (view_of self.old) (view_of self.new) pass × (result.logged ≡ CellRecord.AbortEnd pass) × (held.new ≡ held.old) }
+        ensures owed { self.new.owed + 1 ≡ self.old.owed }
+        ensures pages { pages_held held.new ≡ pages_held held.old }
+    {
+        let Some(replaced) = transactions::undo(&mut self.transactions, pass) else {
+            self.end(pass);
+            return AbortOutcome {
+                step: AbortStep::Ended,
+                logged: CellRecord::AbortEnd { pass },
+            };
+        };
+        self.owed -= 1;
+        AbortOutcome {
+            step: AbortStep::Undone,
+            logged: self.restore(held, pass, replaced),
+        }
+    }
+
+    /// What is to be done with the held pages before the call can be made.
+    pub(crate) fn wants<const SLOTS: usize>(
+        &self,
+        held: &Three<SLOTS>,
+        pass: u8,
+        call: &Call,
+    ) -> Want
+        requires in_range { IsInRange SLOTS call.now }
+        requires no_abort { call.now ≡ Call.Abort → running_at self.now.transactions.entries pass ≡ None }
+        requires standing { IsStanding (view_of self.now) held.now }
+        ensures exact { (cells : List StoredCell) (m : Moment) → Stands SLOTS (view_of self.now) cells m → Agree cells held.now → result ≡ want_of (pages_for m.state cells pass call.now) (pages_held held.now) }
+        ensures next { (page : ℕ) → result ≡ Want.Page page → IsNext self.now.ids held.now page }
+    {
+        match self.plan(pass, call) {
+            Ok(plan) => wanted(held, work_of(plan)),
+            Err(_) => wanted(held, None),
+        }
+    }
+
+    /// What is to be done with the held pages before an abort step of the client can be made.
+    pub(crate) fn wants_abort_step<const SLOTS: usize>(&self, held: &Three<SLOTS>, pass: u8) -> Want
+        requires standing { IsStanding (view_of self.now) held.now }
+        ensures exact { (cells : List StoredCell) (m : Moment) → Stands SLOTS (view_of self.now) cells m → Agree cells held.now → result ≡ want_of (pages_for_undo cells (next_to_restore m pass)) (pages_held held.now) }
+        ensures next { (page : ℕ) → result ≡ Want.Page page → IsNext self.now.ids held.now page }
+    {
+        match transactions::last_replaced(&self.transactions, pass) {
+            Some(replaced) => wanted(held, Some(work_of_undo(replaced))),
+            None => wanted(held, None),
         }
     }
 
@@ -250,18 +429,51 @@ impl Tables {
 
     /// The tables of a fresh store of so many ids: the root alone is stored.
     pub(crate) fn fresh(alloc: Global, ids: u32) -> Result<Tables, Memory>
-        requires { 0 < ids }
+        requires { (0 < ids) × (ids ≤ 8192) }
         ensures { IfOk result (λ t. IsFreshOf (view_of t) ids) }
     {
-        let versions = contents::blank_versions(alloc, ids)?;
         let free = free_ids::fresh(alloc, ids)?;
+        let mut zeros = vec![in alloc; true; ids as usize + 1]?;
+        zeros[1] = false;
         Ok(Tables {
+            alloc,
             ids,
-            versions,
             free,
+            zeros,
             locks: LockTable::new(alloc),
             transactions: BTreeMap::new(alloc),
             owed: 0,
         })
+    }
+}
+
+/// The object on which a plan works, if there is one.
+fn work_of(plan: Plan) -> Option<Work>
+    ensures { result ≡ work_of plan }
+{
+    match plan {
+        Plan::Begin | Plan::Commit => None,
+        Plan::Read { id, .. } | Plan::Make { id, .. } | Plan::Get { id } | Plan::Set { id, .. } => {
+            Some(Work { id, change: None })
+        }
+        Plan::Store { id, slot, target } => Some(Work {
+            id,
+            change: Some((slot, target)),
+        }),
+    }
+}
+
+/// The object on which an undo step works that lays this again.
+fn work_of_undo(replaced: Write) -> Work
+    requires { FitsPlace replaced.place replaced.value }
+    ensures { result ≡ work_of_undo replaced }
+{
+    let change = match replaced.place {
+        Place::Slot(slot) => Some((slot, replaced.value as u32)),
+        Place::Payload | Place::Whole => None,
+    };
+    Work {
+        id: replaced.id,
+        change,
     }
 }

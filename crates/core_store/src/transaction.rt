@@ -1,17 +1,20 @@
 //! A transaction, as a journal keeps it.
-ghost use Rattle.std.specs.Prelude.{◌≡◌, ℕ, ◌+◌, ◌-◌, ◌^◌, ◌<◌, ◌≤◌, IfOk, IfErr, IfSome, Some, None, true};
+ghost use Rattle.std.specs.Prelude.{◌≡◌, ℕ, ◌<◌, [], IfOk, IfErr, IfSome, IsSome, Some, None, length, OnOk, OnErr};
 ghost use Rattle.std.specs.Option.{option_map_or};
-ghost use Rattle.core_store.specs.Transactions.{just_begun, held_in, loaded, owing, undoing};
+ghost use Rattle.std.specs.List.{last_or};
+ghost use Rattle.core_store.specs.Transactions.{just_begun, held_in, loaded, writing, forgetting, undoing};
 ghost use Rattle.core_store.specs.Refusals.{if_no_register, source_of};
 
-use plain_model::Reply;
+use plain_model::{Memory, Reply, Write};
+use std::alloc::Global;
 use std::marker::Model;
 
 /// A transaction that has begun and hasn't ended.
 #[derive(Debug, Drop)]
 pub(crate) struct Transaction {
     registers: [Option<u32>; 8],
-    left: usize,
+    /// What its writes replaced that can be undone and aren't, in order.
+    replaced: Vec<Write>,
     aborting: bool,
 }
 
@@ -20,17 +23,17 @@ impl Model for Transaction {
 
     ghost Value = { Running };
 
-    ghost view = { λ a. record { registers = a.registers; left = a.left; aborting = a.aborting } };
+    ghost view = { λ a. record { registers = a.registers; replaced = a.replaced.items; aborting = a.aborting } };
 }
 
 impl Transaction {
     /// Register 0 holds the root, and the others are empty.
-    pub(crate) fn new() -> Transaction
+    pub(crate) fn new(alloc: Global) -> Transaction
         ensures { result ≡ just_begun }
     {
         Transaction {
             registers: [Some(1), None, None, None, None, None, None, None],
-            left: 0,
+            replaced: Vec::new(alloc),
             aborting: false,
         }
     }
@@ -43,9 +46,16 @@ impl Transaction {
 
     /// How many of its writes can be undone and aren't.
     pub(crate) fn left(&self) -> usize
-        ensures { result ≡ self.now.left }
+        ensures { result ≡ length self.now.replaced }
     {
-        self.left
+        self.replaced.len()
+    }
+
+    /// What the last of its writes replaced that can be undone and isn't.
+    pub(crate) fn last_replaced(&self) -> Option<Write>
+        ensures { result ≡ last_or None self.now.replaced }
+    {
+        self.replaced.last().copied()
     }
 
     pub(crate) fn register(&self, r: u8) -> Option<u32>
@@ -77,20 +87,31 @@ impl Transaction {
         self.registers[r as usize] = value;
     }
 
-    /// One write more can be undone.
-    pub(crate) fn owe(&mut self)
-        requires { self.old.left + 1 < 2 ^ 64 }
-        ensures { self.new ≡ owing self.old }
+    /// Notes what one write more replaced. Out of memory is its only error.
+    pub(crate) fn note(&mut self, replaced: Write) -> Result<(), Memory>
+        ensures ok { OnOk result (self.new ≡ writing replaced self.old) }
+        ensures err { OnErr result (self.new ≡ self.old) }
     {
-        self.left += 1;
+        self.replaced.push(replaced)?;
+        Ok(())
     }
 
-    /// One write is undone.
-    pub(crate) fn undo(&mut self)
-        requires { 0 < self.old.left }
-        ensures { self.new ≡ undoing self.old }
+    /// Takes back what was noted last.
+    pub(crate) fn forget(&mut self)
+        ensures { self.new ≡ forgetting self.old }
     {
-        self.left -= 1;
+        self.replaced.pop();
+    }
+
+    /// What the last of its writes replaced that wasn't undone: that write is undone now. `None` exactly where nothing
+    /// is left to undo.
+    pub(crate) fn undo(&mut self) -> Option<Write>
+        ensures last { result ≡ last_or None self.old.replaced }
+        ensures some { IsSome result → self.new ≡ undoing self.old }
+        ensures none { result ≡ None → (self.old.replaced ≡ []) × (self.new ≡ self.old) }
+    {
+        let replaced = self.replaced.pop()?;
         self.aborting = true;
+        Some(replaced)
     }
 }

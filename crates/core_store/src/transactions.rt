@@ -1,15 +1,16 @@
 //! The transactions of the active clients.
-ghost use Rattle.std.specs.Prelude.{◌≡◌, ℕ, ◌+◌, ◌-◌, ◌^◌, ◌<◌, IfOk, IfErr, IfSome, OnOk, OnErr, Some, None, false};
+ghost use Rattle.std.specs.Prelude.{◌≡◌, ℕ, ◌<◌, IfOk, IfErr, IfSome, IsSome, OnOk, OnErr, Some, None};
 ghost use Rattle.std.specs.Option.{option_map_or};
+ghost use Rattle.std.specs.List.{last_or};
 ghost use Rattle.std.specs.Ordering.{nat_cmp};
 ghost use Rattle.std.specs.BTreeMap.{insert_entry, is_at};
 ghost use Rattle.std.specs.Map.{remove_entry};
-ghost use Rattle.core_store.specs.Transactions.{Running, just_begun, loaded, running_at, owing, undoing};
+ghost use Rattle.core_store.specs.Transactions.{Running, just_begun, loaded, running_at, writing, forgetting, undoing};
 ghost use Rattle.core_store.specs.Refusals.{HasSubject, HasSource, subject_refusal, if_not_running};
 ghost use Rattle.core_store.specs.Tables.{changed_at};
 
 use crate::transaction::Transaction;
-use plain_model::{Memory, Reply};
+use plain_model::{Memory, Reply, Write};
 use std::collections::BTreeMap;
 
 /// The active clients, each with its transaction.
@@ -56,14 +57,11 @@ pub(crate) fn source(transactions: &Transactions, pass: u8, from: Option<u8>) ->
     }
 }
 
-/// How many writes of the client can be undone and aren't.
-pub(crate) fn left(transactions: &Transactions, pass: u8) -> usize
-    ensures { result ≡ option_map_or (λ t. t.left) (running_at transactions.now.entries pass) 0 }
+/// What the last write of the client replaced that can be undone and isn't.
+pub(crate) fn last_replaced(transactions: &Transactions, pass: u8) -> Option<Write>
+    ensures { result ≡ option_map_or (λ t. last_or None t.replaced) (running_at transactions.now.entries pass) None }
 {
-    match transactions.get(&pass) {
-        Some(transaction) => transaction.left(),
-        None => 0,
-    }
+    transactions.get(&pass)?.last_replaced()
 }
 
 /// The client loads a register.
@@ -76,22 +74,32 @@ pub(crate) fn load(transactions: &mut Transactions, pass: u8, r: u8, value: Opti
     }
 }
 
-/// The client owes an undo more.
-pub(crate) fn owe(transactions: &mut Transactions, pass: u8)
-    requires { IfSome (running_at transactions.old.entries pass) (λ t. t.left + 1 < 2 ^ 64) }
-    ensures { transactions.new.entries ≡ changed_at pass owing transactions.old.entries }
+/// Notes what one write more of the client replaced. Out of memory is its only error, and changes nothing.
+pub(crate) fn note(transactions: &mut Transactions, pass: u8, replaced: Write) -> Result<(), Memory>
+    ensures ok { OnOk result (transactions.new.entries ≡ changed_at pass (writing replaced) transactions.old.entries) }
+    ensures err { OnErr result (transactions.new.entries ≡ transactions.old.entries) }
 {
-    if let Some(transaction) = transactions.get_mut(&pass) {
-        transaction.owe();
+    match transactions.get_mut(&pass) {
+        Some(transaction) => transaction.note(replaced),
+        None => Ok(()),
     }
 }
 
-/// One write of the client is undone.
-pub(crate) fn undo(transactions: &mut Transactions, pass: u8)
-    requires { IfSome (running_at transactions.old.entries pass) (λ t. 0 < t.left) }
-    ensures { transactions.new.entries ≡ changed_at pass undoing transactions.old.entries }
+/// Takes back what was noted last for the client.
+pub(crate) fn forget(transactions: &mut Transactions, pass: u8)
+    ensures { transactions.new.entries ≡ changed_at pass forgetting transactions.old.entries }
 {
     if let Some(transaction) = transactions.get_mut(&pass) {
-        transaction.undo();
+        transaction.forget();
     }
+}
+
+/// What the last write of the client replaced that wasn't undone: that write is undone now. `None` where nothing is left
+/// to undo.
+pub(crate) fn undo(transactions: &mut Transactions, pass: u8) -> Option<Write>
+    ensures last { result ≡ option_map_or (λ t. last_or None t.replaced) (running_at transactions.old.entries pass) None }
+    ensures some { IsSome result → transactions.new.entries ≡ changed_at pass undoing transactions.old.entries }
+    ensures none { result ≡ None → transactions.new.entries ≡ transactions.old.entries }
+{
+    transactions.get_mut(&pass)?.undo()
 }

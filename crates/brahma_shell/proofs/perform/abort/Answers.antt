@@ -15,19 +15,19 @@ steps-preserved c =
     let u = c.in-Undone.ensures.undone refl in
     let client = c.args.client in
     let i = c.steps.invariant.undone in
-    let e = end_after c.steps.journal.history c.abort_step.new.self.history client u.1 in
-    let one = left_to_undo-undo (end_of c.steps.journal.history) client c.steps.invariant.active u.0 in
+    let e = end_after c.steps.store.history c.abort_step.new.self.history client u.1 in
+    let one = left_to_undo-undo (end_of c.steps.store.history) client c.steps.invariant.active u.0 in
     record {
-      undone = (i.0 + 1, u.1 ∙ with_undos c.args.journal.now.history c.steps.journal.history client i.0 i.1, rw e (omega (arith, one, i.2)));
-      active = rw e (still_active (end_of c.steps.journal.history).state client c.steps.invariant.active);
+      undone = (i.0 + 1, u.1 ∙ with_undos c.args.store.now.history c.steps.store.history client i.0 i.1, rw e (omega (arith, one, i.2)));
+      active = rw e (still_active (end_of c.steps.store.history).state client c.steps.invariant.active);
     }
 
 pub steps-smaller : goal.steps-smaller
 steps-smaller c =
     let u = c.in-Undone.ensures.undone refl in
     let client = c.args.client in
-    let e = end_after c.steps.journal.history c.abort_step.new.self.history client u.1 in
-    let one = left_to_undo-undo (end_of c.steps.journal.history) client c.steps.invariant.active u.0 in
+    let e = end_after c.steps.store.history c.abort_step.new.self.history client u.1 in
+    let one = left_to_undo-undo (end_of c.steps.store.history) client c.steps.invariant.active u.0 in
     rw e (omega (arith, one))
 
 pub returns-in-Ended : goal.returns-in-Ended
@@ -35,5 +35,5 @@ returns-in-Ended c =
     let u = c.in-Ended.ensures.ended refl in
     let client = c.args.client in
     let i = c.steps.invariant.undone in
-    let k : left_to_undo (end_of c.args.journal.now.history) client ≡ i.0 = omega (arith, u.0, i.2) in
-    rw k (u.1 ∙ with_end c.args.journal.now.history c.steps.journal.history client i.0 (Call client Abort Done) i.1)
+    let k : left_to_undo (end_of c.args.store.now.history) client ≡ i.0 = omega (arith, u.0, i.2) in
+    rw k (u.1 ∙ with_end c.args.store.now.history c.steps.store.history client i.0 (Call client Abort Done) i.1)

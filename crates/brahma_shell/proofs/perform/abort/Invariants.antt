@@ -8,9 +8,9 @@ use Rattle.brahma_shell.proofs.perform.abort.Given as goal
 
 abbrev pub invariant-steps : goal.invariant-steps
 invariant-steps l = record {
-  undone : (k : ℕ) × (l.journal.history ≡ with_entries l.fn.journal.history (replicate k (Undo l.client))) × (left_to_undo (end_of l.journal.history) l.client + k ≡ left_to_undo (end_of l.fn.journal.history) l.client);
-  active : IsSome (transaction_of (end_of l.journal.history).state l.client);
+  undone : (k : ℕ) × (l.store.history ≡ with_entries l.fn.store.history (replicate k (Undo l.client))) × (left_to_undo (end_of l.store.history) l.client + k ≡ left_to_undo (end_of l.fn.store.history) l.client);
+  active : IsSome (transaction_of (end_of l.store.history).state l.client);
 }
 
 abbrev pub decreases-steps : goal.decreases-steps
-decreases-steps l = left_to_undo (end_of l.journal.history) l.client
+decreases-steps l = left_to_undo (end_of l.store.history) l.client

@@ -1,34 +1,38 @@
-use Rattle.std.proofs.Common.{◌≡◌, List, Ok, ap, ◌∙◌, sym, subst}
-use Rattle.core_store.specs.declared.contents.Contents.{Contents}
-use Rattle.core_store.specs.declared.contents.Version.{Version}
-use Rattle.core_store.specs.Versions.{current, version_at, with_slot}
-use Rattle.core_store.specs.Steps.{after_write}
-use Rattle.core_store.specs.Views.{view_of}
+use Rattle.std.proofs.Common.{◌≡◌, ℕ, ◌+◌, ◌<◌, ◌^◌, List, Bool, Option, Some, None, Ok, Err, refl, sym, ap, ◌∙◌, subst, arith, rules, true, false}
+use Rattle.log_record.specs.declared.cell_record.CellRecord.TheVariants as logs
+use Rattle.plain_model.specs.declared.calls.Reply.TheVariants as reply
+use Rattle.store_model.specs.Cells.{Cell as StoredCell}
+use Rattle.core_store.specs.Changes.{stored_change, store_record}
+use Rattle.core_store.specs.Slots.{IsReadyToChange, Changes}
+use Rattle.core_store.specs.declared.plan.Plan.TheVariants as plan
 use Rattle.core_store.specs.Tables.{TablesView}
-use Rattle.core_store.specs.Stands.{Performs}
-use Rattle.plain_model.specs.declared.calls.Call.TheVariants.{Store}
-use Rattle.plain_model.specs.declared.calls.Reply.TheVariants.{Done}
-use Rattle.core_store.proofs.MapLaws.{none_from}
-use Rattle.core_store.proofs.OwnLaws.{performs-store, performs-store_refused, performs-store_empty, performs-store_busy}
+use Rattle.core_store.specs.Ready.{Does}
+use Rattle.core_store.specs.Views.{view_of}
+use Rattle.core_store.proofs.HandlerLaws.{small-store, ready-store, does-store, noted-view, slot-target}
 use Rattle.core_store.proofs.tables.Tables.store.Goals as goal
 
-pub returns-in-Err-clause-ok : goal.returns-in-Err-clause-ok
-returns-in-Err-clause-ok c = performs-store_refused (view_of c.args.self.now) c.args.pass c.args.r c.args.slot c.args.«from» c.in-Err.reply c.in-Err.ensures.err
+pub cell-requires : goal.cell-requires
+cell-requires g c =
+    let r = c.requires.ready in
+    (search rules, (search rules, (small-store (view_of c.args.self.now) c.args.held.now c.args.pass c.args.id c.args.slot c.args.target r, (r.pages.0, (r.standing.cells, r.standing.agree)))))
 
-pub returns-in-Err-source-clause-ok : goal.returns-in-Err-source-clause-ok
-returns-in-Err-source-clause-ok c = performs-store_empty (view_of c.args.self.now) c.args.pass c.args.r c.args.slot c.in-Ok.id c.args.«from» c.in-Err-source.reply c.in-Ok.ensures.ok c.in-Err-source.ensures
-
-pub returns-in-Some-clause-ok : goal.returns-in-Some-clause-ok
-returns-in-Some-clause-ok c =
-    let b = c.in_ok-holder.ensures.busy c.in-Some.holder (ap Ok c.in-Some.is) in
-    rw b.0 (performs-store_busy (view_of c.args.self.now) c.args.pass c.args.r c.args.slot c.in-Ok.id c.in-Some.holder c.in-Ok-source.value c.args.«from» c.in-Ok.ensures.ok c.in-Ok-source.ensures b.1)
+pub store-change-requires : goal.store-change-requires
+store-change-requires g c =
+    let v = view_of c.args.self.now in
+    let noted = c.in_ok-own_to_write.ensures.ok in
+    (search rules, (c.requires.ready.standing.stands.counted, subst (λ (z : List Bool). IsReadyToChange c.args.held.now z c.args.id c.args.slot c.args.target) (sym noted.zeros) (ready-store v c.args.held.now c.args.pass c.args.id c.args.slot c.args.target c.requires.ready)))
 
 pub returns-clause-ok : goal.returns-clause-ok
-returns-clause-ok c =
+returns-clause-ok g c =
     let v = view_of c.args.self.now in
-    let next : c.with_slot-next.result ≡ with_slot c.args.slot c.in-Ok-source.value (current (version_at v.versions c.in-Ok.id)) =
-    c.with_slot-next.ensures ∙ ap (λ (x : Contents). with_slot c.args.slot c.in-Ok-source.value x) (c.current_of.ensures ∙ ap (λ (x : List Version). current (version_at x c.in-Ok.id)) c.as_slice.ensures.value) in
-    let g = c.in_ok-holder.ensures.granted (ap Ok (none_from c.in_ok-holder.field-0 c.in_default.not-Some)) in
-    let is = c.write.ensures ∙ ap (λ (x : Contents). after_write c.args.pass c.in-Ok.id x (record v { locks = c.own.new.locks })) next in
-    subst (λ (w : TablesView). Performs v w c.args.pass (Store c.args.r c.args.slot c.args.«from») Done) (sym is)
-    (performs-store v c.own.new.locks c.args.pass c.args.r c.in-Ok.id c.args.slot c.in-Ok-source.value c.args.«from» c.in-Ok.ensures.ok c.in-Ok-source.ensures g.0 g.1)
+    let w = view_of c.own_to_write.new.self in
+    let held = c.args.held.now in
+    let new = c.store-change.new.held in
+    let marks = c.store-change.new.zeros.items in
+    let change = c.store-change.result in
+    let noted = c.in_ok-own_to_write.ensures.ok in
+    let is = noted-view v w c.args.pass c.args.id _ noted in
+    subst (λ (x : TablesView). Does v (record x { zeros = marks }) held new c.args.pass (plan.Store c.args.id c.args.slot c.args.target) (record { reply = reply.Done; logged = Some (store_record c.args.pass c.args.id c.args.slot c.args.target change) })) (sym is)
+    (does-store v held c.args.pass new w.locks marks c.args.id c.args.slot c.args.target c.into.result w.owed change noted.locks c.requires.ready.in_range
+    (λ cells agree. c.into.ensures ∙ slot-target cells c.args.id c.args.slot c.cell.result.now (c.cell.ensures.stored cells agree))
+    (subst (λ (z : List Bool). Changes held new z marks c.args.id c.args.slot c.args.target (λ cells. stored_change cells c.args.id c.args.slot c.args.target) change) noted.zeros c.store-change.ensures.changes))

@@ -1,0 +1,89 @@
+-- The locks after a client shares an object, or owns it.
+use Rattle.std.proofs.Common.{◌≡◌, ◌≢◌, ℕ, List, Bool, true, false, refl, sym, ap, ◌∙◌, subst, Option, Some, None, inl, inr, ⊎_elim, ne_eqb}
+use Rattle.std.specs.Prelude.{◌==◌, ◌||◌}
+use Rattle.plain_model.specs.ActiveTransaction.{ActiveTransaction}
+use Rattle.plain_model.specs.Machine.{State, transaction_of, with_id, is_among}
+use Rattle.plain_model.specs.History.{Moment, holds}
+use Rattle.plain_laws.proofs.Entries.{same_or_apart}
+use Rattle.plain_laws.proofs.Ids.{test_same, or_left, among-added_same, among-added_more, among-added_cases}
+use Rattle.strict_locks.specs.Locks.{Table, holders_of, is_owner, is_sharer, is_holder, StandsInWayOfOwn, Nobody, AddsShare, AddsOwner}
+use Rattle.store_model.specs.Cells.{Cell}
+use Rattle.core_store.specs.Tables.{TablesView}
+use Rattle.core_store.specs.Stands.{owns_in, shares_in, Stands}
+
+-- ---- small facts on tests
+
+pub same_bool : (a b : Bool) → (a ≡ true → b ≡ true) → (b ≡ true → a ≡ true) → a ≡ b
+same_bool true b f g = sym (f refl)
+same_bool false true f g = g refl
+same_bool false false f g = refl
+
+pub not_true : (b : Bool) → (b ≡ true → ⊥) → b ≡ false
+not_true true h = absurd (h refl)
+not_true false h = refl
+
+-- ---- an id that joins a list
+
+among-here : (x id : ℕ) (ids : List ℕ) → x ≡ id → is_among x (with_id id ids) ≡ true
+among-here x id ids e = subst (λ y. is_among y (with_id id ids) ≡ true) (sym e) (among-added_same id ids)
+
+among-apart : (x id : ℕ) (ids : List ℕ) → x ≢ id → is_among x (with_id id ids) ≡ is_among x ids
+among-apart x id ids n = same_bool (is_among x (with_id id ids)) (is_among x ids) (λ e. ⊎_elim (λ k. k) (λ k. absurd (n k)) (among-added_cases x id ids e)) (λ e. among-added_more x id ids e)
+
+-- ---- the locks are those of this client's new transaction, and every other client's are as before
+
+pub record Locked (old new : Table) (pass : ℕ) (u : ActiveTransaction) : Type 0 where
+  pub owner : (id : ℕ) → is_owner (holders_of new id) pass ≡ is_among id u.owned
+  pub other_owners : (id q : ℕ) → q ≢ pass → is_owner (holders_of new id) q ≡ is_owner (holders_of old id) q
+  pub sharer : (id : ℕ) → is_sharer (holders_of new id) pass ≡ is_among id u.shared
+  pub other_sharers : (id q : ℕ) → q ≢ pass → is_sharer (holders_of new id) q ≡ is_sharer (holders_of old id) q
+
+module _ (slots : ℕ) (v : TablesView) (cells : List Cell) (m : Moment) (h : Stands slots v cells m) (pass : ℕ) (t u : ActiveTransaction) (found : transaction_of m.state pass ≡ Some t) where
+  own : (x : ℕ) → is_owner (holders_of v.locks x) pass ≡ is_among x t.owned
+  own x = h.owners x pass ∙ ap (λ o. owns_in o x) found
+
+  share : (x : ℕ) → is_sharer (holders_of v.locks x) pass ≡ is_among x t.shared
+  share x = h.sharers x pass ∙ ap (λ o. shares_in o x) found
+
+  -- no lock changes
+  pub Locked-same : u.owned ≡ t.owned → u.shared ≡ t.shared → Locked v.locks v.locks pass u
+  Locked-same a b = record {
+    owner = λ x. own x ∙ ap (is_among x) (sym a);
+    other_owners = λ x q n. refl;
+    sharer = λ x. share x ∙ ap (is_among x) (sym b);
+    other_sharers = λ x q n. refl;
+  }
+
+  -- the client shares the object
+  pub Locked-share : (locks : Table) (id : ℕ) → AddsShare v.locks locks pass id → u.owned ≡ t.owned → u.shared ≡ with_id id t.shared → Locked v.locks locks pass u
+  Locked-share locks id adds a b = record {
+    owner = λ x. adds.owners x pass ∙ (own x ∙ ap (is_among x) (sym a));
+    other_owners = λ x q n. adds.owners x q;
+    sharer = λ x.
+        ⊎_elim
+        (λ (e : x ≡ id). subst (λ y. is_sharer (holders_of locks y) pass ≡ true) (sym e) (adds.sharers pass ∙ ap (λ b. b || is_sharer (holders_of v.locks id) pass) (test_same pass)) ∙ (sym (among-here x id t.shared e) ∙ ap (is_among x) (sym b)))
+        (λ (n : x ≢ id). adds.other_sharers x pass n ∙ (share x ∙ (sym (among-apart x id t.shared n) ∙ ap (is_among x) (sym b))))
+        (same_or_apart x id);
+    other_sharers = λ x q n.
+        ⊎_elim
+        (λ (e : x ≡ id). subst (λ y. is_sharer (holders_of locks y) q ≡ is_sharer (holders_of v.locks y) q) (sym e) (adds.sharers q ∙ ap (λ b. b || is_sharer (holders_of v.locks id) q) (ne_eqb q pass n)))
+        (λ (d : x ≢ id). adds.other_sharers x q d)
+        (same_or_apart x id);
+  }
+
+  -- the client owns the object, which nobody else held
+  pub Locked-own : (locks : Table) (id : ℕ) → AddsOwner v.locks locks pass id → Nobody (StandsInWayOfOwn (holders_of v.locks id) pass) → u.owned ≡ with_id id t.owned → u.shared ≡ t.shared → Locked v.locks locks pass u
+  Locked-own locks id adds nobody a b = record {
+    owner = λ x.
+        ⊎_elim
+        (λ (e : x ≡ id). subst (λ y. is_owner (holders_of locks y) pass ≡ true) (sym e) (adds.owner pass ∙ test_same pass) ∙ (sym (among-here x id t.owned e) ∙ ap (is_among x) (sym a)))
+        (λ (n : x ≢ id). adds.other_owners x pass n ∙ (own x ∙ (sym (among-apart x id t.owned n) ∙ ap (is_among x) (sym a))))
+        (same_or_apart x id);
+    other_owners = λ x q n.
+        ⊎_elim
+        (λ (e : x ≡ id). subst (λ y. is_owner (holders_of locks y) q ≡ is_owner (holders_of v.locks y) q) (sym e) (adds.owner q ∙ (ne_eqb q pass n ∙ sym (not_true (is_owner (holders_of v.locks id) q) (λ o. nobody q (n, or_left (is_owner (holders_of v.locks id) q) (is_sharer (holders_of v.locks id) q) o))))))
+        (λ (d : x ≢ id). adds.other_owners x q d)
+        (same_or_apart x id);
+    sharer = λ x. adds.sharers x pass ∙ (share x ∙ ap (is_among x) (sym b));
+    other_sharers = λ x q n. adds.sharers x q;
+  }

@@ -1,0 +1,84 @@
+-- What a change of a slot is asked for, and what it leaves.
+use Rattle.std.specs.Prelude.{◌≡◌, ◌≢◌, ℕ, ◌<◌, ◌≤◌, ◌==◌, Bool, true, List, length, map}
+use Rattle.std.specs.List.{list_any, AllByRecursion}
+use Rattle.store_model.specs.Cells.{Pointer, Cell, is_live, relinked}
+use Rattle.store_model.specs.SoundCells.{AreConsistent}
+use Rattle.strength_counts.specs.Held.{Held, is_held as is_cell_held}
+use Rattle.strength_counts.specs.Laws.{ArePart}
+use Rattle.core_store.specs.declared.three.HeldFrame.{HeldFrame}
+use Rattle.core_store.specs.declared.slots.SlotChange.{SlotChange}
+use Rattle.core_store.specs.Frames.{page_of_id, is_held, Agree, IsSameElsewhere}
+use Rattle.core_store.specs.Changes.{after_change, has_no_strong}
+use Rattle.core_store.specs.Logged.{object_and_targets}
+
+-- the page of each of these ids is held
+abbrev pub HoldsPagesOf : {slots : ℕ} → List (HeldFrame slots) → List ℕ → Type 0
+HoldsPagesOf held ids = AllByRecursion (λ id. is_held held (page_of_id id) ≡ true) ids
+
+-- the slot is one of a live cell, and the target is live where it isn't null
+pub record CanChange (slots ids : ℕ) (cells : List Cell) (id slot target : ℕ) : Type 0 where
+  pub consistent : AreConsistent slots ids cells
+  pub few : ids ≤ 8192
+  pub live : is_live cells id ≡ true
+  pub within : slot < slots
+  pub target_live : target ≢ 0 → is_live cells target ≡ true
+
+-- some store's cells are held, whose slot can change, with the pages of the object, of the old target and of the new one; and these are its marks
+pub record IsReadyToChange {slots : ℕ} (held : List (HeldFrame slots)) (zeros : List Bool) (id slot target : ℕ) : Type 0 where
+  pub ids : ℕ
+  pub cells : List Cell
+  pub agree : Agree cells held
+  pub marks : zeros ≡ map has_no_strong cells
+  pub can : CanChange slots ids cells id slot target
+  pub pages : HoldsPagesOf held (object_and_targets cells id slot target)
+
+-- from cells with these held pages and marks to those where the slot changed so; pages that aren't held stay
+pub record IsChanged {slots : ℕ} (cells after : List Cell) (held new : List (HeldFrame slots)) (zeros marks : List Bool) : Type 0 where
+  pub agree : Agree after new
+  pub elsewhere : IsSameElsewhere cells after held
+  pub marks_are : zeros ≡ map has_no_strong cells → marks ≡ map has_no_strong after
+
+-- whatever cells are held in which the slot can change, it changes so
+abbrev pub Changes : {slots : ℕ} → List (HeldFrame slots) → List (HeldFrame slots) → List Bool → List Bool → ℕ → ℕ → ℕ → (List Cell → SlotChange) → SlotChange → Type 0
+Changes {slots} held new zeros marks id slot target change result =
+    (ids : ℕ) (cells : List Cell) → Agree cells held → CanChange slots ids cells id slot target → (result ≡ change cells) × IsChanged cells (after_change cells id slot target result) held new zeros marks
+
+-- some store's cells are held, and the object is a live one of them
+pub record IsReadyToEdit {slots : ℕ} (held : List (HeldFrame slots)) (id : ℕ) : Type 0 where
+  pub cells : List Cell
+  pub agree : Agree cells held
+  pub above : 0 < id
+  pub small : id < 65536
+  pub live : is_live cells id ≡ true
+  pub page : is_held held (page_of_id id) ≡ true
+
+-- ---- the cells that a change reaches, taken from the pages
+
+-- the cells of these ids are held, and no others
+abbrev pub HoldsCellsOf : List Held → List ℕ → Type 0
+HoldsCellsOf held ids = (id : ℕ) → is_cell_held held id ≡ list_any (λ i. i == id) ids
+
+-- the held cells are cells of the store, each once
+pub record AreCellsOf (cells : List Cell) (held : List Held) : Type 0 where
+  pub part : ArePart cells held
+  pub within : (id : ℕ) → is_cell_held held id ≡ true → (id ≢ 0) × (id < length cells)
+
+-- they are cells of some store, whose slot can change, with those of the object, of the old target and of the new one
+pub record AreReadyToChange (slots : ℕ) (held : List Held) (id slot target : ℕ) : Type 0 where
+  pub ids : ℕ
+  pub cells : List Cell
+  pub of : AreCellsOf cells held
+  pub can : CanChange slots ids cells id slot target
+  pub there : AllByRecursion (λ i. is_cell_held held i ≡ true) (object_and_targets cells id slot target)
+
+-- the same cells are held, and of whatever store they were cells, they are those of it after its slot was laid this pointer
+pub record AreRelinked (old new : List Held) (id slot : ℕ) (pointer : List Cell → Pointer) : Type 0 where
+  pub ids : (i : ℕ) → is_cell_held new i ≡ is_cell_held old i
+  pub of : (cells : List Cell) → AreCellsOf cells old → AreCellsOf (relinked cells id slot (pointer cells)) new
+
+-- the page of the id is held, and it has a mark
+pub record HasPlace {slots : ℕ} (held : List (HeldFrame slots)) (zeros : List Bool) (id : ℕ) : Type 0 where
+  pub above : 0 < id
+  pub small : id < 65536
+  pub page : is_held held (page_of_id id) ≡ true
+  pub mark : id < length zeros
