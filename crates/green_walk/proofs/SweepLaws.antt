@@ -21,12 +21,12 @@ slots-first [] [] id e = absurd (cc)
 slots-first [] (y ∷ ys) id e = absurd (cc)
 slots-first (x ∷ xs) ys id e = (xs, cc)
 
-free-first : (xs ys : List ℕ) (id : ℕ) → first_of xs ys ≡ Free id → (xs ≡ []) × (rest : List ℕ) × (ys ≡ id ∷ rest)
+pub free-first : (xs ys : List ℕ) (id : ℕ) → first_of xs ys ≡ Free id → (xs ≡ []) × (rest : List ℕ) × (ys ≡ id ∷ rest)
 free-first [] [] id e = absurd (cc)
 free-first [] (y ∷ ys) id e = (refl, ys, cc)
 free-first (x ∷ xs) ys id e = absurd (cc)
 
-drop-some : (n : ℕ) (xs : List ℕ) (x : ℕ) (rest : List ℕ) → drop n xs ≡ x ∷ rest → (n < length xs) × (get_or xs n 0 ≡ x) × (drop (n + 1) xs ≡ rest)
+pub drop-some : (n : ℕ) (xs : List ℕ) (x : ℕ) (rest : List ℕ) → drop n xs ≡ x ∷ rest → (n < length xs) × (get_or xs n 0 ≡ x) × (drop (n + 1) xs ≡ rest)
 drop-some n xs x rest e =
     let l = length-drop n xs in
     let s : length (drop n xs) ≡ suc (length rest) = ap length e in

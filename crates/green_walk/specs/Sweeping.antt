@@ -17,6 +17,10 @@ pub record Sweeping : Type 0 where
   -- the greatest id
   pub limit : ℕ
 
+-- those that may still hold a reference
+abbrev pub unemptied : Sweeping → List ℕ
+unemptied s = drop s.emptied s.list
+
 -- those that weren't freed
 abbrev pub unfreed : Sweeping → List ℕ
 unfreed s = drop s.freed s.list
@@ -29,7 +33,7 @@ first_of [] [] = End
 
 -- what the sweep asks for next
 abbrev pub next : Sweeping → SweepAt
-next s = first_of (drop s.emptied s.list) (unfreed s)
+next s = first_of (unemptied s) (unfreed s)
 
 -- what may be answered: that a reference of the object was removed or none was left, or that the object was freed
 abbrev pub IsAnswer : SweepAt → Found → Type 0

@@ -1,6 +1,6 @@
 //! The sweep of the condemned objects.
-ghost use Rattle.std.specs.Prelude.{◌≡◌, ℕ, [], IfOk};
-ghost use Rattle.green_walk.specs.Sweeping.{IsSweep, IsAnswer, next, started, found};
+ghost use Rattle.std.specs.Prelude.{◌≡◌, ℕ, [], length, IfOk};
+ghost use Rattle.green_walk.specs.Sweeping.{IsSweep, IsAnswer, next, started, found, unemptied, unfreed};
 
 use crate::Memory;
 use crate::verdict::Verdict;
@@ -99,6 +99,20 @@ impl Sweep {
             };
         }
         SweepAt::End
+    }
+
+    /// How many of the condemned objects may still hold a reference.
+    pub fn unemptied(&self) -> u32
+        ensures { result ≡ length (unemptied self.now) }
+    {
+        (self.list.len() - self.emptied) as u32
+    }
+
+    /// How many of the condemned objects weren't freed.
+    pub fn unfreed(&self) -> u32
+        ensures { result ≡ length (unfreed self.now) }
+    {
+        (self.list.len() - self.freed) as u32
     }
 
     /// Takes the answer to what was asked for: a reference of the object was removed, or none was left; or

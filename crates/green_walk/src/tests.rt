@@ -151,6 +151,8 @@ fn what_is_condemned_is_emptied_and_then_freed(rt: HostRuntime) {
         SweepAt::Free { id: 2 },
         Found::Made { id: 2 },
     );
+    assert_eq!(rt; sweep.unemptied(), 0);
+    assert_eq!(rt; sweep.unfreed(), 1);
     step(
         &rt,
         &mut sweep,

@@ -48,6 +48,10 @@ has-filter p (y ∷ ys) x =
     by true e r = rw e (has-here y (filter p ys) ∙ sym (ap (λ b. b && true) (has-here y ys)))
     by false e r = rw e (r ∙ ap (λ b. has ys y && b) e ∙ and-false (has ys y) ∙ sym (and-false (has (y ∷ ys) y)))
 
+-- of a list, what its filter has is its filter
+pub filter-again : (p : ℕ → Bool) (xs : List ℕ) → filter (λ x. has (filter p xs) x) xs ≡ filter p xs
+filter-again p xs = filter-same (λ x. has (filter p xs) x) p xs (λ x m. has-filter p xs x ∙ ap (λ b. b && p x) m)
+
 pub filter-among : (p : ℕ → Bool) (xs : List ℕ) (x : ℕ) → Contains (filter p xs) x → Contains xs x
 filter-among p xs x m = Contains-has xs x (from_both (has xs x) (p x) (sym (has-filter p xs x) ∙ has-Contains (filter p xs) x m))
   where

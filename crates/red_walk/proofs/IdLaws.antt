@@ -53,7 +53,7 @@ kept-list ids capacity places limit k =
     record { within = k.within; once = once; most = most-of ids limit once k.within }
 
 -- what holds at each place holds after a push where it holds at the end
-at_push : (P : ℕ → ℕ → Type 0) (xs : List ℕ) (x : ℕ) → ((place : ℕ) → place < length xs → P place (get_or xs place 0)) → P (length xs) x → (place : ℕ) → place < length (xs ++ x ∷ []) → P place (get_or (xs ++ x ∷ []) place 0)
+pub at_push : (P : ℕ → ℕ → Type 0) (xs : List ℕ) (x : ℕ) → ((place : ℕ) → place < length xs → P place (get_or xs place 0)) → P (length xs) x → (place : ℕ) → place < length (xs ++ x ∷ []) → P place (get_or (xs ++ x ∷ []) place 0)
 at_push P xs x all here place l =
     below_more (λ k. P k (get_or (xs ++ x ∷ []) k 0)) (length xs)
     (λ k lk. subst (P k) (sym (get_or_append_left xs (x ∷ []) 0 k lk)) (all k lk))

@@ -5,3 +5,5 @@ pub mod Marks
 pub mod Pairs
 pub mod WalkLaws
 pub mod RoundLaws
+pub mod WorkLaws
+pub mod KeptLaws

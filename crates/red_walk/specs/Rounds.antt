@@ -1,13 +1,13 @@
 -- What a walk is to the round of a journal.
-use Rattle.std.specs.Prelude.{◌≡◌, ◌↔◌, ℕ, true, false, List, [], map, Some, Contains}
+use Rattle.std.specs.Prelude.{◌≡◌, ◌↔◌, ℕ, ◌<◌, ◌≤◌, true, false, List, [], map, Option, Some, Contains}
 use Rattle.cell_page.specs.declared.cell.Cell.{Cell}
 use Rattle.cell_page.specs.Stored.{cell_of}
-use Rattle.store_model.specs.Core.{Round}
+use Rattle.store_model.specs.Core.{Round, Copy}
 use Rattle.store_model.specs.Sound.{IsOnce}
 use Rattle.store_model.specs.Steps.{opened_round, with_listed, with_copy, IsTouched, IsQuiet, IsWithout}
 use Rattle.red_walk.specs.declared.red_at.RedAt.TheVariants.{Look, Copy as CopyOf, Verdict}
 use Rattle.red_walk.specs.Ids.{has}
-use Rattle.red_walk.specs.Walk.{Walk, IsWalk, next, opened, joined_by, moved, copied, touched_at, removed}
+use Rattle.red_walk.specs.Walk.{Walk, IsWalk, IsLook, next, opened, joined_by, moved, copied, touched_at, removed, work_left}
 use Rattle.red_walk.specs.Inside.{copy_of_seen}
 
 -- the round before its verdict
@@ -64,3 +64,39 @@ CopyLaw = (w : Walk) (id : ℕ) → next w ≡ CopyOf id → Contains w.list id
 -- at the verdict the whole list is copied
 abbrev pub VerdictLaw : Type 0
 VerdictLaw = (slots : ℕ) (w : Walk) → IsWalk slots w → next w ≡ Verdict → map (λ e. e.0) w.copies ≡ w.list
+
+-- each look leaves less work
+abbrev pub LookWorkLaw : Type 0
+LookWorkLaw = (slots : ℕ) (w : Walk) (id slot : ℕ) → IsWalk slots w → next w ≡ Look id slot → work_left slots (moved slots w) < work_left slots w
+
+-- each copy leaves less work
+abbrev pub CopyWorkLaw : Type 0
+CopyWorkLaw = (slots : ℕ) (w : Walk) (id : ℕ) (copy : Copy) → IsWalk slots w → next w ≡ CopyOf id → work_left slots (copied w id copy) < work_left slots w
+
+-- who joins was counted before
+abbrev pub JoinWorkLaw : Type 0
+JoinWorkLaw = (slots : ℕ) (w : Walk) (joins : Option ℕ) → work_left slots (joined_by w joins) ≡ work_left slots w
+
+-- a touch leaves the work as it was
+abbrev pub TouchWorkLaw : Type 0
+TouchWorkLaw = (slots : ℕ) (w : Walk) (id : ℕ) → work_left slots (touched_at w id) ≡ work_left slots w
+
+-- an object that is removed is still looked at and copied
+abbrev pub RemoveWorkLaw : Type 0
+RemoveWorkLaw = (slots : ℕ) (w : Walk) (id : ℕ) → work_left slots (removed w id) ≡ work_left slots w
+
+-- what holds of every walk holds after each of its changes
+abbrev pub MovedWalkLaw : Type 0
+MovedWalkLaw = (slots : ℕ) (w : Walk) → IsWalk slots w → IsWalk slots (moved slots w)
+
+abbrev pub JoinedWalkLaw : Type 0
+JoinedWalkLaw = (slots : ℕ) (w : Walk) (id : ℕ) → IsWalk slots w → IsLook (next w) → 1 ≤ id → id ≤ w.limit → has w.list id ≡ false → IsWalk slots (joined_by (moved slots w) (Some id))
+
+abbrev pub CopiedWalkLaw : Type 0
+CopiedWalkLaw = (slots : ℕ) (w : Walk) (id : ℕ) (copy : Copy) → IsWalk slots w → next w ≡ CopyOf id → IsWalk slots (copied w id copy)
+
+abbrev pub TouchedWalkLaw : Type 0
+TouchedWalkLaw = (slots : ℕ) (w : Walk) (id : ℕ) → IsWalk slots w → IsWalk slots (touched_at w id)
+
+abbrev pub RemovedWalkLaw : Type 0
+RemovedWalkLaw = (slots : ℕ) (w : Walk) (id : ℕ) → IsWalk slots w → IsWalk slots (removed w id)

@@ -1,5 +1,5 @@
 -- The red walk of a round.
-use Rattle.std.specs.Prelude.{◌≡◌, ℕ, ◌+◌, ◌<◌, Bool, ◌&&◌, ◌||◌, ◌==◌, nat_lt, List, [], ◌∷◌, ◌++◌, length, filter, map, take, drop, Option, Some, None, Contains, if◌then◌else◌}
+use Rattle.std.specs.Prelude.{◌≡◌, ℕ, ◌+◌, ◌-◌, ◌*◌, ◌<◌, Bool, ◌&&◌, ◌||◌, ◌==◌, nat_lt, List, [], ◌∷◌, ◌++◌, length, filter, map, take, drop, Option, Some, None, Contains, if◌then◌else◌}
 use Rattle.cell_page.specs.Format.{IsSlotCount}
 use Rattle.store_model.specs.Core.{Copy}
 use Rattle.red_walk.specs.declared.red_at.RedAt.{RedAt}
@@ -78,6 +78,12 @@ touched_at w id = if is_open w && has w.left id then record w { touched = filter
 -- an object leaves the round
 abbrev pub removed : Walk → ℕ → Walk
 removed w id = record w { left = without w.left id }
+
+-- ---- how much is left
+
+-- how many looks and copies may still be asked for: one look for each slot of each object, also of those that may still join, and one copy of each
+abbrev pub work_left : ℕ → Walk → ℕ
+work_left slots w = ((w.limit - w.place) * slots - w.slot) + (w.limit - length w.copies)
 
 -- ---- what holds
 

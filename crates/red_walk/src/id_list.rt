@@ -92,6 +92,13 @@ impl IdList {
         self.place(id).is_some()
     }
 
+    /// The greatest id that may join.
+    pub(crate) fn limit(&self) -> u32
+        ensures { result ≡ self.now.limit }
+    {
+        self.limit
+    }
+
     /// The ids, of which there are at most as many as the limit. None stands there twice.
     pub fn ids(&self) -> &[u32]
         ensures ids { result.now ≡ self.now.ids }

@@ -1,9 +1,9 @@
 //! The red walk.
-ghost use Rattle.std.specs.Prelude.{◌≡◌, ℕ, ◌+◌, ◌<◌, ◌≤◌, [], ◌∷◌, ◌++◌, length, slice_index, slice_index_or, vec_len, vec_capacity, true, false, IfOk, IfSome, Some};
+ghost use Rattle.std.specs.Prelude.{◌≡◌, ℕ, ◌+◌, ◌<◌, ◌≤◌, [], ◌∷◌, ◌++◌, length, filter, slice_index, slice_index_or, vec_len, vec_capacity, true, false, IfOk, IfSome, Some};
 ghost use Rattle.cell_page.specs.Format.{IsSlotCount};
 ghost use Rattle.store_model.specs.Core.{Copy};
 ghost use Rattle.red_walk.specs.Ids.{has};
-ghost use Rattle.red_walk.specs.Walk.{IsWalk, IsLook, next, closed, opened, joined, joined_by, moved, copied, touched_at, removed};
+ghost use Rattle.red_walk.specs.Walk.{IsWalk, IsLook, next, closed, opened, joined, joined_by, moved, copied, touched_at, removed, work_left};
 ghost use Rattle.red_walk.specs.Inside.{copy_of_seen};
 
 use crate::Memory;
@@ -175,6 +175,7 @@ impl<const SLOTS: usize> Red<SLOTS> {
     /// The objects in the order in which they joined, with those that were removed.
     pub fn list(&self) -> &[u32]
         ensures ids { result.now ≡ self.now.list }
+        ensures left { filter (λ id. has self.now.left id) result.now ≡ self.now.left }
         ensures sound { IsWalk SLOTS self.now }
     {
         self.list.ids()
@@ -202,6 +203,17 @@ impl<const SLOTS: usize> Red<SLOTS> {
         ensures { result ≡ length self.now.left }
     {
         self.list.ids().len() as u32 - self.gone
+    }
+
+    /// How many looks and copies the walk may still ask for, if every id joins that may.
+    pub fn work_left(&self) -> u64
+        requires { self.now.limit < 65536 }
+        ensures exact { result ≡ work_left SLOTS self.now }
+        ensures sound { IsWalk SLOTS self.now }
+    {
+        let limit = self.list.limit() as u64;
+        let slots = (limit - self.place as u64) * SLOTS as u64;
+        slots.saturating_sub(self.slot as u64) + (limit - self.copies.len() as u64)
     }
 
     /// Whether the object at a place of the list is touched.

@@ -37,6 +37,7 @@ fn slots_are_looked_at_in_order(rt: HostRuntime) {
     assert_eq!(rt; red.at(), RedAt::Verdict);
     red.start(3);
     assert_eq!(rt; red.at(), RedAt::Look { id: 3, slot: 0 });
+    assert_eq!(rt; red.work_left(), 56);
     red.weakened(Some(5));
     assert_eq!(rt; red.at(), RedAt::Look { id: 3, slot: 1 });
     red.weakened(None);

@@ -13,7 +13,9 @@ pub enum Kind {
 
 /// An entry of the temporary reference table: the object's id, and what the client did with it.
 #[derive(Clone, Copy, PartialEq, Eq, Debug)]
-pub(crate) struct TempRef {
-    pub(crate) target: u32,
-    pub(crate) kind: Kind,
+pub struct TempRef {
+    /// The object's id.
+    pub target: u32,
+    /// What the client did with it.
+    pub kind: Kind,
 }

@@ -11,7 +11,7 @@ mod lists;
 mod temp_refs;
 mod zero_queue;
 
-pub use kind::Kind;
+pub use kind::{Kind, TempRef};
 pub use temp_refs::TempRefs;
 pub use zero_queue::ZeroQueue;
 

@@ -89,6 +89,13 @@ impl TempRefs {
         counts::get(&self.counts, id) > 0
     }
 
+    /// The client's entries, in the order in which they were added.
+    pub fn entries(&self, pass: u8) -> &[TempRef]
+        ensures { result.now ≡ entries_of self.now pass }
+    {
+        lists::list(&self.lists, pass)
+    }
+
     /// The target of the client's entry at this place among its own, counted from 0, and `None`
     /// exactly where there is no such entry.
     pub fn target(&self, pass: u8, place: u32) -> Option<u32>

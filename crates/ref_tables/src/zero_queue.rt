@@ -112,11 +112,13 @@ impl ZeroQueue {
         }
     }
 
-    /// How many ids the queue has. No id is in it twice, and each is within the limits.
+    /// How many ids the queue has. No id is in it twice, each is within the limits, and so there are no more of them than
+    /// the limit.
     pub fn len(&self) -> u32
         ensures length { result ≡ length self.now.ids }
         ensures once { IsQueue self.now.ids }
         ensures within { AreWithin self.now.ids self.now.limit }
+        ensures few { result ≤ self.now.limit }
     {
         self.order.len() as u32
     }
