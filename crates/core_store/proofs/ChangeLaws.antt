@@ -1,5 +1,5 @@
 -- One client's transaction changes, or begins; or it ends.
-use Rattle.std.proofs.Common.{◌≡◌, ◌≢◌, ℕ, List, Bool, true, false, sym, ap, ◌∙◌, subst, Option, Some, None, ⊎_elim, map}
+use Rattle.std.proofs.Common.{◌≡◌, ◌≢◌, ℕ, true, sym, ap, ◌∙◌, subst, Some, ⊎_elim, map}
 use Rattle.std.specs.Prelude.{Contains}
 use Rattle.std.specs.List.{list_any}
 use Rattle.std.specs.Ordering.{nat_cmp}
@@ -7,16 +7,17 @@ use Rattle.std.specs.BTreeMap.{is_at}
 use Rattle.plain_model.specs.declared.write.Write.{Write}
 use Rattle.plain_model.specs.ActiveTransaction.{ActiveTransaction}
 use Rattle.plain_model.specs.Machine.{State, transaction_of, is_among}
-use Rattle.plain_model.specs.History.{Moment}
 use Rattle.plain_laws.proofs.Entries.{same_or_apart}
 use Rattle.strict_locks.specs.Locks.{holders_of, is_owner, is_sharer}
-use Rattle.store_model.specs.Cells.{Cell, is_live}
-use Rattle.store_model.specs.SoundCells.{IsSoundCells}
+use Rattle.store_model.specs.Cells.{is_live}
+use Rattle.store_model.specs.Core.{Core}
+use Rattle.store_model.specs.Sound.{IsSound}
 use Rattle.core_store.specs.Changes.{has_no_strong}
 use Rattle.core_store.specs.Transactions.{Running, running_at}
 use Rattle.core_store.specs.Tables.{TablesView}
 use Rattle.core_store.proofs.LayLaws.{CanLay-later}
 use Rattle.core_store.proofs.MapLaws.{same_running}
+use Rattle.core_store.proofs.RestLaws.{HasRest}
 use Rattle.core_store.specs.Stands.{IsRunning, CanLay, Matches, owns_in, shares_in, is_free, Stands}
 
 -- from v to w and from the state s to z, this client's transaction alone changes, and becomes u; the committed graph stays
@@ -37,54 +38,60 @@ pub record Changes (slots : ℕ) (v w : TablesView) (s z : State) (undone after 
   pub graph : z.committed ≡ s.committed
   pub free : (id : ℕ) → list_any (is_at (nat_cmp id)) w.free ≡ is_free z id
 
-module _ (slots : ℕ) (v w : TablesView) (cells later : List Cell) (m n : Moment) (z : State) (pass : ℕ) (kept : Running) (u : ActiveTransaction) (h : Stands slots v cells m) (c : Changes slots v w m.state z m.undone n.undone pass kept u)
-    (state_is : n.state ≡ z) (zeros : w.zeros ≡ map has_no_strong later) (sound : IsSoundCells later n)
-    (alive : (x : ℕ) → is_live cells x ≡ true → is_live later x ≡ true) (lays : (x : Write) → Contains kept.replaced x → CanLay slots later x) where
-  restorable : (q : ℕ) (kept2 : Running) → running_at w.transactions q ≡ Some kept2 → (x : Write) → Contains kept2.replaced x → CanLay slots later x
+module _ (slots : ℕ) (v w : TablesView) (c d : Core) (z : State) (pass : ℕ) (kept : Running) (u : ActiveTransaction) (h : Stands slots v c) (changes : Changes slots v w c.moment.state z c.moment.undone d.moment.undone pass kept u)
+    (state_is : d.moment.state ≡ z) (zeros : w.zeros ≡ map has_no_strong d.cells) (sound : IsSound d)
+    (alive : (x : ℕ) → is_live c.cells x ≡ true → is_live d.cells x ≡ true) (lays : (x : Write) → Contains kept.replaced x → CanLay slots d.cells x) (rest : HasRest slots w d) where
+  restorable : (q : ℕ) (kept2 : Running) → running_at w.transactions q ≡ Some kept2 → (x : Write) → Contains kept2.replaced x → CanLay slots d.cells x
   restorable q kept2 f x k =
       ⊎_elim
-      (λ (e : q ≡ pass). lays x (subst (λ (y : Running). Contains y.replaced x) (same_running (running_at w.transactions pass) kept2 kept (subst (λ p. running_at w.transactions p ≡ Some kept2) e f) c.here) k))
-      (λ (d : q ≢ pass). CanLay-later slots cells later alive x (h.restorable q kept2 (sym (c.others q d) ∙ f) x k))
+      (λ (e : q ≡ pass). lays x (subst (λ (y : Running). Contains y.replaced x) (same_running (running_at w.transactions pass) kept2 kept (subst (λ p. running_at w.transactions p ≡ Some kept2) e f) changes.here) k))
+      (λ (n : q ≢ pass). CanLay-later slots c.cells d.cells alive x (h.restorable q kept2 (sym (changes.others q n) ∙ f) x k))
       (same_or_apart q pass)
 
-  running : (q : ℕ) → Matches slots m.state.committed (running_at w.transactions q) (transaction_of z q) (n.undone q)
+  running : (q : ℕ) → Matches slots c.moment.state.committed (running_at w.transactions q) (transaction_of z q) (d.moment.undone q)
   running q =
       ⊎_elim
-      (λ (e : q ≡ pass). subst (λ p. Matches slots m.state.committed (running_at w.transactions p) (transaction_of z p) (n.undone p)) (sym e)
-      (subst (λ o. Matches slots m.state.committed o (transaction_of z pass) (n.undone pass)) (sym c.here)
-      (subst (λ o. Matches slots m.state.committed (Some kept) o (n.undone pass)) (sym c.state_here) c.runs)))
-      (λ (d : q ≢ pass).
-      subst (λ o. Matches slots m.state.committed o (transaction_of z q) (n.undone q)) (sym (c.others q d))
-      (subst (λ o. Matches slots m.state.committed (running_at v.transactions q) o (n.undone q)) (sym (c.state_others q d))
-      (subst (λ k. Matches slots m.state.committed (running_at v.transactions q) (transaction_of m.state q) k) (sym (c.undone_others q d)) (h.running q))))
+      (λ (e : q ≡ pass). subst (λ p. Matches slots c.moment.state.committed (running_at w.transactions p) (transaction_of z p) (d.moment.undone p)) (sym e)
+      (subst (λ o. Matches slots c.moment.state.committed o (transaction_of z pass) (d.moment.undone pass)) (sym changes.here)
+      (subst (λ o. Matches slots c.moment.state.committed (Some kept) o (d.moment.undone pass)) (sym changes.state_here) changes.runs)))
+      (λ (n : q ≢ pass).
+      subst (λ o. Matches slots c.moment.state.committed o (transaction_of z q) (d.moment.undone q)) (sym (changes.others q n))
+      (subst (λ o. Matches slots c.moment.state.committed (running_at v.transactions q) o (d.moment.undone q)) (sym (changes.state_others q n))
+      (subst (λ k. Matches slots c.moment.state.committed (running_at v.transactions q) (transaction_of c.moment.state q) k) (sym (changes.undone_others q n)) (h.running q))))
       (same_or_apart q pass)
 
   owners : (id q : ℕ) → is_owner (holders_of w.locks id) q ≡ owns_in (transaction_of z q) id
   owners id q =
       ⊎_elim
-      (λ (e : q ≡ pass). subst (λ p. is_owner (holders_of w.locks id) p ≡ owns_in (transaction_of z p) id) (sym e) (c.owner id ∙ ap (λ o. owns_in o id) (sym c.state_here)))
-      (λ (d : q ≢ pass). c.other_owners id q d ∙ (h.owners id q ∙ ap (λ o. owns_in o id) (sym (c.state_others q d))))
+      (λ (e : q ≡ pass). subst (λ p. is_owner (holders_of w.locks id) p ≡ owns_in (transaction_of z p) id) (sym e) (changes.owner id ∙ ap (λ o. owns_in o id) (sym changes.state_here)))
+      (λ (n : q ≢ pass). changes.other_owners id q n ∙ (h.owners id q ∙ ap (λ o. owns_in o id) (sym (changes.state_others q n))))
       (same_or_apart q pass)
 
   sharers : (id q : ℕ) → is_sharer (holders_of w.locks id) q ≡ shares_in (transaction_of z q) id
   sharers id q =
       ⊎_elim
-      (λ (e : q ≡ pass). subst (λ p. is_sharer (holders_of w.locks id) p ≡ shares_in (transaction_of z p) id) (sym e) (c.sharer id ∙ ap (λ o. shares_in o id) (sym c.state_here)))
-      (λ (d : q ≢ pass). c.other_sharers id q d ∙ (h.sharers id q ∙ ap (λ o. shares_in o id) (sym (c.state_others q d))))
+      (λ (e : q ≡ pass). subst (λ p. is_sharer (holders_of w.locks id) p ≡ shares_in (transaction_of z p) id) (sym e) (changes.sharer id ∙ ap (λ o. shares_in o id) (sym changes.state_here)))
+      (λ (n : q ≢ pass). changes.other_sharers id q n ∙ (h.sharers id q ∙ ap (λ o. shares_in o id) (sym (changes.state_others q n))))
       (same_or_apart q pass)
 
-  pub Stands-change : Stands slots w later n
+  pub Stands-change : Stands slots w d
   Stands-change = record {
-    ids = ap (λ (s : State). s.ids) state_is ∙ (c.state_ids ∙ (h.ids ∙ sym c.same_ids));
-    few = rw c.same_ids h.few;
-    slots_are = ap (λ (s : State). s.slots) state_is ∙ (c.state_slots ∙ h.slots_are);
+    ids = ap (λ (s : State). s.ids) state_is ∙ (changes.state_ids ∙ (h.ids ∙ sym changes.same_ids));
+    few = rw changes.same_ids h.few;
+    slots_are = ap (λ (s : State). s.slots) state_is ∙ (changes.state_slots ∙ h.slots_are);
     counted = h.counted;
     sound = sound;
     restorable = restorable;
-    running = subst (λ (s : State). (q : ℕ) → Matches slots s.committed (running_at w.transactions q) (transaction_of s q) (n.undone q)) (sym state_is)
-        (λ q. subst (λ g. Matches slots g (running_at w.transactions q) (transaction_of z q) (n.undone q)) (sym c.graph) (running q));
+    running = subst (λ (s : State). (q : ℕ) → Matches slots s.committed (running_at w.transactions q) (transaction_of s q) (d.moment.undone q)) (sym state_is)
+        (λ q. subst (λ g. Matches slots g (running_at w.transactions q) (transaction_of z q) (d.moment.undone q)) (sym changes.graph) (running q));
     owners = subst (λ (s : State). (id q : ℕ) → is_owner (holders_of w.locks id) q ≡ owns_in (transaction_of s q) id) (sym state_is) owners;
     sharers = subst (λ (s : State). (id q : ℕ) → is_sharer (holders_of w.locks id) q ≡ shares_in (transaction_of s q) id) (sym state_is) sharers;
-    free = subst (λ (s : State). (id : ℕ) → list_any (is_at (nat_cmp id)) w.free ≡ is_free s id) (sym state_is) c.free;
+    free = subst (λ (s : State). (id : ℕ) → list_any (is_at (nat_cmp id)) w.free ≡ is_free s id) (sym state_is) changes.free;
     zeros = zeros;
+    references = rest.references;
+    queue = rest.queue;
+    round = rest.round;
+    in_step = rest.in_step;
+    emptied = rest.emptied;
+    owed = rest.owed;
   }

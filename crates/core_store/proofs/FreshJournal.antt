@@ -1,52 +1,62 @@
 -- A fresh journal is sound.
-use Rattle.std.proofs.Common.{◌≡◌, ◌≢◌, ℕ, suc, ◌+◌, ◌-◌, ◌*◌, ◌<◌, ◌≤◌, List, [], ◌∷◌, Bool, true, false, refl, sym, ap, ◌∙◌, subst, Option, Some, None, arith, length, map, ne_eqb, ⊎_elim}
-use Rattle.std.specs.Prelude.{◌==◌, ◌&&◌, nat_lt, nat_le, Contains, vec_len, vec_capacity}
-use Rattle.std.specs.List.{flat_map, list_any}
-use Rattle.std.specs.Ordering.{nat_cmp}
-use Rattle.std.specs.BTreeMap.{is_at}
+use Rattle.std.proofs.Common.{◌≡◌, ◌≢◌, ℕ, suc, ◌-◌, ◌*◌, ◌<◌, ◌≤◌, List, [], ◌∷◌, true, false, refl, sym, ap, ◌∙◌, subst, Some, None, arith, map, ne_eqb, ⊎_elim}
+use Rattle.std.specs.Prelude.{◌==◌}
+use Rattle.std.specs.List.{flat_map}
 use Rattle.plain_model.specs.declared.object.Object.{Object}
 use Rattle.plain_model.specs.Graphs.{root, blank, has_object}
-use Rattle.plain_model.specs.History.{History, Moment, IsId, end_of, is_stopped}
-use Rattle.plain_laws.specs.Sound.{IsSoundGraph}
+use Rattle.plain_model.specs.History.{IsId}
 use Rattle.plain_laws.proofs.Entries.{same_or_apart}
 use Rattle.plain_laws.proofs.Legal.{sound-root_proof}
 use Rattle.strict_locks.specs.Locks.{holders_of, is_owner, is_sharer}
 use Rattle.cell_page.specs.Format.{IsSlotCount}
 use Rattle.store_model.specs.Cells.{Cell}
-use Rattle.store_model.specs.Fresh.{fresh_cells, fresh_moment}
-use Rattle.store_model.proofs.FreshSound.{fresh-cells_sound}
+use Rattle.store_model.specs.Fresh.{fresh_cells, fresh_core}
+use Rattle.store_model.proofs.FreshSound.{fresh-cells_sound, fresh-sound}
 use Rattle.core_store.specs.declared.frame.Frame.{Frame}
+use Rattle.core_store.specs.declared.limits.Limits.{Limits}
+use Rattle.core_store.specs.declared.marks.Marks.{Marks}
 use Rattle.core_store.specs.declared.note.Note.{Note}
-use Rattle.core_store.specs.Changes.{has_no_strong}
 use Rattle.core_store.specs.Fresh.{fresh_history, store_of, graph_of, AreFresh}
-use Rattle.core_store.specs.JournalView.{JournalView, cells_of}
+use Rattle.core_store.specs.JournalView.{JournalView}
 use Rattle.core_store.specs.Journal.{Keeps}
 use Rattle.core_store.specs.Tables.{TablesView}
+use Rattle.core_store.specs.Limited.{AreLimits}
+use Rattle.core_store.specs.RoundView.{RoundView, Closed, round_of, IsInStep}
 use Rattle.core_store.specs.Transactions.{Running, running_at}
-use Rattle.core_store.specs.Stands.{Matches, CanLay, owns_in, shares_in, is_free, Stands}
+use Rattle.core_store.specs.Stands.{Matches, IsEmptied, Stands}
 use Rattle.core_store.specs.Steps.{IsFreshOf}
 use Rattle.core_store.proofs.FreshLaws.{fresh-cells, fresh-graph, fresh-marks, fresh-free_ids}
 
+-- no call was told anything
+abbrev pub no_marks : Marks
+no_marks = record { disk = false; trace = false; log = false }
+
 -- nothing has happened
-abbrev pub fresh_view : ℕ → ℕ → JournalView
-fresh_view slots more = record { history = fresh_history slots (suc more); opening = fresh_cells slots more; notes = [] }
+abbrev pub fresh_view : ℕ → ℕ → Limits → JournalView
+fresh_view slots more limits = record { history = fresh_history slots (suc more); opening = fresh_cells slots more; notes = []; limits = limits; marks = no_marks; queue = []; round = Closed }
 
 no_running : {X : Type 0} (ts : List (ℕ × Running)) (pass : ℕ) (kept : Running) → ts ≡ [] → running_at ts pass ≡ Some kept → X
 no_running ts pass kept none e = absurd (let f : None ≡ Some kept = sym (ap (λ ts. running_at ts pass) none) ∙ e in cc)
 
-fresh-stands : (slots more : ℕ) (v : TablesView) → IsSlotCount slots → suc more ≤ 8192 → IsFreshOf v (suc more) → Stands slots v (fresh_cells slots more) (fresh_moment slots more)
+pub fresh-stands : (slots more : ℕ) (v : TablesView) → IsSlotCount slots → suc more ≤ 8192 → IsFreshOf v (suc more) → Stands slots v (fresh_core slots more)
 fresh-stands slots more v count few f = record {
   ids = sym f.same_ids;
   few = rw f.same_ids few;
   slots_are = refl;
   counted = count;
-  sound = fresh-cells_sound slots more;
+  sound = fresh-sound slots more;
   running = λ pass. subst (λ ts. Matches slots (blank slots root ∷ []) (running_at ts pass) None 0) (sym f.transactions) tt;
   restorable = λ pass kept e. no_running v.transactions pass kept f.transactions e;
   owners = λ id pass. ap (λ t. is_owner (holders_of t id) pass) f.locks;
   sharers = λ id pass. ap (λ t. is_sharer (holders_of t id) pass) f.locks;
   free = λ id. f.free id ∙ sym (fresh-free_ids slots more id);
   zeros = f.zeros more (omega arith) ∙ sym (fresh-marks slots more);
+  references = f.references;
+  queue = f.queue;
+  round = ap round_of f.round;
+  in_step = subst (λ r. IsInStep slots v.ids r) (sym f.round) tt;
+  emptied = subst (λ r. IsEmptied (fresh_cells slots more) r) (sym f.round) tt;
+  owed = f.owed;
 }
 
 root-alone : (slots ids id : ℕ) → 0 < ids → has_object (blank slots root ∷ []) id ≡ true → IsId ids id
@@ -59,8 +69,8 @@ root-alone slots ids id some e =
     none : (1 == id) ≡ false → ⊥
     none f = let g = rw f at e in cc
 
-fresh-keeps : (slots more : ℕ) (v : TablesView) → IsSlotCount slots → suc more ≤ 8192 → IsFreshOf v (suc more) → Keeps (fresh_view slots more) v
-fresh-keeps slots more v count few f = record {
+fresh-keeps : (slots more : ℕ) (limits : Limits) (v : TablesView) → IsSlotCount slots → suc more ≤ 8192 → AreLimits limits → IsFreshOf v (suc more) → Keeps (fresh_view slots more limits) v
+fresh-keeps slots more limits v count few limited f = record {
   legal = tt;
   running = refl;
   opened = sound-root_proof slots;
@@ -70,20 +80,34 @@ fresh-keeps slots more v count few f = record {
   fit = tt;
   laid = tt;
   stands = fresh-stands slots more v count few f;
+  led = refl;
+  left = omega arith;
+  limits = limited;
+  counted = omega arith;
+  full = λ e. absurd (cc);
+  unmarked = (refl, refl);
 }
+
+-- what a journal keeps that has these ids, cells, notes, queue and round
+abbrev pub seen_of : ℕ → ℕ → List Cell → List Note → Limits → List ℕ → RoundView → JournalView
+seen_of slots ids cells notes limits queue round =
+    record { history = record { ids = ids; slots = slots; opening = graph_of cells; entries = map (λ n. n.entry) notes }; opening = cells; notes = notes; limits = limits; marks = no_marks; queue = queue; round = round }
 
 -- the journal over the cells of fresh frames
 module _ {slots : ℕ} (pages : ℕ) (frames : List (Frame slots)) (fresh : AreFresh pages frames) (above : 0 < pages) where
-  pub opening-is : (ids : ℕ) (notes : List Note) → ids ≡ 8 * pages → notes ≡ []
-      → (let j : JournalView = record { history = record { ids = ids; slots = slots; opening = graph_of (store_of (flat_map (λ f. f.page) frames)); entries = map (λ n. n.entry) notes }; opening = store_of (flat_map (λ f. f.page) frames); notes = notes } in j ≡ fresh_view slots (8 * pages - 1))
-  opening-is ids notes i n =
+  pub opening-is : (ids : ℕ) (notes : List Note) (limits : Limits) (queue : List ℕ) (round : RoundView) → ids ≡ 8 * pages → notes ≡ [] → queue ≡ [] → round ≡ Closed
+      → seen_of slots ids (store_of (flat_map (λ f. f.page) frames)) notes limits queue round ≡ fresh_view slots (8 * pages - 1) limits
+  opening-is ids notes limits queue round i n q r =
       let more : suc (8 * pages - 1) ≡ 8 * pages = omega (arith, above) in
-      ap (λ (cells : List Cell). let j : JournalView = record { history = record { ids = ids; slots = slots; opening = graph_of cells; entries = map (λ n. n.entry) notes }; opening = cells; notes = notes } in j) (fresh-cells pages frames fresh above)
-      ∙ (ap (λ (g : List Object). let j : JournalView = record { history = record { ids = ids; slots = slots; opening = g; entries = map (λ n. n.entry) notes }; opening = fresh_cells slots (8 * pages - 1); notes = notes } in j) (fresh-graph slots (8 * pages - 1))
-      ∙ (ap (λ k. let j : JournalView = record { history = record { ids = k; slots = slots; opening = blank slots root ∷ []; entries = map (λ n. n.entry) notes }; opening = fresh_cells slots (8 * pages - 1); notes = notes } in j) (i ∙ sym more)
-      ∙ ap (λ (ns : List Note). let j : JournalView = record { history = record { ids = suc (8 * pages - 1); slots = slots; opening = blank slots root ∷ []; entries = map (λ n. n.entry) ns }; opening = fresh_cells slots (8 * pages - 1); notes = ns } in j) n))
+      let cells = fresh_cells slots (8 * pages - 1) in
+      ap (λ (cs : List Cell). seen_of slots ids cs notes limits queue round) (fresh-cells pages frames fresh above)
+      ∙ (ap (λ (ns : List Note). seen_of slots ids cells ns limits queue round) n
+      ∙ (ap (λ (k : List ℕ). seen_of slots ids cells [] limits k round) q
+      ∙ (ap (λ (k : RoundView). seen_of slots ids cells [] limits [] k) r
+      ∙ (ap (λ (k : ℕ). seen_of slots k cells [] limits [] Closed) (i ∙ sym more)
+      ∙ ap (λ (g : List Object). let j : JournalView = record (fresh_view slots (8 * pages - 1) limits) { history = record { ids = suc (8 * pages - 1); slots = slots; opening = g; entries = [] } } in j) (fresh-graph slots (8 * pages - 1))))))
 
-  pub keeps-fresh : (v : TablesView) → IsSlotCount slots → pages ≤ 1024 → IsFreshOf v (8 * pages) → Keeps (fresh_view slots (8 * pages - 1)) v
-  keeps-fresh v count most f =
+  pub keeps-fresh : (limits : Limits) (v : TablesView) → IsSlotCount slots → pages ≤ 1024 → AreLimits limits → IsFreshOf v (8 * pages) → Keeps (fresh_view slots (8 * pages - 1) limits) v
+  keeps-fresh limits v count most limited f =
       let more : suc (8 * pages - 1) ≡ 8 * pages = omega (arith, above) in
-      fresh-keeps slots (8 * pages - 1) v count (omega (arith, most, above)) (subst (IsFreshOf v) (sym more) f)
+      fresh-keeps slots (8 * pages - 1) limits v count (omega (arith, most, above)) limited (subst (IsFreshOf v) (sym more) f)

@@ -1,5 +1,5 @@
 -- What a write replaced can be laid again.
-use Rattle.std.proofs.Common.{◌≡◌, ◌≢◌, ℕ, ◌<◌, List, [], ◌∷◌, ◌++◌, true, sym, ap, ◌∙◌, ◌-◌, length, get_or, arith}
+use Rattle.std.proofs.Common.{◌≡◌, ℕ, List, [], ◌∷◌, true, sym, ap, ◌∙◌, ◌-◌, length, get_or, arith}
 use Rattle.std.specs.Prelude.{Contains}
 use Rattle.plain_model.specs.declared.write.Place.{Place}
 use Rattle.plain_model.specs.declared.write.Place.TheVariants.{Slot, Payload, Whole}

@@ -1,13 +1,12 @@
 -- The locks after a client shares an object, or owns it.
-use Rattle.std.proofs.Common.{◌≡◌, ◌≢◌, ℕ, List, Bool, true, false, refl, sym, ap, ◌∙◌, subst, Option, Some, None, inl, inr, ⊎_elim, ne_eqb}
-use Rattle.std.specs.Prelude.{◌==◌, ◌||◌}
+use Rattle.std.proofs.Common.{◌≡◌, ◌≢◌, ℕ, List, Bool, true, false, refl, sym, ap, ◌∙◌, subst, Some, ⊎_elim, ne_eqb}
+use Rattle.std.specs.Prelude.{◌||◌}
 use Rattle.plain_model.specs.ActiveTransaction.{ActiveTransaction}
-use Rattle.plain_model.specs.Machine.{State, transaction_of, with_id, is_among}
-use Rattle.plain_model.specs.History.{Moment, holds}
+use Rattle.plain_model.specs.Machine.{transaction_of, with_id, is_among}
 use Rattle.plain_laws.proofs.Entries.{same_or_apart}
 use Rattle.plain_laws.proofs.Ids.{test_same, or_left, among-added_same, among-added_more, among-added_cases}
-use Rattle.strict_locks.specs.Locks.{Table, holders_of, is_owner, is_sharer, is_holder, StandsInWayOfOwn, Nobody, AddsShare, AddsOwner}
-use Rattle.store_model.specs.Cells.{Cell}
+use Rattle.strict_locks.specs.Locks.{Table, holders_of, is_owner, is_sharer, StandsInWayOfOwn, Nobody, AddsShare, AddsOwner}
+use Rattle.store_model.specs.Core.{Core}
 use Rattle.core_store.specs.Tables.{TablesView}
 use Rattle.core_store.specs.Stands.{owns_in, shares_in, Stands}
 
@@ -38,7 +37,7 @@ pub record Locked (old new : Table) (pass : ℕ) (u : ActiveTransaction) : Type 
   pub sharer : (id : ℕ) → is_sharer (holders_of new id) pass ≡ is_among id u.shared
   pub other_sharers : (id q : ℕ) → q ≢ pass → is_sharer (holders_of new id) q ≡ is_sharer (holders_of old id) q
 
-module _ (slots : ℕ) (v : TablesView) (cells : List Cell) (m : Moment) (h : Stands slots v cells m) (pass : ℕ) (t u : ActiveTransaction) (found : transaction_of m.state pass ≡ Some t) where
+module _ (slots : ℕ) (v : TablesView) (c : Core) (h : Stands slots v c) (pass : ℕ) (t u : ActiveTransaction) (found : transaction_of c.moment.state pass ≡ Some t) where
   own : (x : ℕ) → is_owner (holders_of v.locks x) pass ≡ is_among x t.owned
   own x = h.owners x pass ∙ ap (λ o. owns_in o x) found
 

@@ -1,5 +1,5 @@
 -- A transaction makes an object.
-use Rattle.std.proofs.Common.{◌≡◌, ◌≢◌, ℕ, ◌+◌, ◌<◌, List, [], ◌∷◌, ◌++◌, Bool, true, false, cond, refl, sym, ap, ◌∙◌, subst, Option, Some, None, arith, ⊎_elim, length, map}
+use Rattle.std.proofs.Common.{◌≡◌, ◌≢◌, ℕ, ◌+◌, ◌<◌, List, [], ◌∷◌, ◌++◌, Bool, true, false, cond, refl, sym, ap, ◌∙◌, subst, Option, Some, arith, ⊎_elim, length, map, zero, suc, get_or, replicate}
 use Rattle.std.specs.Prelude.{◌==◌, ◌&&◌, ◌||◌, not, nat_lt, nat_le, count_by, slice_set, unwrap_or}
 use Rattle.std.specs.List.{list_any}
 use Rattle.std.specs.Ordering.{nat_cmp}
@@ -11,30 +11,36 @@ use Rattle.plain_model.specs.declared.calls.Entry.TheVariants.{Call}
 use Rattle.plain_model.specs.declared.calls.Reply.{Reply}
 use Rattle.plain_model.specs.declared.calls.Reply.TheVariants.{Id}
 use Rattle.plain_model.specs.ActiveTransaction.{ActiveTransaction}
-use Rattle.plain_model.specs.Machine.{State, transaction_of, with_register, with_owned, with_write, made, free_id, is_stored, step}
-use Rattle.plain_model.specs.History.{Moment, next, can_be_undone}
+use Rattle.plain_model.specs.Machine.{State, with_register, with_owned, with_write, made, free_id, is_stored}
+use Rattle.plain_model.specs.History.{next, can_be_undone}
 use Rattle.plain_laws.proofs.Entries.{same_or_apart}
 use Rattle.plain_laws.proofs.Ids.{at_eq}
 use Rattle.store_model.proofs.EditLaws.{there, edit-here, edit-none, edit-other}
 use Rattle.core_store.proofs.LayLaws.{CanLay-later}
 use Rattle.plain_laws.proofs.Locks.{transaction_of-with_same, transaction_of-with_other, stored-insert}
 use Rattle.strict_locks.specs.Locks.{Table, holders_of, StandsInWayOfOwn, Nobody, AddsOwner}
-use Rattle.log_record.specs.declared.cell_record.CellRecord.{CellRecord}
 use Rattle.log_record.specs.declared.cell_record.CellRecord.TheVariants as logs
-use Rattle.store_model.specs.Cells.{Cell, edit, blank_cell, is_live}
+use Rattle.store_model.specs.Cells.{Cell, edit, blank_cell, is_live, null, pointer_in, pointer_at}
+use Rattle.store_model.specs.Core.{Core, Made}
+use Rattle.store_model.specs.Sound.{IsSound}
 use Rattle.store_model.proofs.CallLaws.{call-granted}
-use Rattle.store_model.proofs.CallCells.{make-call_cells}
+use Rattle.store_model.proofs.CallSound.{make-call}
 use Rattle.core_store.specs.declared.three.HeldFrame.{HeldFrame}
 use Rattle.core_store.specs.Changes.{has_no_strong}
+use Rattle.core_store.specs.Events.{after_event}
 use Rattle.core_store.specs.Frames.{Agree, IsSameElsewhere}
+use Rattle.core_store.specs.References.{named_by}
 use Rattle.core_store.specs.Replaced.{replaced}
 use Rattle.core_store.specs.Transactions.{Running, loaded}
 use Rattle.core_store.specs.Tables.{TablesView, changed_at}
-use Rattle.core_store.specs.Stands.{IsRunning, is_free, Stands, Answers}
+use Rattle.core_store.specs.Stands.{IsRunning, Stands, Answers}
 use Rattle.core_store.proofs.ChangeLaws.{Stands-change}
 use Rattle.core_store.proofs.LockChanges.{Locked-own}
 use Rattle.core_store.proofs.StepLaws.{Serves, logged-granted, after-granted}
 use Rattle.core_store.proofs.MapLaws.{puts-changed}
+use Rattle.core_store.proofs.NameLaws.{named_more, named_more-same, named_by-noted}
+use Rattle.core_store.proofs.OwedSteps.{owed-changed}
+use Rattle.core_store.proofs.RestLaws.{HasRest-with, round-same, sound-untouched}
 use Rattle.core_store.proofs.ReplacedLaws.{replaced-push, replaced_by-whole, count-push}
 
 shift : (a p q r : Bool) → (not a && ((p && q) && not r)) ≡ ((p && q) && not (a || r))
@@ -71,40 +77,63 @@ alive-made cells id slots x e =
     (λ (d : x ≢ id). ap (λ (c : Cell). c.live) (edit-other cells id x (λ _. blank_cell true slots) d) ∙ e)
     (same_or_apart x id)
 
-pub answers-make : (slots : ℕ) (v : TablesView) (cells : List Cell) (m : Moment) (held new : List (HeldFrame slots)) (h : Stands slots v cells m) (locks : Table) (free : List ℕ) (pass into id : ℕ) (kept : Running) (t : ActiveTransaction)
-    → AddsOwner v.locks locks pass id → Nobody (StandsInWayOfOwn (holders_of v.locks id) pass) → Serves slots v m pass (Make into) kept t → unwrap_or (free_id m.state) 0 ≡ id
-    → ((k : ℕ) → list_any (is_at (nat_cmp k)) free ≡ (not (k == id) && list_any (is_at (nat_cmp k)) v.free))
-    → Agree (edit cells id (λ _. blank_cell true slots)) new → IsSameElsewhere cells (edit cells id (λ _. blank_cell true slots)) held → v.zeros ≡ map has_no_strong (edit cells id (λ _. blank_cell true slots))
-    → Answers slots (record v { free = free; locks = locks; transactions = changed_at pass (loaded into (Some id)) v.transactions }) cells m held new pass (Make into) (Id id) (Some (logs.Make pass id))
-answers-make slots v cells m held new h locks free pass into id kept t adds nobody s is removed agree elsewhere marked =
-    let w : TablesView = record v { free = free; locks = locks; transactions = changed_at pass (loaded into (Some id)) v.transactions } in
+-- the slots of a cell that is made are null, and the others stay
+null-made : (cells : List Cell) (id slots x k : ℕ) → (pointer_at cells x k).target ≡ 0 → (pointer_at (edit cells id (λ _. blank_cell true slots)) x k).target ≡ 0
+null-made cells id slots x k e =
+    ⊎_elim
+    (λ (a : x ≡ id). ⊎_elim
+    (λ (b : (id ≢ 0) × (id < length cells)). subst (λ y. (pointer_at (edit cells id (λ _. blank_cell true slots)) y k).target ≡ 0) (sym a) (ap (λ (c : Cell). (pointer_in c k).target) (edit-here cells id (λ _. blank_cell true slots) b.0 b.1) ∙ nulls slots k))
+    (λ b. ap (λ (cs : List Cell). (pointer_at cs x k).target) (edit-none cells id (λ _. blank_cell true slots) b) ∙ e)
+    (there cells id))
+    (λ (d : x ≢ id). ap (λ (c : Cell). (pointer_in c k).target) (edit-other cells id x (λ _. blank_cell true slots) d) ∙ e)
+    (same_or_apart x id)
+  where
+    nulls : (n k : ℕ) → (get_or (replicate n null) k null).target ≡ 0
+    nulls zero k = refl
+    nulls (suc n) zero = refl
+    nulls (suc n) (suc k) = nulls n k
+
+pub answers-make : (slots : ℕ) (v : TablesView) (c : Core) (held new : List (HeldFrame slots)) (h : Stands slots v c) (locks : Table) (free : List ℕ) (references : ℕ → List ℕ) (pass into id : ℕ) (kept : Running) (t : ActiveTransaction)
+    → AddsOwner v.locks locks pass id → Nobody (StandsInWayOfOwn (holders_of v.locks id) pass) → Serves slots v c.moment pass (Make into) kept t → unwrap_or (free_id c.moment.state) 0 ≡ id → id ≢ 0
+    → ((k : ℕ) → list_any (is_at (nat_cmp k)) free ≡ (not (k == id) && list_any (is_at (nat_cmp k)) v.free)) → ((p : ℕ) → references p ≡ named_more v.references pass id p)
+    → Agree (edit c.cells id (λ _. blank_cell true slots)) new → IsSameElsewhere c.cells (edit c.cells id (λ _. blank_cell true slots)) held → v.zeros ≡ map has_no_strong (edit c.cells id (λ _. blank_cell true slots))
+    → Answers slots (record v { free = free; locks = locks; transactions = changed_at pass (loaded into (Some id)) v.transactions; references = references }) c held new pass (Make into) (Id id) (Some (logs.Make pass id))
+answers-make slots v c held new h locks free references pass into id kept t adds nobody s is some removed noted agree elsewhere marked =
+    let w : TablesView = record v { free = free; locks = locks; transactions = changed_at pass (loaded into (Some id)) v.transactions; references = references } in
     let u = with_register into (Some id) (with_write id Whole 0 (with_owned id t)) in
     let x : Write = record { id = id; place = Whole; value = 0 } in
+    let m = c.moment in
+    let d = after_event slots c (Call pass (Make into) (Id id)) (Some (logs.Make pass id)) in
     let put = puts-changed pass (loaded into (Some id)) kept v.transactions s.here in
-    let locked = Locked-own slots v cells m h pass t u s.found locks id adds nobody refl refl in
-    let sound = make-call_cells cells m h.sound pass t s.found into s.granted (Id id) in
-    let later = edit cells id (λ _. blank_cell true slots) in
+    let locked = Locked-own slots v c h pass t u s.found locks id adds nobody refl refl in
+    let sound = make-call c h.sound pass t s.found into s.granted (Id id) in
+    let later = edit c.cells id (λ _. blank_cell true slots) in
     let state : (next m (Call pass (Make into) (Id id))).state ≡ made m.state pass t into id =
     after-granted m pass (Make into) (Id id) t s.found s.granted ∙ ap (λ (k : ℕ). made m.state pass t into k) is in
+    let core : ℕ → ℕ → Core = λ n k. record { cells = edit c.cells k (λ _. blank_cell true n); moment = next m (Call pass (Make into) (Id id)); refs = c.refs ++ record { pass = pass; target = k; kind = Made } ∷ []; queue = c.queue; round = c.round } in
+    let all_sound : IsSound d = sound-untouched (core slots id) (subst (λ (n : ℕ). IsSound (core n id)) h.slots_are (subst (λ (k : ℕ). IsSound (core m.state.slots k)) is sound.1)) in
+    let here = transaction_of-with_same m.state pass u in
+    let others = λ (q : ℕ) (n : q ≢ pass). transaction_of-with_other m.state pass q u n in
+    let runs = runs-making slots m.state.committed kept (loaded into (Some id) kept) t u (m.undone pass) x s.runs refl refl (ap (λ (rs : List (Option ℕ)). slice_set rs into (Some id)) s.runs.registers) s.runs.aborting refl in
     record {
       machine = sym (ap (λ (y : Reply × State). y.0) (call-granted m.state pass t (Make into) s.found s.granted) ∙ ap Id is);
-      record_is = ap (λ (k : ℕ). Some (logs.Make pass k)) (sym is) ∙ sym (logged-granted m.state cells pass (Make into) t s.found s.granted);
+      record_is = ap (λ (k : ℕ). Some (logs.Make pass k)) (sym is) ∙ sym (logged-granted m.state c.cells pass (Make into) t s.found s.granted);
       moves = record {
-        fits = subst (λ (k : ℕ). Rattle.store_model.specs.Records.Fits cells (Rattle.store_model.specs.Records.Make pass k)) is sound.0;
+        fits = subst (λ (k : ℕ). Rattle.store_model.specs.Records.Fits c.cells (Rattle.store_model.specs.Records.Make pass k)) is sound.0;
         lays = tt;
         agree = agree;
         elsewhere = elsewhere;
       };
-      stands = Stands-change slots v w cells later m (next m (Call pass (Make into) (Id id))) (made m.state pass t into id) pass (loaded into (Some id) kept) u h (record {
+      stands = Stands-change slots v w c d (made m.state pass t into id) pass (loaded into (Some id) kept) u h (record {
         same_ids = refl;
         state_ids = refl;
         state_slots = refl;
         here = put.here;
         others = put.others;
-        state_here = transaction_of-with_same m.state pass u;
-        state_others = λ q n. transaction_of-with_other m.state pass q u n;
+        state_here = here;
+        state_others = others;
         undone_others = λ q n. refl;
-        runs = runs-making slots m.state.committed kept (loaded into (Some id) kept) t u (m.undone pass) x s.runs refl refl (ap (λ (rs : List (Option ℕ)). slice_set rs into (Some id)) s.runs.registers) s.runs.aborting refl;
+        runs = runs;
         owner = locked.owner;
         other_owners = locked.other_owners;
         sharer = locked.sharer;
@@ -112,9 +141,12 @@ answers-make slots v cells m held new h locks free pass into id kept t adds nobo
         graph = refl;
         free = λ i. removed i ∙ (ap (λ b. not (i == id) && b) (h.free i) ∙ (shift (i == id) (nat_lt 0 i) (nat_le i m.state.ids) (is_stored m.state.stored i) ∙ ap (λ b. (nat_lt 0 i && nat_le i m.state.ids) && not b) (sym (stored-insert m.state.stored id i))));
       }) state marked
-          (subst (λ (n : ℕ). Rattle.store_model.specs.SoundCells.IsSoundCells (edit cells id (λ _. blank_cell true n)) (next m (Call pass (Make into) (Id id)))) h.slots_are
-          (subst (λ (k : ℕ). Rattle.store_model.specs.SoundCells.IsSoundCells (edit cells k (λ _. blank_cell true m.state.slots)) (next m (Call pass (Make into) (Id id)))) is sound.1))
-          (alive-made cells id slots) (λ y k. CanLay-later slots cells later (alive-made cells id slots) y (h.restorable pass kept s.here y k));
+          all_sound
+          (alive-made c.cells id slots) (λ y k. CanLay-later slots c.cells later (alive-made c.cells id slots) y (h.restorable pass kept s.here y k))
+          (HasRest-with slots v w c d h refl refl refl refl (round-same c.round)
+          (owed-changed slots c d (made m.state pass t into id) pass (loaded into (Some id) kept) u h.sound all_sound state refl here others (λ q n. refl) runs kept t s.found s.runs v.owed v.owed h.owed refl)
+          (λ p. noted p ∙ (named_more-same v.references (named_by c.refs) pass id p (h.references p) ∙ sym (named_by-noted c.refs (record { pass = pass; target = id; kind = Made }) p some)))
+          (null-made c.cells id slots));
     }
 
 -- what std says of a key that is removed

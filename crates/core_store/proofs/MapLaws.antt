@@ -166,6 +166,10 @@ pub if_err : {T E : Type 0} (r : Result T E) (Q P : E → Type 0) → IsErrAnd r
 if_err (Ok v) Q P h f = tt
 if_err (Err e) Q P h f = f e h
 
+pub on_err : {T E : Type 0} (r : Result T E) (P : Type 0) → P → OnErr r P
+on_err (Ok v) P k = tt
+on_err (Err e) P k = k
+
 pub more_on_err : {T E : Type 0} (r : Result T E) (P Q : Type 0) → (P → Q) → OnErr r P → OnErr r Q
 more_on_err (Ok v) P Q f h = tt
 more_on_err (Err e) P Q f h = f h

@@ -6,7 +6,7 @@ use Rattle.plain_model.specs.declared.calls.Reply.TheVariants.{Aborting}
 use Rattle.plain_model.specs.ActiveTransaction.{ActiveTransaction}
 use Rattle.plain_model.specs.Machine.{transaction_of}
 use Rattle.plain_model.specs.History.{Moment}
-use Rattle.store_model.specs.Cells.{Cell}
+use Rattle.store_model.specs.Core.{Core}
 use Rattle.core_store.specs.Transactions.{Running, running_at}
 use Rattle.core_store.specs.Refusals.{if_not_running}
 use Rattle.core_store.specs.Tables.{TablesView}
@@ -29,18 +29,18 @@ matched : (slots : ℕ) (g : List Object) (kept : Running) (o : Option ActiveTra
 matched slots g kept (Some t) n h = (t, refl, h)
 matched slots g kept None n h = absurd h
 
-pub active-of : {slots : ℕ} {v : TablesView} {cells : List Cell} {m : Moment} → Stands slots v cells m → (pass : ℕ) (kept : Running) → running_at v.transactions pass ≡ Some kept → HasActive slots m pass kept
-active-of {slots} {v} {cells} {m} h pass kept e =
-    let a = matched slots m.state.committed kept (transaction_of m.state pass) (m.undone pass) (subst (λ o. Matches slots m.state.committed o (transaction_of m.state pass) (m.undone pass)) e (h.running pass)) in
+pub active-of : {slots : ℕ} {v : TablesView} {core : Core} → Stands slots v core → (pass : ℕ) (kept : Running) → running_at v.transactions pass ≡ Some kept → HasActive slots core.moment pass kept
+active-of {slots} {v} {core} h pass kept e =
+    let a = matched slots core.moment.state.committed kept (transaction_of core.moment.state pass) (core.moment.undone pass) (subst (λ o. Matches slots core.moment.state.committed o (transaction_of core.moment.state pass) (core.moment.undone pass)) e (h.running pass)) in
     record { transaction = a.0; found = a.1; runs = a.2 }
 
 none_matched : (slots : ℕ) (g : List Object) (o : Option ActiveTransaction) (n : ℕ) → Matches slots g None o n → o ≡ None
 none_matched slots g None n h = refl
 none_matched slots g (Some t) n h = absurd h
 
-pub inactive-of : {slots : ℕ} {v : TablesView} {cells : List Cell} {m : Moment} → Stands slots v cells m → (pass : ℕ) → running_at v.transactions pass ≡ None → transaction_of m.state pass ≡ None
-inactive-of {slots} {v} {cells} {m} h pass e =
-    none_matched slots m.state.committed (transaction_of m.state pass) (m.undone pass) (subst (λ o. Matches slots m.state.committed o (transaction_of m.state pass) (m.undone pass)) e (h.running pass))
+pub inactive-of : {slots : ℕ} {v : TablesView} {core : Core} → Stands slots v core → (pass : ℕ) → running_at v.transactions pass ≡ None → transaction_of core.moment.state pass ≡ None
+inactive-of {slots} {v} {core} h pass e =
+    none_matched slots core.moment.state.committed (transaction_of core.moment.state pass) (core.moment.undone pass) (subst (λ o. Matches slots core.moment.state.committed o (transaction_of core.moment.state pass) (core.moment.undone pass)) e (h.running pass))
 
 -- a client without a refusal has a transaction that isn't being undone
 pub running-alive : (o : Option Running) → if_not_running o ≡ None → (kept : Running) × (o ≡ Some kept) × (kept.aborting ≡ false)

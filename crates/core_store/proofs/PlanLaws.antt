@@ -11,6 +11,7 @@ use Rattle.plain_model.specs.Machine.{State, is_stored, transaction_of, register
 use Rattle.plain_model.specs.History.{Moment, IsId}
 use Rattle.plain_laws.proofs.Legal.{registers-stored_proof, not_empty}
 use Rattle.store_model.specs.Cells.{Cell, is_live}
+use Rattle.store_model.specs.Core.{Core}
 use Rattle.store_model.proofs.EditLaws.{live-within, live-there}
 use Rattle.store_model.proofs.ActiveLaws.{register-contained}
 use Rattle.core_store.specs.FreeIds.{IsLeastOf}
@@ -101,32 +102,32 @@ same-source kept t source e = ap (λ (rs : List (Option ℕ)). option_map_or (λ
 pub same-empty : (kept : Running) (t : ActiveTransaction) (source : Option ℕ) → kept.registers ≡ t.registers → option_map_or (if_no_register kept) source None ≡ option_map_or (if_empty t) source None
 same-empty kept t source e = ap (λ (rs : List (Option ℕ)). option_map_or (λ f. option_map_or (λ _. None) (slice_index_or rs f None) (Some (EmptyRegister f))) source None) e
 
-module _ {slots : ℕ} {v : TablesView} {cells : List Cell} {m : Moment} (h : Stands slots v cells m) where
+module _ {slots : ℕ} {v : TablesView} {core : Core} (h : Stands slots v core) where
   -- ---- ids
 
-  pub live-id : (id : ℕ) → is_live cells id ≡ true → IsLiveId cells m.state.ids id
+  pub live-id : (id : ℕ) → is_live core.cells id ≡ true → IsLiveId core.cells core.moment.state.ids id
   live-id id l =
-      let k = live-within cells id l in
-      let z = live-there cells id h.sound.consistent.exact.none l in
-      let n = h.sound.consistent.sized in
+      let k = live-within core.cells id l in
+      let z = live-there core.cells id h.sound.exact.none l in
+      let n = h.sound.sized in
       let few = h.few in
       let same = h.ids in
       record { live = l; above = omega (arith, z); within = omega (arith, k, n); few = omega (arith, k, n, few, same) }
 
-  pub named-there : (pass : ℕ) (t : ActiveTransaction) (r id : ℕ) → transaction_of m.state pass ≡ Some t → register t r ≡ Some id → Names cells m.state.ids t r id
+  pub named-there : (pass : ℕ) (t : ActiveTransaction) (r id : ℕ) → transaction_of core.moment.state pass ≡ Some t → register t r ≡ Some id → Names core.cells core.moment.state.ids t r id
   named-there pass t r id f e = record {
     register_is = e;
     id_is = ap (λ o. unwrap_or o 0) e;
     among = register-contained t r id e;
-    there = live-id id (sym (h.sound.stored id) ∙ (registers-stored_proof m.state pass r id t h.sound.state f e).0);
+    there = live-id id (sym (h.sound.stored id) ∙ (registers-stored_proof core.moment.state pass r id t h.sound.state f e).0);
   }
 
   -- ---- the client's transaction
 
-  pub alive-of : (pass : ℕ) (kept : Running) → running_at v.transactions pass ≡ Some kept → kept.aborting ≡ false → HasAlive slots m pass kept
+  pub alive-of : (pass : ℕ) (kept : Running) → running_at v.transactions pass ≡ Some kept → kept.aborting ≡ false → HasAlive slots core.moment pass kept
   alive-of pass kept e a = let x = active-of h pass kept e in record { transaction = x.transaction; found = x.found; runs = x.runs; alive = sym x.runs.aborting ∙ a }
 
-  grants : (pass : ℕ) (c : TransactionCall) (kept : Running) → running_at v.transactions pass ≡ Some kept → (a : HasAlive slots m pass kept) → refusal_in m.state pass a.transaction c ≡ None → Grants slots v m pass c
+  grants : (pass : ℕ) (c : TransactionCall) (kept : Running) → running_at v.transactions pass ≡ Some kept → (a : HasAlive slots core.moment pass kept) → refusal_in core.moment.state pass a.transaction c ≡ None → Grants slots v core.moment pass c
   grants pass c kept e a none = record {
     kept = kept;
     transaction = a.transaction;
@@ -135,18 +136,18 @@ module _ {slots : ℕ} {v : TablesView} {cells : List Cell} {m : Moment} (h : St
     runs = a.runs;
     alive = a.alive;
     unrefused = none;
-    allowed = refusal-in m.state pass a.transaction c a.found ∙ none;
+    allowed = refusal-in core.moment.state pass a.transaction c a.found ∙ none;
   }
 
-  pub subject-register : (pass r id : ℕ) (u : HasSubject (running_at v.transactions pass) r id) (a : HasAlive slots m pass u.running) → register a.transaction r ≡ Some id
+  pub subject-register : (pass r id : ℕ) (u : HasSubject (running_at v.transactions pass) r id) (a : HasAlive slots core.moment pass u.running) → register a.transaction r ≡ Some id
   subject-register pass r id u a = ap (λ (rs : List (Option ℕ)). slice_index_or rs r None) (sym a.runs.registers) ∙ u.register
 
   -- ---- what is granted
 
-  pub granted-begin : (pass : ℕ) → running_at v.transactions pass ≡ None → (transaction_of m.state pass ≡ None) × (refusal_of m.state pass call.Begin ≡ None)
-  granted-begin pass e = let none = inactive-of h pass e in (none, refusal-out m.state pass call.Begin none)
+  pub granted-begin : (pass : ℕ) → running_at v.transactions pass ≡ None → (transaction_of core.moment.state pass ≡ None) × (refusal_of core.moment.state pass call.Begin ≡ None)
+  granted-begin pass e = let none = inactive-of h pass e in (none, refusal-out core.moment.state pass call.Begin none)
 
-  shared : (pass r id : ℕ) (c : TransactionCall) → ((t : ActiveTransaction) → refusal_in m.state pass t c ≡ or_else (if_aborting t) (or_else (if_empty t r) (if_busy (blocks_sharing m.state pass (register_id t r))))) → IsShareable v pass r id → GrantsOn slots v cells m pass c r id
+  shared : (pass r id : ℕ) (c : TransactionCall) → ((t : ActiveTransaction) → refusal_in core.moment.state pass t c ≡ or_else (if_aborting t) (or_else (if_empty t r) (if_busy (blocks_sharing core.moment.state pass (register_id t r))))) → IsShareable v pass r id → GrantsOn slots v core.cells core.moment pass c r id
   unfolding grants
   shared pass r id c shape w =
       let a = alive-of pass w.0.running w.0.is w.0.alive in
@@ -154,17 +155,17 @@ module _ {slots : ℕ} {v : TablesView} {cells : List Cell} {m : Moment} (h : St
       record {
         grants =
             grants pass c w.0.running w.0.is a
-            (shape a.transaction ∙ (only-rest a.transaction r id (λ x. if_busy (blocks_sharing m.state pass x)) a.alive e ∙ ap (λ o. if_busy o) (unblocked-shared h pass id w.1)));
+            (shape a.transaction ∙ (only-rest a.transaction r id (λ x. if_busy (blocks_sharing core.moment.state pass x)) a.alive e ∙ ap (λ o. if_busy o) (unblocked-shared h pass id w.1)));
         names = named-there pass a.transaction r id a.found e;
       }
 
-  pub granted-read : (pass r slot into id : ℕ) → IsShareable v pass r id → GrantsOn slots v cells m pass (call.Read r slot into) r id
+  pub granted-read : (pass r slot into id : ℕ) → IsShareable v pass r id → GrantsOn slots v core.cells core.moment pass (call.Read r slot into) r id
   granted-read pass r slot into id w = shared pass r id (call.Read r slot into) (λ t. refl) w
 
-  pub granted-get : (pass r id : ℕ) → IsShareable v pass r id → GrantsOn slots v cells m pass (call.GetPay r) r id
+  pub granted-get : (pass r id : ℕ) → IsShareable v pass r id → GrantsOn slots v core.cells core.moment pass (call.GetPay r) r id
   granted-get pass r id w = shared pass r id (call.GetPay r) (λ t. refl) w
 
-  pub granted-set : (pass r value id : ℕ) → IsOwnable v pass r id → GrantsOn slots v cells m pass (call.SetPay r value) r id
+  pub granted-set : (pass r value id : ℕ) → IsOwnable v pass r id → GrantsOn slots v core.cells core.moment pass (call.SetPay r value) r id
   unfolding grants
   granted-set pass r value id w =
       let a = alive-of pass w.0.running w.0.is w.0.alive in
@@ -172,17 +173,17 @@ module _ {slots : ℕ} {v : TablesView} {cells : List Cell} {m : Moment} (h : St
       record {
         grants =
             grants pass (call.SetPay r value) w.0.running w.0.is a
-            (only-rest a.transaction r id (λ x. if_busy (blocks_owning m.state pass x)) a.alive e ∙ ap (λ o. if_busy o) (unblocked-owned h pass id w.1));
+            (only-rest a.transaction r id (λ x. if_busy (blocks_owning core.moment.state pass x)) a.alive e ∙ ap (λ o. if_busy o) (unblocked-owned h pass id w.1));
         names = named-there pass a.transaction r id a.found e;
       }
 
   -- the id that a filled source has is live
-  source-there : (pass : ℕ) (t : ActiveTransaction) (source : Option ℕ) → transaction_of m.state pass ≡ Some t → option_map_or (if_empty t) source None ≡ None → stored_target t source ≢ 0
-      → Contains t.registers (Some (stored_target t source)) × IsLiveId cells m.state.ids (stored_target t source)
+  source-there : (pass : ℕ) (t : ActiveTransaction) (source : Option ℕ) → transaction_of core.moment.state pass ≡ Some t → option_map_or (if_empty t) source None ≡ None → stored_target t source ≢ 0
+      → Contains t.registers (Some (stored_target t source)) × IsLiveId core.cells core.moment.state.ids (stored_target t source)
   source-there pass t None f e n = absurd (n refl)
   source-there pass t (Some r) f e n = let k = named-there pass t r (register_id t r) f (not_empty t r e) in (k.among, k.there)
 
-  pub granted-store : (pass r slot : ℕ) (source : Option ℕ) (id target : ℕ) → IsOwnable v pass r id → HasSource (running_at v.transactions pass) source (Ok target) → GrantsStore slots v cells m pass r slot source id target
+  pub granted-store : (pass r slot : ℕ) (source : Option ℕ) (id target : ℕ) → IsOwnable v pass r id → HasSource (running_at v.transactions pass) source (Ok target) → GrantsStore slots v core.cells core.moment pass r slot source id target
   unfolding grants
   granted-store pass r slot source id target w from_source =
       let a = alive-of pass w.0.running w.0.is w.0.alive in
@@ -194,15 +195,15 @@ module _ {slots : ℕ} {v : TablesView} {cells : List Cell} {m : Moment} (h : St
       record {
         grants =
             grants pass (call.Store r slot source) w.0.running w.0.is a
-            (only-rest t r id (λ x. or_else (option_map_or (if_empty t) source None) (if_busy (blocks_owning m.state pass x))) a.alive e
-            ∙ (ap (λ o. or_else o (if_busy (blocks_owning m.state pass id))) filled ∙ ap (λ o. if_busy o) (unblocked-owned h pass id w.1)));
+            (only-rest t r id (λ x. or_else (option_map_or (if_empty t) source None) (if_busy (blocks_owning core.moment.state pass x))) a.alive e
+            ∙ (ap (λ o. or_else o (if_busy (blocks_owning core.moment.state pass id))) filled ∙ ap (λ o. if_busy o) (unblocked-owned h pass id w.1)));
         names = named-there pass t r id a.found e;
         target_is = is;
         target_among = λ n. subst (λ x. Contains t.registers (Some x)) (sym is) (source-there pass t source a.found filled (λ z. n (is ∙ z))).0;
-        target_there = λ n. subst (λ x. IsLiveId cells m.state.ids x) (sym is) (source-there pass t source a.found filled (λ z. n (is ∙ z))).1;
+        target_there = λ n. subst (λ x. IsLiveId core.cells core.moment.state.ids x) (sym is) (source-there pass t source a.found filled (λ z. n (is ∙ z))).1;
       }
 
-  pub granted-make : (pass into id : ℕ) → if_not_running (running_at v.transactions pass) ≡ None → IsLeastOf v.free id → GrantsMake slots v cells m pass into id
+  pub granted-make : (pass into id : ℕ) → if_not_running (running_at v.transactions pass) ≡ None → IsLeastOf v.free id → GrantsMake slots v core.cells core.moment pass into id
   granted-make pass into id e l =
       let k = running-alive (running_at v.transactions pass) e in
       let a = alive-of pass k.0 k.1 k.2 in
@@ -214,7 +215,7 @@ module _ {slots : ℕ} {v : TablesView} {cells : List Cell} {m : Moment} (h : St
       record {
         grants =
             grants pass (call.Make into) k.0 k.1 a
-            (ap (λ b. or_else (if b then Some Aborting else None) (if is_some (free_id m.state) then None else Some Full)) a.alive ∙ ap (λ (o : Option ℕ). if is_some o then None else Some Full) free);
+            (ap (λ b. or_else (if b then Some Aborting else None) (if is_some (free_id core.moment.state) then None else Some Full)) a.alive ∙ ap (λ (o : Option ℕ). if is_some o then None else Some Full) free);
         free_is = free;
         id_is = ap (λ o. unwrap_or o 0) free;
         is = is.0;
@@ -223,7 +224,7 @@ module _ {slots : ℕ} {v : TablesView} {cells : List Cell} {m : Moment} (h : St
         not_live = sym (h.sound.stored id) ∙ is.1;
       }
 
-  pub granted-commit : (pass : ℕ) → if_not_running (running_at v.transactions pass) ≡ None → Grants slots v m pass call.Commit
+  pub granted-commit : (pass : ℕ) → if_not_running (running_at v.transactions pass) ≡ None → Grants slots v core.moment pass call.Commit
   granted-commit pass e =
       let k = running-alive (running_at v.transactions pass) e in
       let a = alive-of pass k.0 k.1 k.2 in

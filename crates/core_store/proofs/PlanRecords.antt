@@ -8,6 +8,7 @@ use Rattle.plain_model.specs.ActiveTransaction.{ActiveTransaction}
 use Rattle.plain_model.specs.Machine.{State, transaction_of, refusal_of, IsInRange}
 use Rattle.plain_model.specs.History.{Moment}
 use Rattle.store_model.specs.Cells.{Cell, cell_at}
+use Rattle.store_model.specs.Core.{Core}
 use Rattle.log_record.specs.declared.cell_record.CellRecord.{CellRecord}
 use Rattle.log_record.specs.declared.cell_record.CellRecord.TheVariants as logs
 use Rattle.core_store.specs.declared.plan.Plan.{Plan}
@@ -58,58 +59,58 @@ granted-logs {slots} {v} {m} {pass} {c} cells g = allowed-logs m.state cells pas
 pub granted-pages : {slots : ℕ} {v : TablesView} {m : Moment} {pass : ℕ} {c : TransactionCall} → (cells : List Cell) (g : Grants slots v m pass c) → pages_for m.state cells pass c ≡ map page_of_id (objects_in m.state cells g.transaction c)
 granted-pages {slots} {v} {m} {pass} {c} cells g = allowed-pages m.state cells pass c (Some g.transaction) g.allowed g.found
 
-module _ {slots : ℕ} {v : TablesView} {cells : List Cell} {m : Moment} (h : Stands slots v cells m) where
+module _ {slots : ℕ} {v : TablesView} {core : Core} (h : Stands slots v core) where
   -- ---- the record
 
   -- what is logged is what the plan says
-  pub logged-plan : (pass : ℕ) (c : TransactionCall) (p : Plan) → IsGranted v pass c p → logged_by m.state cells pass c ≡ record_of_plan cells pass p
-  logged-plan pass c plan.Begin w = let g = granted-begin h pass w.1 in ap (λ c. logged_by m.state cells pass c) w.0 ∙ allowed-logs m.state cells pass call.Begin None g.1 g.0
-  logged-plan pass c (plan.Read id slot into) w = ap (λ c. logged_by m.state cells pass c) w.1 ∙ granted-logs cells (granted-read h pass w.0 slot into id w.2).grants
+  pub logged-plan : (pass : ℕ) (c : TransactionCall) (p : Plan) → IsGranted v pass c p → logged_by core.moment.state core.cells pass c ≡ record_of_plan core.cells pass p
+  logged-plan pass c plan.Begin w = let g = granted-begin h pass w.1 in ap (λ c. logged_by core.moment.state core.cells pass c) w.0 ∙ allowed-logs core.moment.state core.cells pass call.Begin None g.1 g.0
+  logged-plan pass c (plan.Read id slot into) w = ap (λ c. logged_by core.moment.state core.cells pass c) w.1 ∙ granted-logs core.cells (granted-read h pass w.0 slot into id w.2).grants
   logged-plan pass c (plan.Make id into) w =
       let g = granted-make h pass into id w.1 w.2 in
-      ap (λ c. logged_by m.state cells pass c) w.0 ∙ (granted-logs cells g.grants ∙ ap (λ (n : ℕ). Some (logs.Make pass n)) g.id_is)
+      ap (λ c. logged_by core.moment.state core.cells pass c) w.0 ∙ (granted-logs core.cells g.grants ∙ ap (λ (n : ℕ). Some (logs.Make pass n)) g.id_is)
   logged-plan pass c (plan.Store id slot target) w =
       let g = granted-store h pass w.0 slot w.1 id target w.3 w.4 in
-      ap (λ c. logged_by m.state cells pass c) w.2
-      ∙ (granted-logs cells g.grants
-      ∙ (ap (λ (x : ℕ). Some (store_record pass x slot (stored_target g.grants.transaction w.1) (stored_change cells x slot (stored_target g.grants.transaction w.1)))) g.names.id_is
-      ∙ ap (λ (y : ℕ). Some (store_record pass id slot y (stored_change cells id slot y))) (sym g.target_is)))
-  logged-plan pass c (plan.Get id) w = ap (λ c. logged_by m.state cells pass c) w.1 ∙ granted-logs cells (granted-get h pass w.0 id w.2).grants
+      ap (λ c. logged_by core.moment.state core.cells pass c) w.2
+      ∙ (granted-logs core.cells g.grants
+      ∙ (ap (λ (x : ℕ). Some (store_record pass x slot (stored_target g.grants.transaction w.1) (stored_change core.cells x slot (stored_target g.grants.transaction w.1)))) g.names.id_is
+      ∙ ap (λ (y : ℕ). Some (store_record pass id slot y (stored_change core.cells id slot y))) (sym g.target_is)))
+  logged-plan pass c (plan.Get id) w = ap (λ c. logged_by core.moment.state core.cells pass c) w.1 ∙ granted-logs core.cells (granted-get h pass w.0 id w.2).grants
   logged-plan pass c (plan.Set id value) w =
       let g = granted-set h pass w.0 value id w.2 in
-      ap (λ c. logged_by m.state cells pass c) w.1 ∙ (granted-logs cells g.grants ∙ ap (λ (x : ℕ). Some (logs.Pay pass x (cell_at cells x).payload value)) g.names.id_is)
-  logged-plan pass c plan.Commit w = ap (λ c. logged_by m.state cells pass c) w.0 ∙ granted-logs cells (granted-commit h pass w.1)
+      ap (λ c. logged_by core.moment.state core.cells pass c) w.1 ∙ (granted-logs core.cells g.grants ∙ ap (λ (x : ℕ). Some (logs.Pay pass x (cell_at core.cells x).payload value)) g.names.id_is)
+  logged-plan pass c plan.Commit w = ap (λ c. logged_by core.moment.state core.cells pass c) w.0 ∙ granted-logs core.cells (granted-commit h pass w.1)
 
   -- ---- the pages
 
   -- the call works on the objects of its plan
-  pub pages-plan : (pass : ℕ) (c : TransactionCall) (p : Plan) → IsGranted v pass c p → pages_for m.state cells pass c ≡ map page_of_id (objects_of_plan cells p)
-  pages-plan pass c plan.Begin w = let g = granted-begin h pass w.1 in ap (λ c. pages_for m.state cells pass c) w.0 ∙ allowed-pages m.state cells pass call.Begin None g.1 g.0
+  pub pages-plan : (pass : ℕ) (c : TransactionCall) (p : Plan) → IsGranted v pass c p → pages_for core.moment.state core.cells pass c ≡ map page_of_id (objects_of_plan core.cells p)
+  pages-plan pass c plan.Begin w = let g = granted-begin h pass w.1 in ap (λ c. pages_for core.moment.state core.cells pass c) w.0 ∙ allowed-pages core.moment.state core.cells pass call.Begin None g.1 g.0
   pages-plan pass c (plan.Read id slot into) w =
       let g = granted-read h pass w.0 slot into id w.2 in
-      ap (λ c. pages_for m.state cells pass c) w.1 ∙ (granted-pages cells g.grants ∙ ap (λ (x : ℕ). map page_of_id (objects_of_plan cells (plan.Get x))) g.names.id_is)
+      ap (λ c. pages_for core.moment.state core.cells pass c) w.1 ∙ (granted-pages core.cells g.grants ∙ ap (λ (x : ℕ). map page_of_id (objects_of_plan core.cells (plan.Get x))) g.names.id_is)
   pages-plan pass c (plan.Make id into) w =
       let g = granted-make h pass into id w.1 w.2 in
-      ap (λ c. pages_for m.state cells pass c) w.0 ∙ (granted-pages cells g.grants ∙ ap (λ (x : ℕ). map page_of_id (objects_of_plan cells (plan.Get x))) g.id_is)
+      ap (λ c. pages_for core.moment.state core.cells pass c) w.0 ∙ (granted-pages core.cells g.grants ∙ ap (λ (x : ℕ). map page_of_id (objects_of_plan core.cells (plan.Get x))) g.id_is)
   pages-plan pass c (plan.Store id slot target) w =
       let g = granted-store h pass w.0 slot w.1 id target w.3 w.4 in
-      ap (λ c. pages_for m.state cells pass c) w.2
-      ∙ (granted-pages cells g.grants
-      ∙ (ap (λ (x : ℕ). map page_of_id (object_and_targets cells x slot (stored_target g.grants.transaction w.1))) g.names.id_is
-      ∙ ap (λ (y : ℕ). map page_of_id (object_and_targets cells id slot y)) (sym g.target_is)))
+      ap (λ c. pages_for core.moment.state core.cells pass c) w.2
+      ∙ (granted-pages core.cells g.grants
+      ∙ (ap (λ (x : ℕ). map page_of_id (object_and_targets core.cells x slot (stored_target g.grants.transaction w.1))) g.names.id_is
+      ∙ ap (λ (y : ℕ). map page_of_id (object_and_targets core.cells id slot y)) (sym g.target_is)))
   pages-plan pass c (plan.Get id) w =
       let g = granted-get h pass w.0 id w.2 in
-      ap (λ c. pages_for m.state cells pass c) w.1 ∙ (granted-pages cells g.grants ∙ ap (λ (x : ℕ). map page_of_id (objects_of_plan cells (plan.Get x))) g.names.id_is)
+      ap (λ c. pages_for core.moment.state core.cells pass c) w.1 ∙ (granted-pages core.cells g.grants ∙ ap (λ (x : ℕ). map page_of_id (objects_of_plan core.cells (plan.Get x))) g.names.id_is)
   pages-plan pass c (plan.Set id value) w =
       let g = granted-set h pass w.0 value id w.2 in
-      ap (λ c. pages_for m.state cells pass c) w.1 ∙ (granted-pages cells g.grants ∙ ap (λ (x : ℕ). map page_of_id (objects_of_plan cells (plan.Get x))) g.names.id_is)
-  pages-plan pass c plan.Commit w = ap (λ c. pages_for m.state cells pass c) w.0 ∙ granted-pages cells (granted-commit h pass w.1)
+      ap (λ c. pages_for core.moment.state core.cells pass c) w.1 ∙ (granted-pages core.cells g.grants ∙ ap (λ (x : ℕ). map page_of_id (objects_of_plan core.cells (plan.Get x))) g.names.id_is)
+  pages-plan pass c plan.Commit w = ap (λ c. pages_for core.moment.state core.cells pass c) w.0 ∙ granted-pages core.cells (granted-commit h pass w.1)
 
   -- and these are the pages of its work
-  pub pages-work : (pass : ℕ) (c : TransactionCall) (p : Plan) → IsGranted v pass c p → pages_for m.state cells pass c ≡ pages_of_work cells (work_of p)
+  pub pages-work : (pass : ℕ) (c : TransactionCall) (p : Plan) → IsGranted v pass c p → pages_for core.moment.state core.cells pass c ≡ pages_of_work core.cells (work_of p)
   pages-work pass c p w = pages-plan pass c p w ∙ same p
     where
-      same : (p : Plan) → map page_of_id (objects_of_plan cells p) ≡ pages_of_work cells (work_of p)
+      same : (p : Plan) → map page_of_id (objects_of_plan core.cells p) ≡ pages_of_work core.cells (work_of p)
       same plan.Begin = refl
       same (plan.Read id slot into) = refl
       same (plan.Make id into) = refl

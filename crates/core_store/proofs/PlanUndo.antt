@@ -8,9 +8,10 @@ use Rattle.plain_model.specs.declared.write.Place.TheVariants.{Slot, Payload, Wh
 use Rattle.plain_model.specs.declared.write.Write.{Write}
 use Rattle.plain_model.specs.ActiveTransaction.{ActiveTransaction}
 use Rattle.plain_model.specs.Graphs.{FitsPlace}
-use Rattle.plain_model.specs.History.{Moment, left_to_undo}
+use Rattle.plain_model.specs.History.{left_to_undo}
 use Rattle.plain_laws.proofs.Entries.{same_or_apart}
 use Rattle.store_model.specs.Cells.{Cell}
+use Rattle.store_model.specs.Core.{Core}
 use Rattle.core_store.specs.Frames.{page_of_id}
 use Rattle.core_store.specs.Logged.{objects_of_undo, pages_for_undo}
 use Rattle.core_store.specs.Replaced.{replaced, next_to_restore}
@@ -21,7 +22,7 @@ use Rattle.core_store.specs.Stands.{CanLay, Stands}
 use Rattle.core_store.proofs.PlanActive.{active-of, inactive-of}
 use Rattle.core_store.proofs.PlanLaws.{live-id}
 use Rattle.core_store.proofs.ReplacedLists.{last-contained}
-use Rattle.core_store.proofs.UndoLaws.{next-kept}
+use Rattle.core_store.proofs.UndoneLaws.{next-kept}
 
 -- the pages of an undo step are those of its work
 pub pages-undo : (cells : List Cell) (w : Write) → pages_for_undo cells (Some w) ≡ pages_of_work cells (Some (work_of_undo w))
@@ -36,23 +37,23 @@ pages-undo cells w = same w.id w.place w.value
 abbrev pub last_noted : TablesView → ℕ → Option Write
 last_noted v pass = option_map_or (λ t. last_or None t.replaced) (running_at v.transactions pass) None
 
-module _ {slots : ℕ} {v : TablesView} {cells : List Cell} {m : Moment} (h : Stands slots v cells m) where
+module _ {slots : ℕ} {v : TablesView} {core : Core} (h : Stands slots v core) where
   -- it is the one that is laid again next
-  pub next-noted : (pass : ℕ) → next_to_restore m pass ≡ last_noted v pass
+  pub next-noted : (pass : ℕ) → next_to_restore core.moment pass ≡ last_noted v pass
   next-noted pass = by (running_at v.transactions pass) refl
     where
-      by : (o : Option Running) → running_at v.transactions pass ≡ o → next_to_restore m pass ≡ option_map_or (λ t. last_or None t.replaced) o None
-      by None e = ap (λ (o : Option ActiveTransaction). last_or None (option_map_or (λ t. take (left_to_undo m pass) (replaced m.state.slots m.state.committed t.writes)) o [])) (inactive-of h pass e)
-      by (Some kept) e = let a = active-of h pass kept e in next-kept slots m pass kept a.transaction h.slots_are a.found a.runs
+      by : (o : Option Running) → running_at v.transactions pass ≡ o → next_to_restore core.moment pass ≡ option_map_or (λ t. last_or None t.replaced) o None
+      by None e = ap (λ (o : Option ActiveTransaction). last_or None (option_map_or (λ t. take (left_to_undo core.moment pass) (replaced core.moment.state.slots core.moment.state.committed t.writes)) o [])) (inactive-of h pass e)
+      by (Some kept) e = let a = active-of h pass kept e in next-kept slots core.moment pass kept a.transaction h.slots_are a.found a.runs
 
-  pub can-lay : (pass : ℕ) (w : Write) → last_noted v pass ≡ Some w → CanLay slots cells w
+  pub can-lay : (pass : ℕ) (w : Write) → last_noted v pass ≡ Some w → CanLay slots core.cells w
   can-lay pass w e = by (running_at v.transactions pass) refl e
     where
-      by : (o : Option Running) → running_at v.transactions pass ≡ o → option_map_or (λ t. last_or None t.replaced) o None ≡ Some w → CanLay slots cells w
+      by : (o : Option Running) → running_at v.transactions pass ≡ o → option_map_or (λ t. last_or None t.replaced) o None ≡ Some w → CanLay slots core.cells w
       by None n k = absurd (cc)
       by (Some kept) n k = h.restorable pass kept n w (last-contained kept.replaced w k)
 
-  lay-work : (id : ℕ) (p : Place) (value : ℕ) → CanLay slots cells (record { id = id; place = p; value = value }) → IsWork slots (work_of_undo (record { id = id; place = p; value = value })) × FitsPlace p value
+  lay-work : (id : ℕ) (p : Place) (value : ℕ) → CanLay slots core.cells (record { id = id; place = p; value = value }) → IsWork slots (work_of_undo (record { id = id; place = p; value = value })) × FitsPlace p value
   lay-work id (Slot slot) value c =
       let l = live-id h id c.0 in
       let few = l.few in

@@ -4,10 +4,10 @@ use Rattle.std.proofs.lemmas.Bool.{cases_lt}
 use Rattle.plain_model.specs.declared.calls.Call.{Call as TransactionCall}
 use Rattle.plain_model.specs.declared.calls.Call.TheVariants as call
 use Rattle.plain_model.specs.Machine.{IsInRange}
-use Rattle.plain_model.specs.History.{Moment}
 use Rattle.plain_laws.proofs.Entries.{same_or_apart}
 use Rattle.plain_laws.proofs.Ids.{true_or_false}
 use Rattle.store_model.specs.Cells.{Pointer, Cell, null, blank_cell, cell_at, pointer_in, pointer_at, is_live}
+use Rattle.store_model.specs.Core.{Core}
 use Rattle.core_store.specs.declared.plan.Plan.{Plan}
 use Rattle.core_store.specs.declared.plan.Plan.TheVariants as plan
 use Rattle.core_store.specs.Work.{work_of, IsWork, HasSmallTargets}
@@ -31,38 +31,38 @@ past [] id l = refl
 past (c ∷ cs) zero l = absurd (omega (arith, l))
 past (c ∷ cs) (suc id) l = past cs id (omega (arith, l))
 
-module _ {slots : ℕ} {v : TablesView} {cells : List Cell} {m : Moment} (h : Stands slots v cells m) where
-  free_target : (id slot : ℕ) → is_live cells id ≡ false → (pointer_at cells id slot).target ≡ 0
+module _ {slots : ℕ} {v : TablesView} {core : Core} (h : Stands slots v core) where
+  free_target : (id slot : ℕ) → is_live core.cells id ≡ false → (pointer_at core.cells id slot).target ≡ 0
   free_target id slot n =
       ⊎_elim
-      (λ (l : id < length cells). ap (λ (c : Cell). (pointer_in c slot).target) (h.sound.consistent.empty id l n) ∙ blank_target m.state.slots slot)
-      (λ (l : length cells ≤ id). ap (λ (c : Cell). (pointer_in c slot).target) (past cells id l) ∙ blank_target 0 slot)
-      (cases_lt id (length cells))
+      (λ (l : id < length core.cells). ap (λ (c : Cell). (pointer_in c slot).target) (h.sound.empty id l n) ∙ blank_target core.moment.state.slots slot)
+      (λ (l : length core.cells ≤ id). ap (λ (c : Cell). (pointer_in c slot).target) (past core.cells id l) ∙ blank_target 0 slot)
+      (cases_lt id (length core.cells))
 
   -- what a slot holds is null or the id of a live cell
-  pub small-targets : HasSmallTargets cells
+  pub small-targets : HasSmallTargets core.cells
   small-targets id slot =
       ⊎_elim
-      (λ (a : is_live cells id ≡ true).
+      (λ (a : is_live core.cells id ≡ true).
       ⊎_elim
-      (λ (z : (pointer_at cells id slot).target ≡ 0). omega (arith, z))
-      (λ n. (let few = (live-id h (pointer_at cells id slot).target (h.sound.consistent.exact.closed id slot a n)).few in omega (arith, few)))
-      (same_or_apart (pointer_at cells id slot).target 0))
-      (λ (a : is_live cells id ≡ false). let z = free_target id slot a in omega (arith, z))
-      (true_or_false (is_live cells id))
+      (λ (z : (pointer_at core.cells id slot).target ≡ 0). omega (arith, z))
+      (λ n. (let few = (live-id h (pointer_at core.cells id slot).target (h.sound.exact.closed id slot a n)).few in omega (arith, few)))
+      (same_or_apart (pointer_at core.cells id slot).target 0))
+      (λ (a : is_live core.cells id ≡ false). let z = free_target id slot a in omega (arith, z))
+      (true_or_false (is_live core.cells id))
 
   -- ---- plans
 
-  work-on : (id ids : ℕ) → IsLiveId cells ids id → IsWork slots (record { id = id; change = None })
+  work-on : (id ids : ℕ) → IsLiveId core.cells ids id → IsWork slots (record { id = id; change = None })
   work-on id ids l = record { above = l.above; small = (let few = l.few in omega (arith, few)); change = tt }
 
   pub plan-work : (pass : ℕ) (c : TransactionCall) (p : Plan) → IsInRange slots c → IsGranted v pass c p → IfSome (work_of p) (IsWork slots)
   plan-work pass c plan.Begin r w = tt
   plan-work pass c plan.Commit r w = tt
-  plan-work pass c (plan.Read id slot into) r w = work-on id m.state.ids (granted-read h pass w.0 slot into id w.2).names.there
+  plan-work pass c (plan.Read id slot into) r w = work-on id core.moment.state.ids (granted-read h pass w.0 slot into id w.2).names.there
   plan-work pass c (plan.Make id into) r w = let g = granted-make h pass into id w.1 w.2 in record { above = g.is.0; small = (let few = g.few in omega (arith, few)); change = tt }
-  plan-work pass c (plan.Get id) r w = work-on id m.state.ids (granted-get h pass w.0 id w.2).names.there
-  plan-work pass c (plan.Set id value) r w = work-on id m.state.ids (granted-set h pass w.0 value id w.2).names.there
+  plan-work pass c (plan.Get id) r w = work-on id core.moment.state.ids (granted-get h pass w.0 id w.2).names.there
+  plan-work pass c (plan.Set id value) r w = work-on id core.moment.state.ids (granted-set h pass w.0 value id w.2).names.there
   plan-work pass c (plan.Store id slot target) r w =
       let g = granted-store h pass w.0 slot w.1 id target w.3 w.4 in
       let k : IsInRange slots (call.Store w.0 slot w.1) = subst (λ c. IsInRange slots c) w.2 r in

@@ -1,45 +1,66 @@
 -- A call that is refused.
-use Rattle.std.proofs.Common.{◌≡◌, ℕ, List, refl, sym, ap, ◌∙◌, subst, Option, Some, None}
+use Rattle.std.proofs.Common.{◌≡◌, ℕ, List, refl, sym, ap, ◌∙◌, subst, Option, None}
+use Rattle.std.specs.List.{list_any}
+use Rattle.std.specs.Ordering.{nat_cmp}
+use Rattle.std.specs.BTreeMap.{is_at}
 use Rattle.plain_model.specs.declared.calls.Call.{Call as TransactionCall}
 use Rattle.plain_model.specs.declared.calls.Entry.TheVariants.{Call}
 use Rattle.plain_model.specs.declared.calls.Reply.{Reply}
-use Rattle.plain_model.specs.Machine.{State, step, refusal_of}
+use Rattle.plain_model.specs.Machine.{State, transaction_of}
 use Rattle.plain_model.specs.History.{Moment, next}
-use Rattle.store_model.specs.Cells.{Cell}
+use Rattle.strict_locks.specs.Locks.{holders_of, is_owner, is_sharer}
+use Rattle.store_model.specs.Core.{Round, Core}
+use Rattle.store_model.specs.Sound.{IsSound}
 use Rattle.store_model.proofs.CallLaws.{call-refused}
-use Rattle.store_model.proofs.CallCells.{refusal-call_cells}
+use Rattle.store_model.proofs.CallSound.{refusal-call}
 use Rattle.store_model.proofs.GrantLaws.{refused-undone}
 use Rattle.core_store.specs.declared.three.HeldFrame.{HeldFrame}
-use Rattle.core_store.specs.Frames.{Agree}
+use Rattle.core_store.specs.Owed.{entries_owed}
 use Rattle.core_store.specs.Plans.{IsRefused}
 use Rattle.core_store.specs.Tables.{TablesView}
-use Rattle.core_store.specs.Stands.{Matches, owns_in, shares_in, is_free, Stands, Answers, Performs}
+use Rattle.core_store.specs.Transactions.{running_at}
+use Rattle.core_store.specs.Stands.{Matches, owns_in, shares_in, is_free, Stands, Performs}
 use Rattle.core_store.proofs.PlanRecords.{refused-logs}
+use Rattle.core_store.proofs.RestLaws.{round-same}
+
+-- the owed entries are a matter of the state and of the counts of undone writes
+pub owed-moment : (m n : Moment) → n.state ≡ m.state → n.undone ≡ m.undone → entries_owed n ≡ entries_owed m
+owed-moment m n state undone =
+    ap (λ (f : ℕ → ℕ). entries_owed (record n { undone = f })) undone
+    ∙ ap (λ (s : State). entries_owed (record n { state = s; undone = m.undone })) state
 
 -- the tables stand for each moment with the same state and the same counts of undone writes
-pub Stands-moment : (slots : ℕ) (v : TablesView) (cells : List Cell) (m n : Moment) → Stands slots v cells m → n.state ≡ m.state → n.undone ≡ m.undone → Rattle.store_model.specs.SoundCells.IsSoundCells cells n → Stands slots v cells n
-Stands-moment slots v cells m n h state undone sound = record {
+pub Stands-moment : (slots : ℕ) (v : TablesView) (c : Core) (n : Moment) → Stands slots v c → n.state ≡ c.moment.state → n.undone ≡ c.moment.undone → IsSound (record c { moment = n }) → Stands slots v (record c { moment = n })
+Stands-moment slots v c n h state undone sound = record {
   ids = ap (λ (s : State). s.ids) state ∙ h.ids;
   few = h.few;
   slots_are = ap (λ (s : State). s.slots) state ∙ h.slots_are;
   counted = h.counted;
   sound = sound;
-  running = subst (λ (f : ℕ → ℕ). (q : ℕ) → Matches slots n.state.committed (Rattle.core_store.specs.Transactions.running_at v.transactions q) (Rattle.plain_model.specs.Machine.transaction_of n.state q) (f q)) (sym undone)
-      (subst (λ (s : State). (q : ℕ) → Matches slots s.committed (Rattle.core_store.specs.Transactions.running_at v.transactions q) (Rattle.plain_model.specs.Machine.transaction_of s q) (m.undone q)) (sym state) h.running);
+  running = subst (λ (f : ℕ → ℕ). (q : ℕ) → Matches slots n.state.committed (running_at v.transactions q) (transaction_of n.state q) (f q)) (sym undone)
+      (subst (λ (s : State). (q : ℕ) → Matches slots s.committed (running_at v.transactions q) (transaction_of s q) (c.moment.undone q)) (sym state) h.running);
   restorable = h.restorable;
-  owners = subst (λ (s : State). (id pass : ℕ) → Rattle.strict_locks.specs.Locks.is_owner (Rattle.strict_locks.specs.Locks.holders_of v.locks id) pass ≡ owns_in (Rattle.plain_model.specs.Machine.transaction_of s pass) id) (sym state) h.owners;
-  sharers = subst (λ (s : State). (id pass : ℕ) → Rattle.strict_locks.specs.Locks.is_sharer (Rattle.strict_locks.specs.Locks.holders_of v.locks id) pass ≡ shares_in (Rattle.plain_model.specs.Machine.transaction_of s pass) id) (sym state) h.sharers;
-  free = subst (λ (s : State). (id : ℕ) → Rattle.std.specs.List.list_any (Rattle.std.specs.BTreeMap.is_at (Rattle.std.specs.Ordering.nat_cmp id)) v.free ≡ is_free s id) (sym state) h.free;
+  owners = subst (λ (s : State). (id pass : ℕ) → is_owner (holders_of v.locks id) pass ≡ owns_in (transaction_of s pass) id) (sym state) h.owners;
+  sharers = subst (λ (s : State). (id pass : ℕ) → is_sharer (holders_of v.locks id) pass ≡ shares_in (transaction_of s pass) id) (sym state) h.sharers;
+  free = subst (λ (s : State). (id : ℕ) → list_any (is_at (nat_cmp id)) v.free ≡ is_free s id) (sym state) h.free;
   zeros = h.zeros;
+  references = h.references;
+  queue = h.queue;
+  round = h.round;
+  in_step = h.in_step;
+  emptied = h.emptied;
+  owed = h.owed ∙ sym (owed-moment c.moment n state undone);
 }
 
-pub performs-refused : (slots : ℕ) (v : TablesView) (held : List (HeldFrame slots)) (pass : ℕ) (c : TransactionCall) (reply : Reply) → IsRefused slots v pass c reply → Performs slots v v held held pass c reply None
-performs-refused slots v held pass c reply refused cells m h agree =
-    let r = refused cells m h in
-    let step_is = call-refused m.state pass c reply r in
+pub performs-refused : (slots : ℕ) (v : TablesView) (held : List (HeldFrame slots)) (pass : ℕ) (call : TransactionCall) (reply : Reply) → IsRefused slots v pass call reply → Performs slots v v held held pass call reply None
+performs-refused slots v held pass call reply refused c h agree =
+    let r = refused c h in
+    let n = next c.moment (Call pass call reply) in
+    let step_is = call-refused c.moment.state pass call reply r in
+    let stands = Stands-moment slots v c n h (ap (λ (x : Reply × State). x.1) step_is) (refused-undone c.moment.state c.moment.undone pass call reply r) (refusal-call c h.sound pass call reply r) in
     record {
       machine = sym (ap (λ (x : Reply × State). x.0) step_is);
-      record_is = sym (refused-logs m.state cells pass c reply r);
+      record_is = sym (refused-logs c.moment.state c.cells pass call reply r);
       moves = record { fits = tt; lays = tt; agree = agree; elsewhere = λ p e. refl };
-      stands = Stands-moment slots v cells m (next m (Call pass c reply)) h (ap (λ (x : Reply × State). x.1) step_is) (refused-undone m.state m.undone pass c reply r) (refusal-call_cells cells m h.sound pass c reply r);
+      stands = subst (λ (x : Option Round). Stands slots v (record c { moment = n; round = x })) (sym (round-same c.round)) stands;
     }

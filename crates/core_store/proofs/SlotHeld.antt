@@ -71,7 +71,7 @@ stays-relinked hs id slot pointer l none nulls = record {
 -- ---- the held cells after a change
 
 module _ (cells : List Cell) (hs : List Held) (o : AreCellsOf cells hs) (new : List Held) (ids : (i : ℕ) → is_held new i ≡ is_held hs i) (once : AreOnce new) (after : List Cell) (is : with_held new cells ≡ after) (long : length after ≡ length cells) where
-  cells-after : AreCellsOf after new
+  pub cells-after : AreCellsOf after new
   cells-after =
       let within : (i : ℕ) → is_held new i ≡ true → (i ≢ 0) × (i < length cells) = λ i l. o.within i (sym (ids i) ∙ l) in
       record {
@@ -79,10 +79,10 @@ module _ (cells : List Cell) (hs : List Held) (o : AreCellsOf cells hs) (new : L
         within = λ i l. (let w = within i l in (w.0, subst (λ (n : ℕ). i < n) (sym long) w.1));
       }
 
-ids-twice : (hs : List Held) (u v : ℕ) (f g : Cell → Cell) (i : ℕ) → is_held (edit_held v g (edit_held u f hs)) i ≡ is_held hs i
+pub ids-twice : (hs : List Held) (u v : ℕ) (f g : Cell → Cell) (i : ℕ) → is_held (edit_held v g (edit_held u f hs)) i ≡ is_held hs i
 ids-twice hs u v f g i = is_held-edit_held v g (edit_held u f hs) i ∙ is_held-edit_held u f hs i
 
-once-twice : (hs : List Held) (u v : ℕ) (f g : Cell → Cell) → AreOnce hs → AreOnce (edit_held v g (edit_held u f hs))
+pub once-twice : (hs : List Held) (u v : ℕ) (f g : Cell → Cell) → AreOnce hs → AreOnce (edit_held v g (edit_held u f hs))
 once-twice hs u v f g once = AreOnce-edit_held v g (edit_held u f hs) (AreOnce-edit_held u f hs once)
 
 pub cut-relinks : (hs new : List Held) (id slot : ℕ) → new ≡ without_pointer id slot hs → is_held hs id ≡ true → is_held hs (held_pointer hs id slot).target ≡ true → AreRelinked hs new id slot (λ cells. null)

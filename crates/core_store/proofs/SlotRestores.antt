@@ -13,7 +13,7 @@ use Rattle.core_store.specs.declared.slots.SlotChange.{SlotChange}
 use Rattle.core_store.specs.Frames.{Agree}
 use Rattle.core_store.specs.Changes.{restored_change, undo_record, after_change}
 use Rattle.core_store.specs.Logged.{logged_by_undo}
-use Rattle.core_store.specs.Slots.{CanChange, IsReadyToEdit, IsChanged}
+use Rattle.core_store.specs.Slots.{CanChange, IsReadyToChange, IsReadyToEdit, IsChanged}
 use Rattle.core_store.specs.Ready.{IsReadyToRestore, CanRestore}
 use Rattle.core_store.proofs.PageLaws.{elsewhere-edit}
 use Rattle.core_store.proofs.SlotLaws.{slot-place, pays-marks}
@@ -47,6 +47,12 @@ module _ (slots ids : ℕ) (cells : List Cell) (pass : ℕ) (w : Write) (slot : 
 -- what is laid again is a small id
 pub small-value : {slots : ℕ} (held : List (HeldFrame slots)) (zeros : List Bool) (w : Write) (slot : ℕ) → w.place ≡ Slot slot → IsReadyToRestore held zeros w → w.value < 65536
 small-value held zeros w slot is r = (small-ids held zeros w.id slot w.value (subst (λ (p : Place). IsReadyToRestore held zeros (record w { place = p })) is r)).3
+
+-- the place of the slot is none of a payload
+pub restored-place : {slots : ℕ} (held : List (HeldFrame slots)) (zeros : List Bool) (w : Write) (slot : ℕ) → w.place ≡ Slot slot → IsSlotCount slots → IsReadyToRestore held zeros w → slot ≢ payload_place
+restored-place {slots} held zeros w slot is count r =
+    let ready : IsReadyToChange held zeros w.id slot w.value = subst (λ (p : Place). IsReadyToRestore held zeros (record w { place = p })) is r in
+    slot-place slots slot count ready.can.within
 
 -- ---- the payload
 

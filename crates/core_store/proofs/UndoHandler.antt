@@ -1,18 +1,19 @@
 -- What an abort step does, from the tables and the held pages alone.
-use Rattle.std.proofs.Common.{◌≡◌, ◌≢◌, ℕ, ◌+◌, ◌<◌, List, [], ◌∷◌, ◌++◌, Bool, true, refl, sym, ap, ◌∙◌, subst, Option, Some, None, inl, inr, ◌⊎◌, ⊎_elim, arith, length, map}
+use Rattle.std.proofs.Common.{◌≡◌, ℕ, ◌+◌, ◌<◌, List, [], ◌∷◌, ◌++◌, Bool, true, refl, sym, ap, ◌∙◌, subst, Option, Some, None, inl, inr, ◌⊎◌, arith, length}
 use Rattle.std.specs.Prelude.{Contains}
 use Rattle.std.specs.Option.{option_map_or}
-use Rattle.std.specs.List.{last_or, AllByRecursion}
+use Rattle.std.specs.List.{last_or}
 use Rattle.std.proofs.lemmas.List.{length_push}
 use Rattle.std.proofs.lemmas.List.Elements.{Contains-append_right}
 use Rattle.plain_model.specs.declared.write.Place.{Place}
 use Rattle.plain_model.specs.declared.write.Place.TheVariants.{Slot, Payload, Whole}
 use Rattle.plain_model.specs.declared.write.Write.{Write}
-use Rattle.plain_model.specs.History.{Moment}
 use Rattle.log_record.specs.declared.cell_record.CellRecord.{CellRecord}
 use Rattle.log_record.specs.Records.{after_cell_record, FitsCells, LaysWell}
 use Rattle.store_model.specs.Cells.{Cell, is_live, pays}
+use Rattle.store_model.specs.Core.{Core}
 use Rattle.store_model.specs.SoundCells.{AreConsistent}
+use Rattle.store_model.proofs.ConsistentLaws.{consistent_of}
 use Rattle.store_model.proofs.Lists.{Contains-here}
 use Rattle.store_model.proofs.CountLaws.{relinked-live}
 use Rattle.store_model.proofs.EditLaws.{edit-keeps}
@@ -21,19 +22,19 @@ use Rattle.core_store.specs.Changes.{restored_change}
 use Rattle.core_store.specs.Frames.{Agree}
 use Rattle.core_store.specs.Logged.{logged_by_undo, objects_of_undo}
 use Rattle.core_store.specs.Replaced.{next_to_restore}
-use Rattle.core_store.specs.Slots.{HoldsPagesOf, CanChange}
+use Rattle.core_store.specs.RoundView.{touched_by_record}
+use Rattle.core_store.specs.Slots.{HoldsPagesOf, CanChange, IsChanged}
 use Rattle.core_store.specs.Transactions.{Running, running_at, undoing}
 use Rattle.core_store.specs.Tables.{TablesView, changed_at}
-use Rattle.core_store.specs.Stands.{CanLay, Stands, UndoesOne, EndsAbort}
-use Rattle.core_store.specs.Steps.{Ends}
-use Rattle.core_store.specs.Ready.{IsReadyToUndo, IsReadyToRestore, CanRestore, Restores}
-use Rattle.core_store.proofs.EndLaws.{ended-abort}
+use Rattle.core_store.specs.Stands.{CanLay, Stands, Undoes, UndoesOne}
+use Rattle.core_store.specs.Ready.{IsReadyToRestore, CanRestore, Restores}
 use Rattle.core_store.proofs.PageLaws.{id-small}
 use Rattle.core_store.proofs.PlanActive.{active-of}
 use Rattle.core_store.proofs.PlanLaws.{live-id}
 use Rattle.core_store.proofs.ReplacedLists.{HasLast, ends, last_or-push}
 use Rattle.core_store.proofs.SlotLaws.{undo-fits, undo-lays_well, after-undo, slot-place}
-use Rattle.core_store.proofs.UndoLaws.{undoes, next-kept}
+use Rattle.core_store.proofs.UndoLaws.{undoes}
+use Rattle.core_store.proofs.UndoneLaws.{next-kept}
 
 -- the last of a list is among it
 last-among : (ws : List Write) (w : Write) → last_or None ws ≡ Some w → (0 < length ws) × Contains ws w
@@ -47,71 +48,67 @@ last-among ws w e = by (ends ws)
         let long = ap (λ (xs : List Write). length xs) h.split ∙ length_push h.front h.last in
         (omega (arith, long), subst (λ xs. Contains xs w) (sym h.split) (subst (λ x. Contains (h.front ++ x ∷ []) w) (sym same) (Contains-append_right h.front (w ∷ []) w (Contains-here w []))))
 
-module _ (slots : ℕ) (v : TablesView) (cells : List Cell) (m : Moment) (h : Stands slots v cells m) where
-  consistent : AreConsistent slots v.ids cells
-  consistent = subst (λ n. AreConsistent n v.ids cells) h.slots_are (subst (λ n. AreConsistent m.state.slots n cells) h.ids h.sound.consistent)
+module _ (slots : ℕ) (v : TablesView) (c : Core) (h : Stands slots v c) where
+  consistent : AreConsistent slots v.ids c.cells
+  consistent = subst (λ n. AreConsistent n v.ids c.cells) h.slots_are (subst (λ n. AreConsistent c.moment.state.slots n c.cells) h.ids (consistent_of c h.sound))
 
   -- what can be laid can be restored
-  pub lay-restores : (w : Write) → CanLay slots cells w → CanRestore slots v.ids cells w
+  pub lay-restores : (w : Write) → CanLay slots c.cells w → CanRestore slots v.ids c.cells w
   lay-restores w k = by w.id w.place w.value k
     where
-      by : (id : ℕ) (place : Place) (value : ℕ) → CanLay slots cells (record { id = id; place = place; value = value }) → CanRestore slots v.ids cells (record { id = id; place = place; value = value })
+      by : (id : ℕ) (place : Place) (value : ℕ) → CanLay slots c.cells (record { id = id; place = place; value = value }) → CanRestore slots v.ids c.cells (record { id = id; place = place; value = value })
       by id (Slot slot) value k = record { consistent = consistent; few = h.few; live = k.0; within = k.1.0; target_live = k.1.1 }
       by id Payload value k = k.0
       by id Whole value k = absurd k.1
 
-  lay-ready : (held : List (HeldFrame slots)) → Agree cells held → (w : Write) → CanLay slots cells w → HoldsPagesOf held (objects_of_undo cells w) → IsReadyToRestore held v.zeros w
+  lay-ready : (held : List (HeldFrame slots)) → Agree c.cells held → (w : Write) → CanLay slots c.cells w → HoldsPagesOf held (objects_of_undo c.cells w) → IsReadyToRestore held v.zeros w
   lay-ready held agree w k pages = by w.id w.place w.value k pages
     where
-      by : (id : ℕ) (place : Place) (value : ℕ) → CanLay slots cells (record { id = id; place = place; value = value }) → HoldsPagesOf held (objects_of_undo cells (record { id = id; place = place; value = value })) → IsReadyToRestore held v.zeros (record { id = id; place = place; value = value })
-      by id (Slot slot) value k pages = record { ids = v.ids; cells = cells; agree = agree; marks = h.zeros; can = record { consistent = consistent; few = h.few; live = k.0; within = k.1.0; target_live = k.1.1 }; pages = pages }
-      by id Payload value k pages = let l = live-id h id k.0 in record { cells = cells; agree = agree; above = l.above; small = id-small id l.few; live = k.0; page = pages.0 }
+      by : (id : ℕ) (place : Place) (value : ℕ) → CanLay slots c.cells (record { id = id; place = place; value = value }) → HoldsPagesOf held (objects_of_undo c.cells (record { id = id; place = place; value = value })) → IsReadyToRestore held v.zeros (record { id = id; place = place; value = value })
+      by id (Slot slot) value k pages = record { ids = v.ids; cells = c.cells; agree = agree; marks = h.zeros; can = record { consistent = consistent; few = h.few; live = k.0; within = k.1.0; target_live = k.1.1 }; pages = pages }
+      by id Payload value k pages = let l = live-id h id k.0 in record { cells = c.cells; agree = agree; above = l.above; small = id-small id l.few; live = k.0; page = pages.0 }
       by id Whole value k pages = absurd k.1
 
   -- the record of laying it fits, closes no cycle, and frees no cell
-  lay-fits : (pass : ℕ) (w : Write) → CanLay slots cells w → FitsCells cells (logged_by_undo cells pass w) × LaysWell cells (logged_by_undo cells pass w) × ((y : ℕ) → is_live cells y ≡ true → is_live (after_cell_record slots cells (logged_by_undo cells pass w)) y ≡ true)
+  lay-fits : (pass : ℕ) (w : Write) → CanLay slots c.cells w → FitsCells c.cells (logged_by_undo c.cells pass w) × LaysWell c.cells (logged_by_undo c.cells pass w) × ((y : ℕ) → is_live c.cells y ≡ true → is_live (after_cell_record slots c.cells (logged_by_undo c.cells pass w)) y ≡ true)
   lay-fits pass w k = by w.id w.place w.value k
     where
-      by : (id : ℕ) (place : Place) (value : ℕ) → (let w : Write = record { id = id; place = place; value = value } in CanLay slots cells w → FitsCells cells (logged_by_undo cells pass w) × LaysWell cells (logged_by_undo cells pass w) × ((y : ℕ) → is_live cells y ≡ true → is_live (after_cell_record slots cells (logged_by_undo cells pass w)) y ≡ true))
+      by : (id : ℕ) (place : Place) (value : ℕ) → (let w : Write = record { id = id; place = place; value = value } in CanLay slots c.cells w → FitsCells c.cells (logged_by_undo c.cells pass w) × LaysWell c.cells (logged_by_undo c.cells pass w) × ((y : ℕ) → is_live c.cells y ≡ true → is_live (after_cell_record slots c.cells (logged_by_undo c.cells pass w)) y ≡ true))
       by id (Slot slot) value k =
           let place = slot-place slots slot h.counted k.1.0 in
-          let can : CanChange slots v.ids cells id slot value = record { consistent = consistent; few = h.few; live = k.0; within = k.1.0; target_live = k.1.1 } in
-          let c = restored_change cells id slot value in (
-            undo-fits slots v.ids cells id slot value can pass place,
-            undo-lays_well cells pass id slot value place,
-            λ y e. ap (λ (cs : List Cell). is_live cs y) (after-undo slots cells pass id slot value place) ∙ (relinked-live cells id slot (record { target = value; bit = c.new_bit }) y ∙ e),
+          let can : CanChange slots v.ids c.cells id slot value = record { consistent = consistent; few = h.few; live = k.0; within = k.1.0; target_live = k.1.1 } in
+          let k2 = restored_change c.cells id slot value in (
+            undo-fits slots v.ids c.cells id slot value can pass place,
+            undo-lays_well c.cells pass id slot value place,
+            λ y e. ap (λ (cs : List Cell). is_live cs y) (after-undo slots c.cells pass id slot value place) ∙ (relinked-live c.cells id slot (record { target = value; bit = k2.new_bit }) y ∙ e),
           )
-      by id Payload value k = ((k.0, refl), tt, λ y e. edit-keeps (λ (c : Cell). c.live) cells id y (pays value) (λ c. refl) ∙ e)
+      by id Payload value k = ((k.0, refl), tt, λ y e. edit-keeps (λ (x : Cell). x.live) c.cells id y (pays value) (λ x. refl) ∙ e)
       by id Whole value k = absurd k.1
 
   module _ (pass : ℕ) (kept : Running) (here : running_at v.transactions pass ≡ Some kept) (x : Write) (last : last_or None kept.replaced ≡ Some x) where
-    can : CanLay slots cells x
+    can : CanLay slots c.cells x
     can = h.restorable pass kept here x (last-among kept.replaced x last).1
 
-    pub ready-restore : (held : List (HeldFrame slots)) → Agree cells held → HoldsPagesOf held (option_map_or (objects_of_undo cells) (next_to_restore m pass) []) → IsReadyToRestore held v.zeros x
+    pub ready-restore : (held : List (HeldFrame slots)) → Agree c.cells held → HoldsPagesOf held (option_map_or (objects_of_undo c.cells) (next_to_restore c.moment pass) []) → IsReadyToRestore held v.zeros x
     ready-restore held agree pages =
         let a = active-of h pass kept here in
-        let next = next-kept slots m pass kept a.transaction h.slots_are a.found a.runs ∙ last in
-        lay-ready held agree x can (subst (λ (o : Option Write). HoldsPagesOf held (option_map_or (objects_of_undo cells) o [])) next pages)
+        let next = next-kept slots c.moment pass kept a.transaction h.slots_are a.found a.runs ∙ last in
+        lay-ready held agree x can (subst (λ (o : Option Write). HoldsPagesOf held (option_map_or (objects_of_undo c.cells) o [])) next pages)
 
-    pub undoes-step : (held new : List (HeldFrame slots)) (n : ℕ) (marks : List Bool) (logged : CellRecord) → Agree cells held → Restores held new v.zeros marks pass x logged
-        → Rattle.core_store.specs.Stands.Undoes slots (record v { zeros = marks; transactions = changed_at pass undoing v.transactions; owed = n }) cells m held new pass logged
-    undoes-step held new n marks logged agree restores =
+    pub undoes-step : (held new : List (HeldFrame slots)) (n : ℕ) (marks : List Bool) (logged : CellRecord) → Agree c.cells held → Restores held new v.zeros marks pass x logged → n + 1 ≡ v.owed
+        → Undoes slots (record v { zeros = marks; transactions = changed_at pass undoing v.transactions; owed = n; round = touched_by_record v.round (Some logged) }) c held new pass logged
+    undoes-step held new n marks logged agree restores owed =
         let a = active-of h pass kept here in
-        let done = restores v.ids cells agree (lay-restores x can) in
+        let done = restores v.ids c.cells agree (lay-restores x can) in
         let f = lay-fits pass x can in
-        let k = subst (λ (r : CellRecord). Rattle.core_store.specs.Slots.IsChanged cells (after_cell_record slots cells r) held new v.zeros marks) done.0 done.1 in
-        subst (λ (r : CellRecord). Rattle.core_store.specs.Stands.Undoes slots (record v { zeros = marks; transactions = changed_at pass undoing v.transactions; owed = n }) cells m held new pass r) (sym done.0)
-        (undoes slots v cells m h pass kept a.transaction a.found a.runs (last-among kept.replaced x last).0 held new n marks x here last f.0 f.1 k.agree k.elsewhere (k.marks_are h.zeros) f.2 can)
+        let k = subst (λ (r : CellRecord). IsChanged c.cells (after_cell_record slots c.cells r) held new v.zeros marks) done.0 done.1 in
+        subst (λ (r : CellRecord). Undoes slots (record v { zeros = marks; transactions = changed_at pass undoing v.transactions; owed = n; round = touched_by_record v.round (Some r) }) c held new pass r) (sym done.0)
+        (undoes slots v c h pass kept a.transaction a.found a.runs (last-among kept.replaced x last).0 held new n marks x here last f.0 f.1 k.agree k.elsewhere (k.marks_are h.zeros) f.2 can owed)
 
 -- whatever the tables stand for, one write of the client is undone
 pub undoes-one : {slots : ℕ} (v : TablesView) (held new : List (HeldFrame slots)) (n : ℕ) (marks : List Bool) (pass : ℕ) (kept : Running) (x : Write) (logged : CellRecord) → running_at v.transactions pass ≡ Some kept → last_or None kept.replaced ≡ Some x → Restores held new v.zeros marks pass x logged
-    → UndoesOne slots v (record v { zeros = marks; transactions = changed_at pass undoing v.transactions; owed = n }) held new pass logged
-undoes-one {slots} v held new n marks pass kept x logged here last restores cells m h agree = undoes-step slots v cells m h pass kept here x last held new n marks logged agree restores
-
--- whatever the tables stand for, the client's abort has ended
-pub ends-abort : (slots : ℕ) (v w : TablesView) (pass : ℕ) (kept : Running) → running_at v.transactions pass ≡ Some kept → kept.replaced ≡ [] → Ends v w pass → EndsAbort slots v w pass
-ends-abort slots v w pass kept here nothing end cells m h = let a = active-of h pass kept here in ended-abort slots v w cells m pass kept a.transaction h a.found a.runs nothing end
+    → n + 1 ≡ v.owed → UndoesOne slots v (record v { zeros = marks; transactions = changed_at pass undoing v.transactions; owed = n; round = touched_by_record v.round (Some logged) }) held new pass logged
+undoes-one {slots} v held new n marks pass kept x logged here last restores owed c h agree = undoes-step slots v c h pass kept here x last held new n marks logged agree restores owed
 
 -- a list without a last item has none
 pub no-last : (ws : List Write) → last_or None ws ≡ None → ws ≡ []

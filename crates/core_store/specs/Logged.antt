@@ -1,12 +1,11 @@
 -- The record that a call logs, and the pages that it works on.
-use Rattle.std.specs.Prelude.{ℕ, ◌==◌, if◌then◌else◌, not, ◌&&◌, ◌||◌, Bool, true, false, List, [], ◌∷◌, ◌++◌, map, find, Option, Some, None, unwrap_or}
+use Rattle.std.specs.Prelude.{ℕ, ◌==◌, if◌then◌else◌, not, ◌||◌, Bool, false, List, [], ◌∷◌, ◌++◌, map, find, Option, Some, None, unwrap_or}
 use Rattle.std.specs.Option.{option_map_or}
 use Rattle.plain_model.specs.declared.write.Place.{Place}
-use Rattle.plain_model.specs.declared.write.Place.TheVariants.{Slot, Payload, Whole}
+use Rattle.plain_model.specs.declared.write.Place.TheVariants.{Slot}
 use Rattle.plain_model.specs.declared.write.Write.{Write}
 use Rattle.plain_model.specs.declared.calls.Call.{Call as TransactionCall}
 use Rattle.plain_model.specs.declared.calls.Call.TheVariants as call
-use Rattle.plain_model.specs.declared.calls.Reply.{Reply}
 use Rattle.plain_model.specs.ActiveTransaction.{ActiveTransaction}
 use Rattle.plain_model.specs.Machine.{State, transaction_of, refusal_of, register_id, free_id}
 use Rattle.store_model.specs.Cells.{Cell, cell_at, pointer_at}

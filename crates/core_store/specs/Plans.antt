@@ -1,13 +1,12 @@
 -- What is known of a call that isn't refused, in the words of the tables.
-use Rattle.std.specs.Prelude.{◌≡◌, ℕ, Bool, true, false, List, Option, Some, None, Ok}
+use Rattle.std.specs.Prelude.{◌≡◌, ℕ, Bool, true, false, Option, Some, None, Ok}
 use Rattle.plain_model.specs.declared.calls.Call.{Call as TransactionCall}
 use Rattle.plain_model.specs.declared.calls.Call.TheVariants as call
 use Rattle.plain_model.specs.declared.calls.Reply.{Reply}
 use Rattle.plain_model.specs.declared.calls.Reply.TheVariants.{Busy}
 use Rattle.plain_model.specs.Machine.{refusal_of}
-use Rattle.plain_model.specs.History.{Moment}
 use Rattle.strict_locks.specs.Locks.{holders_of, StandsInWay, StandsInWayOfShare, StandsInWayOfOwn, Nobody, IsLeast}
-use Rattle.store_model.specs.Cells.{Cell}
+use Rattle.store_model.specs.Core.{Core}
 use Rattle.core_store.specs.declared.plan.Lock.{Lock}
 use Rattle.core_store.specs.declared.plan.Lock.TheVariants.{Shared, Owned}
 use Rattle.core_store.specs.declared.plan.Plan.{Plan}
@@ -46,6 +45,13 @@ IsGranted v pass c (plan.Get id) = (r : ℕ) × (c ≡ call.GetPay r) × IsShare
 IsGranted v pass c (plan.Set id value) = (r : ℕ) × (c ≡ call.SetPay r value) × IsOwnable v pass r id
 IsGranted v pass c plan.Commit = (c ≡ call.Commit) × (if_not_running (running_at v.transactions pass) ≡ None)
 
+-- how many entries what the plan does may add to the history and to what its transaction owes
+abbrev pub entries_needed_by : Plan → ℕ
+entries_needed_by plan.Begin = 2
+entries_needed_by (plan.Store id slot target) = 2
+entries_needed_by (plan.Set id value) = 2
+entries_needed_by _ = 1
+
 -- whatever the tables stand for, the reference machine refuses the call so
 abbrev pub IsRefused : ℕ → TablesView → ℕ → TransactionCall → Reply → Type 0
-IsRefused slots v pass c reply = (cells : List Cell) (m : Moment) → Stands slots v cells m → refusal_of m.state pass c ≡ Some reply
+IsRefused slots v pass c reply = (core : Core) → Stands slots v core → refusal_of core.moment.state pass c ≡ Some reply

@@ -4,11 +4,11 @@ use Rattle.std.specs.List.{AllByRecursion}
 use Rattle.std.specs.Option.{option_map_or}
 use Rattle.plain_model.specs.declared.write.Write.{Write}
 use Rattle.plain_model.specs.declared.write.Place.{Place}
-use Rattle.plain_model.specs.declared.write.Place.TheVariants.{Slot, Payload, Whole}
+use Rattle.plain_model.specs.declared.write.Place.TheVariants.{Slot}
 use Rattle.plain_model.specs.declared.calls.Call.{Call as TransactionCall}
-use Rattle.plain_model.specs.History.{Moment}
 use Rattle.strict_locks.specs.Locks.{AddsOwner}
 use Rattle.store_model.specs.Cells.{Cell, is_live}
+use Rattle.store_model.specs.Core.{Core}
 use Rattle.core_store.specs.declared.three.HeldFrame.{HeldFrame}
 use Rattle.core_store.specs.declared.plan.Plan.{Plan}
 use Rattle.core_store.specs.declared.plan.Plan.TheVariants as plan
@@ -24,12 +24,11 @@ use Rattle.core_store.specs.Tables.{TablesView, changed_at}
 use Rattle.core_store.specs.Stands.{Stands, Performs}
 use Rattle.core_store.specs.Plans.{IsGranted}
 
--- the tables and the held pages stand for some moment, with some cells
+-- the tables stand for some journal, and the held pages for its cells
 pub record IsStanding {slots : ℕ} (v : TablesView) (held : List (HeldFrame slots)) : Type 0 where
-  pub cells : List Cell
-  pub moment : Moment
-  pub stands : Stands slots v cells moment
-  pub agree : Agree cells held
+  pub core : Core
+  pub stands : Stands slots v core
+  pub agree : Agree core.cells held
 
 -- the objects on which the plan works
 abbrev pub objects_of_plan : List Cell → Plan → List ℕ
@@ -53,7 +52,7 @@ pub record IsReady {slots : ℕ} (v : TablesView) (held : List (HeldFrame slots)
   pub granted : IsGranted v pass call p
   pub in_range : IsPlanInRange slots p
   pub standing : IsStanding v held
-  pub pages : HoldsPagesOf held (objects_of_plan standing.cells p)
+  pub pages : HoldsPagesOf held (objects_of_plan standing.core.cells p)
 
 -- whatever call has this plan is done as the machine does it
 abbrev pub Does : {slots : ℕ} → TablesView → TablesView → List (HeldFrame slots) → List (HeldFrame slots) → ℕ → Plan → Outcome → Type 0
@@ -67,16 +66,19 @@ pub record IsNoted (v w : TablesView) (pass id : ℕ) (replaced : Write) : Type 
   pub locks : AddsOwner v.locks w.locks pass id
   pub transactions : w.transactions ≡ changed_at pass (writing replaced) v.transactions
   pub owed : w.owed ≡ v.owed + 1
+  pub references : w.references ≡ v.references
+  pub queue : w.queue ≡ v.queue
+  pub round : w.round ≡ v.round
 
 -- the client is active, and the pages are held on which its next undo step works
 pub record IsReadyToUndo {slots : ℕ} (v : TablesView) (held : List (HeldFrame slots)) (pass : ℕ) : Type 0 where
   pub standing : IsStanding v held
-  pub pages : HoldsPagesOf held (option_map_or (objects_of_undo standing.cells) (next_to_restore standing.moment pass) [])
+  pub pages : HoldsPagesOf held (option_map_or (objects_of_undo standing.core.cells) (next_to_restore standing.core.moment pass) [])
 
 -- the pages are held on which the call works
 pub record IsReadyToCall {slots : ℕ} (v : TablesView) (held : List (HeldFrame slots)) (pass : ℕ) (call : TransactionCall) : Type 0 where
   pub standing : IsStanding v held
-  pub pages : AllByRecursion (λ p. is_held held p ≡ true) (pages_for standing.moment.state standing.cells pass call)
+  pub pages : AllByRecursion (λ p. is_held held p ≡ true) (pages_for standing.core.moment.state standing.core.cells pass call)
 
 -- ---- the undo of a write
 

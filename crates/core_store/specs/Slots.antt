@@ -1,14 +1,14 @@
 -- What a change of a slot is asked for, and what it leaves.
 use Rattle.std.specs.Prelude.{◌≡◌, ◌≢◌, ℕ, ◌<◌, ◌≤◌, ◌==◌, Bool, true, List, length, map}
 use Rattle.std.specs.List.{list_any, AllByRecursion}
-use Rattle.store_model.specs.Cells.{Pointer, Cell, is_live, relinked}
+use Rattle.store_model.specs.Cells.{Pointer, Cell, is_live, pointer_at, other_strength, relinked}
 use Rattle.store_model.specs.SoundCells.{AreConsistent}
 use Rattle.strength_counts.specs.Held.{Held, is_held as is_cell_held}
 use Rattle.strength_counts.specs.Laws.{ArePart}
 use Rattle.core_store.specs.declared.three.HeldFrame.{HeldFrame}
 use Rattle.core_store.specs.declared.slots.SlotChange.{SlotChange}
 use Rattle.core_store.specs.Frames.{page_of_id, is_held, Agree, IsSameElsewhere}
-use Rattle.core_store.specs.Changes.{after_change, has_no_strong}
+use Rattle.core_store.specs.Changes.{after_change, has_no_strong, is_counted_strong}
 use Rattle.core_store.specs.Logged.{object_and_targets}
 
 -- the page of each of these ids is held
@@ -42,6 +42,17 @@ pub record IsChanged {slots : ℕ} (cells after : List Cell) (held new : List (H
 abbrev pub Changes : {slots : ℕ} → List (HeldFrame slots) → List (HeldFrame slots) → List Bool → List Bool → ℕ → ℕ → ℕ → (List Cell → SlotChange) → SlotChange → Type 0
 Changes {slots} held new zeros marks id slot target change result =
     (ids : ℕ) (cells : List Cell) → Agree cells held → CanChange slots ids cells id slot target → (result ≡ change cells) × IsChanged cells (after_change cells id slot target result) held new zeros marks
+
+-- some store's cells are held, whose slot holds a strong pointer, with the pages of the object and of its target; and these are its marks
+pub record IsReadyToWeaken {slots : ℕ} (held : List (HeldFrame slots)) (zeros : List Bool) (id slot : ℕ) : Type 0 where
+  pub ready : IsReadyToChange held zeros id slot 0
+  pub strong : is_counted_strong ready.cells (pointer_at ready.cells id slot) ≡ true
+
+-- whatever cells are held whose slot holds a strong pointer, it becomes weak, and its target is told
+abbrev pub WeakensSlot : {slots : ℕ} → List (HeldFrame slots) → List (HeldFrame slots) → List Bool → List Bool → ℕ → ℕ → ℕ → Type 0
+WeakensSlot {slots} held new zeros marks id slot result =
+    (ids : ℕ) (cells : List Cell) → Agree cells held → CanChange slots ids cells id slot 0 → is_counted_strong cells (pointer_at cells id slot) ≡ true
+    → (result ≡ (pointer_at cells id slot).target) × IsChanged cells (relinked cells id slot (other_strength (pointer_at cells id slot))) held new zeros marks
 
 -- some store's cells are held, and the object is a live one of them
 pub record IsReadyToEdit {slots : ℕ} (held : List (HeldFrame slots)) (id : ℕ) : Type 0 where

@@ -1,5 +1,5 @@
 -- How what a journal keeps, and the cells in its pages, stand for a moment of the reference machine.
-use Rattle.std.specs.Prelude.{◌≡◌, ◌≢◌, ℕ, ◌+◌, ◌<◌, ◌≤◌, if◌then◌else◌, Bool, true, false, not, ◌==◌, ◌&&◌, nat_lt, nat_le, List, length, take, map, count_by, Contains, Option, Some, None, IfSome, option_map}
+use Rattle.std.specs.Prelude.{◌≡◌, ◌≢◌, ℕ, ◌+◌, ◌<◌, ◌≤◌, Bool, true, false, not, ◌&&◌, nat_lt, nat_le, List, length, take, map, count_by, slice_index, Contains, Option, Some, None, IfSome, option_map}
 use Rattle.std.specs.List.{list_any}
 use Rattle.std.specs.Option.{option_map_or}
 use Rattle.std.specs.Ordering.{nat_cmp}
@@ -10,26 +10,30 @@ use Rattle.plain_model.specs.declared.write.Place.TheVariants.{Slot, Payload, Wh
 use Rattle.plain_model.specs.declared.write.Write.{Write}
 use Rattle.plain_model.specs.declared.calls.Call.{Call as TransactionCall}
 use Rattle.plain_model.specs.declared.calls.Reply.{Reply}
-use Rattle.plain_model.specs.declared.calls.Entry.{Entry}
 use Rattle.plain_model.specs.declared.calls.Entry.TheVariants.{Call, Undo}
 use Rattle.plain_model.specs.ActiveTransaction.{ActiveTransaction}
 use Rattle.plain_model.specs.Machine.{State, step, transaction_of, is_among, is_stored}
-use Rattle.plain_model.specs.History.{Moment, can_be_undone, undoable, left_to_undo, next}
+use Rattle.plain_model.specs.History.{can_be_undone, undoable, left_to_undo}
 use Rattle.plain_model.specs.declared.calls.Call.TheVariants.{Abort}
 use Rattle.plain_model.specs.declared.calls.Reply.TheVariants.{Done}
 use Rattle.strict_locks.specs.Locks.{holders_of, is_owner, is_sharer}
 use Rattle.cell_page.specs.Format.{IsSlotCount}
-use Rattle.store_model.specs.Cells.{Cell, is_live}
-use Rattle.store_model.specs.SoundCells.{IsSoundCells}
+use Rattle.store_model.specs.Cells.{Cell, is_live, pointer_at}
+use Rattle.store_model.specs.Core.{Core}
+use Rattle.store_model.specs.Sound.{IsSound}
 use Rattle.log_record.specs.declared.cell_record.CellRecord.{CellRecord}
 use Rattle.log_record.specs.declared.cell_record.CellRecord.TheVariants.{AbortEnd}
-use Rattle.log_record.specs.Records.{after_cell_record, FitsCells, LaysWell}
+use Rattle.log_record.specs.Records.{FitsCells, LaysWell}
 use Rattle.core_store.specs.declared.three.HeldFrame.{HeldFrame}
-use Rattle.core_store.specs.Frames.{Agree, IsSameElsewhere, pages_held}
+use Rattle.core_store.specs.Frames.{Agree, IsSameElsewhere}
 use Rattle.core_store.specs.Changes.{has_no_strong}
 use Rattle.core_store.specs.Replaced.{replaced, next_to_restore}
 use Rattle.core_store.specs.Logged.{logged_by, logged_by_undo, after_logged}
 use Rattle.core_store.specs.Transactions.{Running, running_at}
+use Rattle.core_store.specs.References.{named_by}
+use Rattle.core_store.specs.RoundView.{RoundView, Closed, Walking, Sweeping, round_of, IsInStep}
+use Rattle.core_store.specs.Events.{after_event}
+use Rattle.core_store.specs.Owed.{entries_owed}
 use Rattle.core_store.specs.Tables.{TablesView}
 
 -- ---- one transaction
@@ -73,21 +77,37 @@ CanLay slots cells w = (is_live cells w.id ≡ true) × by w.place w.value
 abbrev pub most_ids : ℕ
 most_ids = 8192
 
--- the tables and the cells stand for the moment, in a store whose objects have so many slots
-pub record Stands (slots : ℕ) (v : TablesView) (cells : List Cell) (m : Moment) : Type 0 where
-  pub ids : m.state.ids ≡ v.ids
+-- in a sweep the slots that it has passed are null: all of the objects before its own that weren't freed, and the first ones of that
+abbrev pub IsEmptied : List Cell → RoundView → Type 0
+IsEmptied cells Closed = Unit {0}
+IsEmptied cells (Walking w) = Unit {0}
+IsEmptied cells (Sweeping w s slot) =
+    ((place k : ℕ) → s.freed ≤ place → place < s.emptied → place < length s.list → (pointer_at cells (slice_index s.list place) k).target ≡ 0)
+    × ((k : ℕ) → s.emptied < length s.list → k < slot → (pointer_at cells (slice_index s.list s.emptied) k).target ≡ 0)
+
+-- the tables stand for the journal, in a store whose objects have so many slots
+pub record Stands (slots : ℕ) (v : TablesView) (c : Core) : Type 0 where
+  pub ids : c.moment.state.ids ≡ v.ids
   pub few : v.ids ≤ most_ids
-  pub slots_are : m.state.slots ≡ slots
+  pub slots_are : c.moment.state.slots ≡ slots
   pub counted : IsSlotCount slots
-  -- counts are exact, strong pointers form no cycle, and each cell has what the committed graph with all writes not undone gives it
-  pub sound : IsSoundCells cells m
-  pub running : (pass : ℕ) → Matches slots m.state.committed (running_at v.transactions pass) (transaction_of m.state pass) (m.undone pass)
-  pub restorable : (pass : ℕ) (kept : Running) → running_at v.transactions pass ≡ Some kept → (w : Write) → Contains kept.replaced w → CanLay slots cells w
-  pub owners : (id pass : ℕ) → is_owner (holders_of v.locks id) pass ≡ owns_in (transaction_of m.state pass) id
-  pub sharers : (id pass : ℕ) → is_sharer (holders_of v.locks id) pass ≡ shares_in (transaction_of m.state pass) id
-  pub free : (id : ℕ) → list_any (is_at (nat_cmp id)) v.free ≡ is_free m.state id
+  -- counts are exact, strong pointers form no cycle, each cell has what the committed graph with all writes not undone gives it, and whatever may be needed is spared
+  pub sound : IsSound c
+  pub running : (pass : ℕ) → Matches slots c.moment.state.committed (running_at v.transactions pass) (transaction_of c.moment.state pass) (c.moment.undone pass)
+  pub restorable : (pass : ℕ) (kept : Running) → running_at v.transactions pass ≡ Some kept → (w : Write) → Contains kept.replaced w → CanLay slots c.cells w
+  pub owners : (id pass : ℕ) → is_owner (holders_of v.locks id) pass ≡ owns_in (transaction_of c.moment.state pass) id
+  pub sharers : (id pass : ℕ) → is_sharer (holders_of v.locks id) pass ≡ shares_in (transaction_of c.moment.state pass) id
+  pub free : (id : ℕ) → list_any (is_at (nat_cmp id)) v.free ≡ is_free c.moment.state id
   -- the marks are those of the cells
-  pub zeros : v.zeros ≡ map has_no_strong cells
+  pub zeros : v.zeros ≡ map has_no_strong c.cells
+  -- the references, the queue and the round are the journal's
+  pub references : (pass : ℕ) → v.references pass ≡ named_by c.refs pass
+  pub queue : v.queue ≡ c.queue
+  pub round : round_of v.round ≡ c.round
+  pub in_step : IsInStep slots v.ids v.round
+  pub emptied : IsEmptied c.cells v.round
+  -- what is owed is what the active transactions owe
+  pub owed : v.owed ≡ entries_owed c.moment
 
 -- ---- events
 
@@ -100,32 +120,32 @@ pub record Moves (slots : ℕ) (cells : List Cell) (held new : List (HeldFrame s
   pub agree : Agree (after_logged slots cells logged) new
   pub elsewhere : IsSameElsewhere cells (after_logged slots cells logged) held
 
--- the reply and the record are those of the call, and the new tables stand for the machine's next moment
-pub record Answers (slots : ℕ) (w : TablesView) (cells : List Cell) (m : Moment) (held new : List (HeldFrame slots)) (pass : ℕ) (call : TransactionCall) (reply : Reply) (logged : Option CellRecord) : Type 0 where
-  pub machine : reply ≡ (step m.state pass call).0
-  pub record_is : logged ≡ logged_by m.state cells pass call
-  pub moves : Moves slots cells held new logged
-  pub stands : Stands slots w (after_logged slots cells logged) (next m (Call pass call reply))
+-- the reply and the record are those of the call, and the new tables stand for the journal after it
+pub record Answers (slots : ℕ) (w : TablesView) (c : Core) (held new : List (HeldFrame slots)) (pass : ℕ) (call : TransactionCall) (reply : Reply) (logged : Option CellRecord) : Type 0 where
+  pub machine : reply ≡ (step c.moment.state pass call).0
+  pub record_is : logged ≡ logged_by c.moment.state c.cells pass call
+  pub moves : Moves slots c.cells held new logged
+  pub stands : Stands slots w (after_event slots c (Call pass call reply) logged)
 
 -- whatever the tables and the held pages stand for, the call is done as the machine does it
 abbrev pub Performs : (slots : ℕ) → TablesView → TablesView → List (HeldFrame slots) → List (HeldFrame slots) → ℕ → TransactionCall → Reply → Option CellRecord → Type 0
-Performs slots v w held new pass call reply logged = (cells : List Cell) (m : Moment) → Stands slots v cells m → Agree cells held → Answers slots w cells m held new pass call reply logged
+Performs slots v w held new pass call reply logged = (c : Core) → Stands slots v c → Agree c.cells held → Answers slots w c held new pass call reply logged
 
 -- one write of the client is undone, with this record
-pub record Undoes (slots : ℕ) (w : TablesView) (cells : List Cell) (m : Moment) (held new : List (HeldFrame slots)) (pass : ℕ) (logged : CellRecord) : Type 0 where
-  pub some_left : 0 < left_to_undo m pass
-  pub record_is : Some logged ≡ option_map (logged_by_undo cells pass) (next_to_restore m pass)
-  pub moves : Moves slots cells held new (Some logged)
-  pub stands : Stands slots w (after_cell_record slots cells logged) (next m (Undo pass))
+pub record Undoes (slots : ℕ) (w : TablesView) (c : Core) (held new : List (HeldFrame slots)) (pass : ℕ) (logged : CellRecord) : Type 0 where
+  pub some_left : 0 < left_to_undo c.moment pass
+  pub record_is : Some logged ≡ option_map (logged_by_undo c.cells pass) (next_to_restore c.moment pass)
+  pub moves : Moves slots c.cells held new (Some logged)
+  pub stands : Stands slots w (after_event slots c (Undo pass) (Some logged))
 
 abbrev pub UndoesOne : (slots : ℕ) → TablesView → TablesView → List (HeldFrame slots) → List (HeldFrame slots) → ℕ → CellRecord → Type 0
-UndoesOne slots v w held new pass logged = (cells : List Cell) (m : Moment) → Stands slots v cells m → Agree cells held → Undoes slots w cells m held new pass logged
+UndoesOne slots v w held new pass logged = (c : Core) → Stands slots v c → Agree c.cells held → Undoes slots w c held new pass logged
 
 -- all writes of the client are undone, and its transaction has ended
-pub record Ended (slots : ℕ) (w : TablesView) (cells : List Cell) (m : Moment) (pass : ℕ) : Type 0 where
-  pub all_undone : m.undone pass ≡ undoable m.state pass
-  pub machine : Done ≡ (step m.state pass Abort).0
-  pub stands : Stands slots w cells (next m (Call pass Abort Done))
+pub record Ended (slots : ℕ) (w : TablesView) (c : Core) (pass : ℕ) : Type 0 where
+  pub all_undone : c.moment.undone pass ≡ undoable c.moment.state pass
+  pub machine : Done ≡ (step c.moment.state pass Abort).0
+  pub stands : Stands slots w (after_event slots c (Call pass Abort Done) (Some (AbortEnd pass)))
 
 abbrev pub EndsAbort : ℕ → TablesView → TablesView → ℕ → Type 0
-EndsAbort slots v w pass = (cells : List Cell) (m : Moment) → Stands slots v cells m → Ended slots w cells m pass
+EndsAbort slots v w pass = (c : Core) → Stands slots v c → Ended slots w c pass

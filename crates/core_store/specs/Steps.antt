@@ -1,6 +1,13 @@
 -- What the steps of a transaction make of the tables.
-use Rattle.std.specs.Prelude.{◌≡◌, ◌≢◌, ℕ, ◌+◌, Bool, true, false, List, [], ◌∷◌, length, replicate, Some, None}
+use Rattle.std.specs.Prelude.{◌≡◌, ◌≢◌, ℕ, ◌+◌, Bool, true, false, not, ◌&&◌, ◌==◌, List, [], ◌∷◌, filter, length, replicate, get_or, Some, None, if◌then◌else◌}
+use Rattle.std.specs.List.{list_any}
+use Rattle.std.specs.Ordering.{nat_cmp}
+use Rattle.std.specs.BTreeMap.{is_at}
+use Rattle.plain_model.specs.Graphs.{root}
 use Rattle.strict_locks.specs.Locks.{DropsAll}
+use Rattle.ref_tables.specs.Queue.{has, joined}
+use Rattle.core_store.specs.RoundView.{Closed, ids_in}
+use Rattle.core_store.specs.Queued.{all_joined, each_once}
 use Rattle.core_store.specs.Transactions.{Running, running_at}
 use Rattle.core_store.specs.FreeIds.{AreFrom2}
 use Rattle.core_store.specs.Tables.{TablesView}
@@ -10,7 +17,42 @@ pub record TakesAt (old new : List (ℕ × Running)) (pass : ℕ) : Type 0 where
   pub here : running_at new pass ≡ None
   pub others : (q : ℕ) → q ≢ pass → running_at new q ≡ running_at old q
 
--- the client's transaction is over: its locks are given back, and free ids and marks are as before
+-- the test tells which ids these references name
+pub record AreNames (references : ℕ → List ℕ) (named : ℕ → Bool) : Type 0 where
+  pub yes : (id : ℕ) → named id ≡ true → (p : ℕ) × (has (references p) id ≡ true)
+  pub no : (id p : ℕ) → named id ≡ false → has (references p) id ≡ false
+
+-- by the marks, the free ids and the round: no strong pointer leads to the object, it isn't the root, it isn't free, and the open round doesn't have it; and it isn't named
+abbrev pub is_queued : TablesView → (ℕ → Bool) → ℕ → Bool
+is_queued v named id = get_or v.zeros id false && (not (id == root) && (not (list_any (is_at (nat_cmp id)) v.free) && (not (has (ids_in v.round) id) && not (named id))))
+
+-- the object joined the queue where it is to, and nothing else changed
+pub record JoinsIfQueued (v w : TablesView) (id : ℕ) : Type 0 where
+  pub same : w ≡ record v { queue = w.queue }
+  pub queue : (named : ℕ → Bool) → AreNames v.references named → w.queue ≡ (if is_queued v named id then joined v.queue id else v.queue)
+
+-- where a strong pointer to the object was removed, it joined the queue if it is to, and nothing else changed
+pub record JoinsIfCut (v w : TablesView) (id : ℕ) (was_strong : Bool) : Type 0 where
+  pub same : w ≡ record v { queue = w.queue }
+  pub queue : (named : ℕ → Bool) → AreNames v.references named → w.queue ≡ (if was_strong && is_queued v named id then joined v.queue id else v.queue)
+
+-- by the round and the marks: the object is in the open round and no strong pointer leads to it; and it isn't named
+abbrev pub is_left_loose : TablesView → (ℕ → Bool) → ℕ → Bool
+is_left_loose v named id = has (ids_in v.round) id && (get_or v.zeros id false && not (named id))
+
+-- the object joins the queue where it is left and loose, and nothing else changes
+pub record JoinsIfLoose (v w : TablesView) (id : ℕ) : Type 0 where
+  pub same : w ≡ record v { queue = w.queue }
+  pub queue : (named : ℕ → Bool) → AreNames v.references named → w.queue ≡ (if is_left_loose v named id then joined v.queue id else v.queue)
+
+-- the client names nothing any more, and what it alone named joined the queue where it is to
+pub record NamesNothing (v w : TablesView) (pass : ℕ) : Type 0 where
+  pub same : w ≡ record v { references = w.references; queue = w.queue }
+  pub unnamed : w.references pass ≡ []
+  pub others : (q : ℕ) → q ≢ pass → w.references q ≡ v.references q
+  pub queue : (named : ℕ → Bool) → AreNames w.references named → w.queue ≡ all_joined v.queue (filter (is_queued v named) (each_once (v.references pass)))
+
+-- the client's transaction is over: its locks are given back, it names nothing any more, and free ids, marks and the round are as before
 pub record Ends (v w : TablesView) (pass : ℕ) : Type 0 where
   pub ids : w.ids ≡ v.ids
   pub free : w.free ≡ v.free
@@ -18,6 +60,10 @@ pub record Ends (v w : TablesView) (pass : ℕ) : Type 0 where
   pub locks : DropsAll v.locks w.locks pass
   pub transactions : TakesAt v.transactions w.transactions pass
   pub owed : (t : Running) → running_at v.transactions pass ≡ Some t → w.owed + (length t.replaced + 1) ≡ v.owed
+  pub unnamed : w.references pass ≡ []
+  pub others : (q : ℕ) → q ≢ pass → w.references q ≡ v.references q
+  pub queue : (named : ℕ → Bool) → AreNames w.references named → w.queue ≡ all_joined v.queue (filter (is_queued v named) (each_once (v.references pass)))
+  pub round : w.round ≡ v.round
 
 -- a fresh store of so many ids: every id but the root is free, and no client is active
 pub record IsFreshOf (v : TablesView) (ids : ℕ) : Type 0 where
@@ -27,3 +73,6 @@ pub record IsFreshOf (v : TablesView) (ids : ℕ) : Type 0 where
   pub locks : v.locks ≡ []
   pub transactions : v.transactions ≡ []
   pub owed : v.owed ≡ 0
+  pub references : (pass : ℕ) → v.references pass ≡ []
+  pub queue : v.queue ≡ []
+  pub round : v.round ≡ Closed

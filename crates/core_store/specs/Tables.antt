@@ -5,6 +5,7 @@ use Rattle.std.specs.Map.{set_value, values_of}
 use Rattle.std.specs.Ordering.{nat_cmp}
 use Rattle.std.specs.BTreeMap.{is_at}
 use Rattle.strict_locks.specs.Locks.{Table}
+use Rattle.core_store.specs.RoundView.{RoundView}
 use Rattle.core_store.specs.Transactions.{Running, running_at}
 
 pub record TablesView : Type 0 where
@@ -19,6 +20,11 @@ pub record TablesView : Type 0 where
   pub transactions : List (ℕ × Running)
   -- how many history entries the active transactions owe
   pub owed : ℕ
+  -- what each client names, in the order in which it came to be named
+  pub references : ℕ → List ℕ
+  -- the objects that the collector has to look at, in the order in which they joined
+  pub queue : List ℕ
+  pub round : RoundView
 
 -- a transaction owes an entry for its end, and one for each write that can be undone and isn't
 abbrev pub owed_by : List (ℕ × Running) → ℕ

@@ -29,7 +29,7 @@ enum Lock {
     Owned,
 }
 
-impl Tables {
+impl<const SLOTS: usize> Tables<SLOTS> {
     /// The refusal where another client stands in the way of the lock.
     fn blocked(&self, pass: u8, id: u32, lock: Lock) -> Option<Reply>
         ensures { IsBlockedBy (view_of self.now) pass id lock result }
@@ -42,7 +42,7 @@ impl Tables {
     fn shareable(&self, pass: u8, r: u8) -> Result<u32, Reply>
         requires { r < 8 }
         ensures ok { IfOk result (IsShareable (view_of self.now) pass r) }
-        ensures err { IfErr result (λ reply. (slots : ℕ) → IsRefused slots (view_of self.now) pass (Call.GetPay r) reply) }
+        ensures err { IfErr result (λ reply. IsRefused SLOTS (view_of self.now) pass (Call.GetPay r) reply) }
     {
         let id = transactions::subject(&self.transactions, pass, r)?;
         match self.blocked(pass, id, Lock::Shared) {
@@ -55,7 +55,7 @@ impl Tables {
     fn ownable(&self, pass: u8, r: u8) -> Result<u32, Reply>
         requires { r < 8 }
         ensures ok { IfOk result (IsOwnable (view_of self.now) pass r) }
-        ensures err { IfErr result (λ reply. (slots value : ℕ) → IsRefused slots (view_of self.now) pass (Call.SetPay r value) reply) }
+        ensures err { IfErr result (λ reply. (value : ℕ) → IsRefused SLOTS (view_of self.now) pass (Call.SetPay r value) reply) }
     {
         let id = transactions::subject(&self.transactions, pass, r)?;
         match self.blocked(pass, id, Lock::Owned) {
@@ -66,7 +66,7 @@ impl Tables {
 
     fn plan_begin(&self, pass: u8) -> Result<Plan, Reply>
         ensures ok { IfOk result (IsGranted (view_of self.now) pass Call.Begin) }
-        ensures err { IfErr result (λ reply. (slots : ℕ) → IsRefused slots (view_of self.now) pass Call.Begin reply) }
+        ensures err { IfErr result (λ reply. IsRefused SLOTS (view_of self.now) pass Call.Begin reply) }
     {
         if self.transactions.contains_key(&pass) {
             return Err(Reply::HasTxn);
@@ -76,7 +76,7 @@ impl Tables {
 
     fn plan_make(&self, pass: u8, into: u8) -> Result<Plan, Reply>
         ensures ok { IfOk result (IsGranted (view_of self.now) pass (Call.Make into)) }
-        ensures err { IfErr result (λ reply. (slots : ℕ) → IsRefused slots (view_of self.now) pass (Call.Make into) reply) }
+        ensures err { IfErr result (λ reply. IsRefused SLOTS (view_of self.now) pass (Call.Make into) reply) }
     {
         if let Some(reply) = transactions::not_running(&self.transactions, pass) {
             return Err(reply);
@@ -91,7 +91,7 @@ impl Tables {
         requires register { r < 8 }
         requires source { IfSome from (λ f. f < 8) }
         ensures ok { IfOk result (IsGranted (view_of self.now) pass (Call.Store r slot from)) }
-        ensures err { IfErr result (λ reply. (slots : ℕ) → IsRefused slots (view_of self.now) pass (Call.Store r slot from) reply) }
+        ensures err { IfErr result (λ reply. IsRefused SLOTS (view_of self.now) pass (Call.Store r slot from) reply) }
     {
         let id = transactions::subject(&self.transactions, pass, r)?;
         let target = transactions::source(&self.transactions, pass, from)?;
@@ -103,7 +103,7 @@ impl Tables {
 
     fn plan_commit(&self, pass: u8) -> Result<Plan, Reply>
         ensures ok { IfOk result (IsGranted (view_of self.now) pass Call.Commit) }
-        ensures err { IfErr result (λ reply. (slots : ℕ) → IsRefused slots (view_of self.now) pass Call.Commit reply) }
+        ensures err { IfErr result (λ reply. IsRefused SLOTS (view_of self.now) pass Call.Commit reply) }
     {
         match transactions::not_running(&self.transactions, pass) {
             Some(reply) => Err(reply),
@@ -116,7 +116,7 @@ impl Tables {
         requires in_range { (slots : ℕ) × IsInRange slots call.now }
         requires no_abort { call.now ≡ Call.Abort → running_at self.now.transactions.entries pass ≡ None }
         ensures ok { IfOk result (IsGranted (view_of self.now) pass call.now) }
-        ensures err { IfErr result (λ reply. (slots : ℕ) → IsRefused slots (view_of self.now) pass call.now reply) }
+        ensures err { IfErr result (λ reply. IsRefused SLOTS (view_of self.now) pass call.now reply) }
     {
         match *call {
             Call::Begin => self.plan_begin(pass),

@@ -1,15 +1,16 @@
 //! The change of a slot, with the strengths of what it held and holds and the counts of its targets.
 
-ghost use Rattle.std.specs.Prelude.{◌≡◌, ◌≢◌, ℕ, ◌<◌, List, ◌∷◌, ◌++◌, true, false, length};
+ghost use Rattle.std.specs.Prelude.{◌≡◌, ◌≢◌, ℕ, ◌<◌, ◌==◌, List, [], ◌∷◌, ◌++◌, true, false, not, length, Some};
 ghost use Rattle.store_model.specs.Cells.{Cell as StoredCell, null, cell_at, pointer_at, is_live, edit, pays};
 ghost use Rattle.cell_page.specs.Format.{IsSlotCount, IsCell};
 ghost use Rattle.cell_page.specs.Stored.{cell_of};
 ghost use Rattle.strength_counts.specs.Laws.{ArePart, with_held};
 ghost use Rattle.strength_counts.specs.Held.{is_held as is_cell_held, held_pointer, AreOnce};
 ghost use Rattle.core_store.specs.Frames.{pages_held, Agree};
-ghost use Rattle.core_store.specs.Logged.{if_any};
+ghost use Rattle.core_store.specs.Logged.{if_any, object_and_targets};
+ghost use Rattle.core_store.specs.Work.{IsWork, HasSmallTargets};
 ghost use Rattle.core_store.specs.Changes.{is_counted_strong, is_laid_strong, bit_for, stored_change, restored_change};
-ghost use Rattle.core_store.specs.Slots.{HoldsPagesOf, IsReadyToChange, IsReadyToEdit, IsChanged, Changes, HoldsCellsOf, AreCellsOf, AreReadyToChange, AreRelinked, HasPlace};
+ghost use Rattle.core_store.specs.Slots.{HoldsPagesOf, IsReadyToWeaken, WeakensSlot, IsReadyToChange, IsReadyToEdit, IsChanged, Changes, HoldsCellsOf, AreCellsOf, AreReadyToChange, AreRelinked, HasPlace};
 
 use crate::three::Three;
 use cell_page::Cell;
@@ -169,6 +170,46 @@ pub(crate) fn restore<const SLOTS: usize>(
         new_bit,
         new_strong: false,
     }
+}
+
+/// Makes the slot's strong pointer weak, and gives its target.
+pub(crate) fn weaken<const SLOTS: usize>(
+    held: &mut Three<SLOTS>,
+    zeros: &mut Vec<bool>,
+    id: u32,
+    slot: u8,
+) -> u32
+    requires size { IsSlotCount SLOTS }
+    requires ready { IsReadyToWeaken held.old zeros.old.items id slot }
+    ensures weakens { WeakensSlot held.old held.new zeros.old.items zeros.new.items id slot result }
+    ensures pages { pages_held held.new ≡ pages_held held.old }
+{
+    let target = held.cell(id).slots[slot as usize];
+    let mut cells = gather(held, id, target, 0);
+    cells.weaken(id, slot);
+    scatter(held, zeros, cells);
+    target
+}
+
+/// Whether the slot holds a strong pointer.
+pub(crate) fn is_strong<const SLOTS: usize>(held: &Three<SLOTS>, id: u32, slot: u8) -> bool
+    requires size { IsSlotCount SLOTS }
+    requires work { IsWork SLOTS (record { id = id; change = Some (slot, 0) }) }
+    requires pages { (cells : List StoredCell) × Agree cells held.now × HasSmallTargets cells × HoldsPagesOf held.now (object_and_targets cells id slot 0) }
+    ensures { (cells : List StoredCell) → Agree cells held.now → result ≡ is_counted_strong cells (pointer_at cells id slot) }
+{
+    let cell = held.cell(id);
+    let target = cell.slots[slot as usize];
+    target != 0 && held.cell(target).bit == cell.pointer_bit(slot)
+}
+
+/// Whether the slot isn't null.
+pub(crate) fn is_pointer<const SLOTS: usize>(held: &Three<SLOTS>, id: u32, slot: u8) -> bool
+    requires work { IsWork SLOTS (record { id = id; change = Some (slot, 0) }) }
+    requires pages { (cells : List StoredCell) × Agree cells held.now × HoldsPagesOf held.now (id ∷ []) }
+    ensures { (cells : List StoredCell) → Agree cells held.now → result ≡ not ((pointer_at cells id slot).target == 0) }
+{
+    held.cell(id).slots[slot as usize] != 0
 }
 
 /// Sets the payload of an object, and gives the one before.

@@ -1,14 +1,17 @@
 //! What a journal keeps beside its history: the free ids, the marks, the locks and the transactions.
-ghost use Rattle.std.specs.Prelude.{◌≡◌, ℕ, ◌+◌, ◌^◌, ◌<◌, ◌≤◌, List, IfOk, OnErr, OnOk, IfSome, IsSome, is_some, Some, None, if◌then◌else◌, ◌==◌};
+ghost use Rattle.std.specs.Prelude.{◌≡◌, ℕ, ◌+◌, ◌^◌, ◌<◌, ◌≤◌, List, IfOk, OnErr, OnOk, IfSome, IsSome, is_some, Some, None, if◌then◌else◌, ◌==◌, length, true};
 ghost use Rattle.plain_model.specs.Graphs.{FitsPlace};
 ghost use Rattle.plain_model.specs.Machine.{IsInRange};
-ghost use Rattle.plain_model.specs.History.{Moment};
 ghost use Rattle.strict_locks.specs.Locks.{holders_of, StandsInWayOfOwn, Nobody};
 ghost use Rattle.cell_page.specs.Format.{IsSlotCount};
-ghost use Rattle.store_model.specs.Cells.{Cell as StoredCell};
+ghost use Rattle.store_model.specs.Core.{Core};
+ghost use Rattle.ref_tables.specs.Queue.{has};
 ghost use Rattle.core_store.specs.declared.three.HeldFrame.{HeldFrame};
 ghost use Rattle.core_store.specs.Tables.{owed_by};
-ghost use Rattle.core_store.specs.Transactions.{running_at};
+ghost use Rattle.core_store.specs.Owed.{entries_needed};
+ghost use Rattle.core_store.specs.Plans.{entries_needed_by};
+ghost use Rattle.core_store.specs.RoundView.{touched_by_record};
+ghost use Rattle.core_store.specs.Transactions.{Running, running_at};
 ghost use Rattle.core_store.specs.Frames.{Agree, IsNext, pages_held};
 ghost use Rattle.core_store.specs.Logged.{want_of, pages_for, pages_for_undo};
 ghost use Rattle.core_store.specs.Replaced.{next_to_restore};
@@ -16,30 +19,43 @@ ghost use Rattle.core_store.specs.Work.{work_of, work_of_undo};
 
 use crate::abort_step::AbortStep;
 use crate::plan::Plan;
+use crate::round::Round;
 use crate::three::Three;
 use crate::transaction::Transaction;
 use crate::transactions::{self, Transactions};
 use crate::want::{Want, Work, wanted};
-use crate::{free_ids, locks, slots};
+use crate::{free_ids, locks, references, slots};
 use cell_page::Cell;
 use log_record::{CellRecord, PAYLOAD_PLACE};
 use plain_model::{Call, Memory, Place, Reply, Write};
+use red_walk::IdList;
+use ref_tables::{Kind, TempRefs, ZeroQueue};
 use std::alloc::Global;
 use std::collections::{BTreeMap, BTreeSet};
 use strict_locks::LockTable;
 
 /// The free ids, the marks, the locks and the transactions.
 #[derive(Debug, Drop)]
-pub(crate) struct Tables {
+pub(crate) struct Tables<const SLOTS: usize> {
     alloc: Global,
     ids: u32,
     pub(crate) free: BTreeSet<u32>,
     /// For each id, at its index, whether no strong pointer leads to its cell.
-    zeros: Vec<bool>,
+    pub(crate) zeros: Vec<bool>,
     pub(crate) locks: LockTable,
     pub(crate) transactions: Transactions,
     owed: usize,
+    /// What the active transactions made, laid or removed.
+    pub(crate) references: TempRefs,
+    /// The objects without strong pointers that the collector has to look at.
+    pub(crate) queue: ZeroQueue,
+    pub(crate) round: Round<SLOTS>,
+    /// What a transaction named that ends. It is made anew for each, in room that is kept.
+    pub(crate) named: IdList,
     ghost owes: { owed ≡ owed_by transactions.entries },
+    ghost queue_sized: { queue.limit ≡ ids },
+    ghost named_sized: { named.limit ≡ ids },
+    ghost round_sized: { round.limit ≡ ids },
 }
 
 /// What a call is answered, and what it logs.
@@ -63,11 +79,11 @@ fn nonzero(id: u32) -> Option<u32>
     if id == 0 { None } else { Some(id) }
 }
 
-impl Tables {
+impl<const SLOTS: usize> Tables<SLOTS> {
     ghost use Rattle.core_store.specs.Views.{view_of};
     ghost use Rattle.core_store.specs.Stands.{Stands, Performs, UndoesOne, EndsAbort};
     ghost use Rattle.core_store.specs.Plans.{IsGranted};
-    ghost use Rattle.core_store.specs.Steps.{Ends, IsFreshOf};
+    ghost use Rattle.core_store.specs.Steps.{Ends, TakesAt, IsFreshOf};
     ghost use Rattle.core_store.specs.FreeIds.{taken};
     ghost use Rattle.core_store.specs.Ready.{IsReady, IsReadyToCall, IsReadyToUndo, IsReadyToRestore, Restores, IsNoted, Does, IsStanding};
 
@@ -81,7 +97,7 @@ impl Tables {
     fn begin(&mut self, pass: u8) -> Result<Outcome, Memory>
         requires room { self.old.owed + 1 < 2 ^ 64 }
         requires none { running_at self.old.transactions.entries pass ≡ None }
-        ensures ok { IfOk result (λ o. (slots : ℕ) (held : List (HeldFrame slots)) → Does (view_of self.old) (view_of self.new) held held pass Plan.Begin o) }
+        ensures ok { IfOk result (λ o. (held : List (HeldFrame SLOTS)) → Does (view_of self.old) (view_of self.new) held held pass Plan.Begin o) }
         ensures owed { self.new.owed ≤ self.old.owed + 1 }
         ensures err { OnErr result (view_of self.new ≡ view_of self.old) }
     {
@@ -94,7 +110,7 @@ impl Tables {
         })
     }
 
-    fn read<const SLOTS: usize>(
+    fn read(
         &mut self,
         held: &Three<SLOTS>,
         pass: u8,
@@ -116,12 +132,7 @@ impl Tables {
         })
     }
 
-    fn get<const SLOTS: usize>(
-        &mut self,
-        held: &Three<SLOTS>,
-        pass: u8,
-        id: u32,
-    ) -> Result<Outcome, Memory>
+    fn get(&mut self, held: &Three<SLOTS>, pass: u8, id: u32) -> Result<Outcome, Memory>
         requires ready { IsReady (view_of self.old) held.now pass (Plan.Get id) }
         ensures ok { IfOk result (Does (view_of self.old) (view_of self.new) held.now held.now pass (Plan.Get id)) }
         ensures owed { self.new.owed ≡ self.old.owed }
@@ -140,6 +151,7 @@ impl Tables {
         requires active { IsSome (running_at self.old.transactions.entries pass) }
         requires room { self.old.owed + 1 < 2 ^ 64 }
         ensures ok { OnOk result (IsNoted (view_of self.old) (view_of self.new) pass id replaced) }
+        ensures references { self.new.references ≡ self.old.references }
         ensures err { OnErr result (view_of self.new ≡ view_of self.old) }
     {
         transactions::note(&mut self.transactions, pass, replaced)?;
@@ -151,7 +163,7 @@ impl Tables {
         Ok(())
     }
 
-    fn store<const SLOTS: usize>(
+    fn store(
         &mut self,
         held: &mut Three<SLOTS>,
         pass: u8,
@@ -171,8 +183,12 @@ impl Tables {
             place: Place::Slot(slot),
             value: held.cell(id).slots[slot as usize].into(),
         };
+        self.references.reserve(2)?;
         self.own_to_write(pass, id, replaced)?;
         let change = slots::store(held, &mut self.zeros, id, slot, target);
+        references::note(&mut self.references, pass, change.old_target, Kind::Cut);
+        references::note(&mut self.references, pass, target, Kind::Put);
+        self.touch(id, change.old_target, target);
         Ok(Outcome {
             reply: Reply::Done,
             logged: Some(CellRecord::Store {
@@ -188,7 +204,7 @@ impl Tables {
         })
     }
 
-    fn set<const SLOTS: usize>(
+    fn set(
         &mut self,
         held: &mut Three<SLOTS>,
         pass: u8,
@@ -220,7 +236,7 @@ impl Tables {
         })
     }
 
-    fn make<const SLOTS: usize>(
+    fn make(
         &mut self,
         held: &mut Three<SLOTS>,
         pass: u8,
@@ -233,7 +249,9 @@ impl Tables {
         ensures err { OnErr result ((view_of self.new ≡ view_of self.old) × (held.new ≡ held.old)) }
         ensures pages { pages_held held.new ≡ pages_held held.old }
     {
+        self.references.reserve(1)?;
         locks::own(&mut self.locks, pass, id)?;
+        references::note(&mut self.references, pass, id, Kind::Made);
         self.free.remove(&id);
         held.put_cell(Cell::new_object(id));
         transactions::load(&mut self.transactions, pass, into, Some(id));
@@ -244,7 +262,8 @@ impl Tables {
     }
 
     fn commit(&mut self, pass: u8) -> Outcome
-        ensures does { (slots : ℕ) (held : List (HeldFrame slots)) → Does (view_of self.old) (view_of self.new) held held pass Plan.Commit result }
+        requires standing { (c : Core) × Stands SLOTS (view_of self.old) c }
+        ensures does { (held : List (HeldFrame SLOTS)) → Does (view_of self.old) (view_of self.new) held held pass Plan.Commit result }
         ensures owed { self.new.owed ≤ self.old.owed }
     {
         self.end(pass);
@@ -254,28 +273,36 @@ impl Tables {
         }
     }
 
-    /// The client's transaction is over: it gives its locks back and owes nothing more.
+    /// The client's transaction is over: it gives its locks back, owes nothing more and names nothing any more.
     fn end(&mut self, pass: u8)
+        requires within { (id : ℕ) → has ((view_of self.old).references pass) id ≡ true → (1 ≤ id) × (id ≤ self.old.ids) }
+        requires marks { length (view_of self.old).zeros ≡ self.old.ids + 1 }
         ensures ends { Ends (view_of self.old) (view_of self.new) pass }
         ensures owed { self.new.owed ≤ self.old.owed }
     {
         self.locks.drop_all(pass);
+        self.drop_transaction(pass);
+        self.queue_named(pass);
+    }
+
+    /// The client has no transaction any more, and owes nothing.
+    fn drop_transaction(&mut self, pass: u8)
+        ensures same { view_of self.new ≡ record (view_of self.old) { transactions = self.new.transactions.entries; owed = self.new.owed } }
+        ensures takes { TakesAt self.old.transactions.entries self.new.transactions.entries pass }
+        ensures least { (t : Running) → running_at self.old.transactions.entries pass ≡ Some t → self.new.owed + (length t.replaced + 1) ≡ self.old.owed }
+        ensures owed { self.new.owed ≤ self.old.owed }
+    {
         if let Some(transaction) = self.transactions.remove(&pass) {
             self.owed -= transaction.left();
             self.owed -= 1;
         }
     }
 
-    fn perform<const SLOTS: usize>(
-        &mut self,
-        held: &mut Three<SLOTS>,
-        pass: u8,
-        plan: Plan,
-    ) -> Result<Outcome, Memory>
+    fn perform(&mut self, held: &mut Three<SLOTS>, pass: u8, plan: Plan) -> Result<Outcome, Memory>
         requires ready { IsReady (view_of self.old) held.old pass plan }
         requires room { self.old.owed + 1 < 2 ^ 64 }
         ensures ok { IfOk result (Does (view_of self.old) (view_of self.new) held.old held.new pass plan) }
-        ensures owed { self.new.owed ≤ self.old.owed + 1 }
+        ensures owed { self.new.owed + 1 ≤ self.old.owed + entries_needed_by plan }
         ensures err { OnErr result ((view_of self.new ≡ view_of self.old) × (held.new ≡ held.old)) }
         ensures pages { pages_held held.new ≡ pages_held held.old }
     {
@@ -291,7 +318,7 @@ impl Tables {
     }
 
     /// Does the call, as the reference machine does it. Out of memory leaves all as it was.
-    pub(crate) fn call<const SLOTS: usize>(
+    pub(crate) fn call(
         &mut self,
         held: &mut Three<SLOTS>,
         pass: u8,
@@ -302,7 +329,7 @@ impl Tables {
         requires ready { IsReadyToCall (view_of self.old) held.old pass call.now }
         requires room { self.old.owed + 1 < 2 ^ 64 }
         ensures ok { IfOk result (λ o. Performs SLOTS (view_of self.old) (view_of self.new) held.old held.new pass call.now o.reply o.logged) }
-        ensures owed { self.new.owed ≤ self.old.owed + 1 }
+        ensures owed { self.new.owed + 1 ≤ self.old.owed + entries_needed call.now }
         ensures err { OnErr result ((view_of self.new ≡ view_of self.old) × (held.new ≡ held.old)) }
         ensures pages { pages_held held.new ≡ pages_held held.old }
     {
@@ -316,16 +343,11 @@ impl Tables {
     }
 
     /// Lays again what a write replaced.
-    fn restore<const SLOTS: usize>(
-        &mut self,
-        held: &mut Three<SLOTS>,
-        pass: u8,
-        replaced: Write,
-    ) -> CellRecord
+    fn restore(&mut self, held: &mut Three<SLOTS>, pass: u8, replaced: Write) -> CellRecord
         requires ready { IsReadyToRestore held.old self.old.zeros.items replaced }
         requires size { IsSlotCount SLOTS }
         ensures restores { Restores held.old held.new self.old.zeros.items self.new.zeros.items pass replaced result }
-        ensures same { view_of self.new ≡ record (view_of self.old) { zeros = self.new.zeros.items } }
+        ensures same { view_of self.new ≡ record (view_of self.old) { zeros = self.new.zeros.items; round = touched_by_record (view_of self.old).round (Some result) } }
         ensures pages { pages_held held.new ≡ pages_held held.old }
     {
         let Write { id, place, value } = replaced;
@@ -333,6 +355,7 @@ impl Tables {
             Place::Slot(slot) => {
                 let target = value as u32;
                 let change = slots::restore(held, &mut self.zeros, id, slot, target);
+                self.touch(id, change.old_target, target);
                 CellRecord::Undo {
                     pass,
                     id,
@@ -356,11 +379,7 @@ impl Tables {
     }
 
     /// Undoes the client's last write that isn't undone, or ends its transaction where none is left.
-    pub(crate) fn abort_step<const SLOTS: usize>(
-        &mut self,
-        held: &mut Three<SLOTS>,
-        pass: u8,
-    ) -> AbortOutcome
+    pub(crate) fn abort_step(&mut self, held: &mut Three<SLOTS>, pass: u8) -> AbortOutcome
         requires active { IsSome (running_at self.old.transactions.entries pass) }
         requires ready { IsReadyToUndo (view_of self.old) held.old pass }
         ensures undone { result.step ≡ AbortStep.Undone → UndoesOne SLOTS (view_of self.old) (view_of self.new) held.old held.new pass result.logged }
@@ -383,16 +402,11 @@ impl Tables {
     }
 
     /// What is to be done with the held pages before the call can be made.
-    pub(crate) fn wants<const SLOTS: usize>(
-        &self,
-        held: &Three<SLOTS>,
-        pass: u8,
-        call: &Call,
-    ) -> Want
+    pub(crate) fn wants(&self, held: &Three<SLOTS>, pass: u8, call: &Call) -> Want
         requires in_range { IsInRange SLOTS call.now }
         requires no_abort { call.now ≡ Call.Abort → running_at self.now.transactions.entries pass ≡ None }
         requires standing { IsStanding (view_of self.now) held.now }
-        ensures exact { (cells : List StoredCell) (m : Moment) → Stands SLOTS (view_of self.now) cells m → Agree cells held.now → result ≡ want_of (pages_for m.state cells pass call.now) (pages_held held.now) }
+        ensures exact { (c : Core) → Stands SLOTS (view_of self.now) c → Agree c.cells held.now → result ≡ want_of (pages_for c.moment.state c.cells pass call.now) (pages_held held.now) }
         ensures next { (page : ℕ) → result ≡ Want.Page page → IsNext self.now.ids held.now page }
     {
         match self.plan(pass, call) {
@@ -402,9 +416,9 @@ impl Tables {
     }
 
     /// What is to be done with the held pages before an abort step of the client can be made.
-    pub(crate) fn wants_abort_step<const SLOTS: usize>(&self, held: &Three<SLOTS>, pass: u8) -> Want
+    pub(crate) fn wants_abort_step(&self, held: &Three<SLOTS>, pass: u8) -> Want
         requires standing { IsStanding (view_of self.now) held.now }
-        ensures exact { (cells : List StoredCell) (m : Moment) → Stands SLOTS (view_of self.now) cells m → Agree cells held.now → result ≡ want_of (pages_for_undo cells (next_to_restore m pass)) (pages_held held.now) }
+        ensures exact { (c : Core) → Stands SLOTS (view_of self.now) c → Agree c.cells held.now → result ≡ want_of (pages_for_undo c.cells (next_to_restore c.moment pass)) (pages_held held.now) }
         ensures next { (page : ℕ) → result ≡ Want.Page page → IsNext self.now.ids held.now page }
     {
         match transactions::last_replaced(&self.transactions, pass) {
@@ -428,8 +442,9 @@ impl Tables {
     }
 
     /// The tables of a fresh store of so many ids: the root alone is stored.
-    pub(crate) fn fresh(alloc: Global, ids: u32) -> Result<Tables, Memory>
-        requires { (0 < ids) × (ids ≤ 8192) }
+    pub(crate) fn fresh(alloc: Global, ids: u32) -> Result<Tables<SLOTS>, Memory>
+        requires size { IsSlotCount SLOTS }
+        requires few { (0 < ids) × (ids ≤ 8192) }
         ensures { IfOk result (λ t. IsFreshOf (view_of t) ids) }
     {
         let free = free_ids::fresh(alloc, ids)?;
@@ -443,6 +458,10 @@ impl Tables {
             locks: LockTable::new(alloc),
             transactions: BTreeMap::new(alloc),
             owed: 0,
+            references: TempRefs::new(alloc),
+            queue: ZeroQueue::new(alloc, ids)?,
+            round: Round::new(alloc, ids)?,
+            named: IdList::new(alloc, ids)?,
         })
     }
 }

@@ -64,6 +64,18 @@ fn pages_of<const SLOTS: usize>(held: &Three<SLOTS>, work: Work, first: u16) -> 
     }
 }
 
+/// What is to be done with the held pages where none is needed.
+pub(crate) fn let_go<const SLOTS: usize>(held: &Three<SLOTS>) -> Want
+    ensures exact { result ≡ want_of [] (pages_held held.now) }
+    ensures none { (page : ℕ) → result ≡ Want.Page page → ⊥ }
+{
+    if held.is_empty() {
+        Want::Ready
+    } else {
+        Want::LetGo
+    }
+}
+
 /// What is to be done with the held pages where a call works so, or works on no object.
 pub(crate) fn wanted<const SLOTS: usize>(held: &Three<SLOTS>, work: Option<Work>) -> Want
     requires work { IfSome work (IsWork SLOTS) }

@@ -63,7 +63,19 @@ impl Store {
     fn fresh(alloc: Global, pages: u16) -> Result<Store, Memory>
         requires { (0 < pages) × (pages < 1025) }
     {
-        let (journal, frames) = Journal::fresh(alloc, pages)?;
+        let (journal, frames) = Journal::fresh(alloc, pages, Limits::GREATEST)?;
+        Ok(Store { journal, frames })
+    }
+
+    /// The fresh store of one page whose history may have so many entries.
+    fn with_limit(alloc: Global, trace: u64) -> Result<Store, Memory>
+        requires { trace < 1000 }
+    {
+        let limits = Limits {
+            trace,
+            log: 1_071_644_672,
+        };
+        let (journal, frames) = Journal::fresh(alloc, 1, limits)?;
         Ok(Store { journal, frames })
     }
 
@@ -79,6 +91,15 @@ impl Store {
             hold(self.frames.as_slice(), &mut held, want);
         }
         held
+    }
+
+    /// What is to be done with these frames before the call.
+    fn wants(&self, pass: u8, call: &Call, held: &Three<6>) -> Want
+        requires in_range { IsInRange 6 call.now }
+        requires no_abort { call.now ≢ Call.Abort }
+        requires agree { Agree (cells_of self.now) held.now }
+    {
+        self.journal.wants(pass, call, held)
     }
 
     /// The frames that are wanted before an abort step.
@@ -119,6 +140,31 @@ impl Store {
             Want::Page(_) | Want::LetGo => None,
             Want::Ready => {
                 let step = self.journal.abort_step(&mut held, pass);
+                put_back(&self.journal, &mut self.frames, held);
+                Some(step)
+            }
+        }
+    }
+
+    /// The frames that are wanted before a step of the collector, which looks at what they show.
+    fn frames_for_collector(&mut self) -> Three<6>
+        ensures { Agree (cells_of self.new) result }
+    {
+        let mut held = Three::new();
+        for _ in 0..3 {
+            let want = self.journal.wants_collect_step(&held);
+            hold(self.frames.as_slice(), &mut held, want);
+        }
+        held
+    }
+
+    /// Does a step of the collector on the frames that it wants; `None` where they do not make it ready.
+    fn collect_step(&mut self) -> Option<Collect> {
+        let mut held = self.frames_for_collector();
+        match self.journal.wants_collect_step(&held) {
+            Want::Page(_) | Want::LetGo => None,
+            Want::Ready => {
+                let step = self.journal.collect_step(&mut held);
                 put_back(&self.journal, &mut self.frames, held);
                 Some(step)
             }
@@ -233,13 +279,13 @@ fn what_a_call_wants(rt: HostRuntime) -> Result<(), Fail> {
     let mut store = Store::fresh(rt.alloc(), 1)?;
     let get = Call::GetPay { r: 0 };
     let none = Three::new();
-    let wanted = store.journal.wants(1, &Call::Begin, &none);
+    let wanted = store.wants(1, &Call::Begin, &none);
     assert_eq!(rt; wanted, Want::Ready);
     expect(&rt, &mut store, 1, Call::Begin, Reply::Done);
-    assert_eq!(rt; store.journal.wants(1, &get, &none), Want::Page(0));
+    assert_eq!(rt; store.wants(1, &get, &none), Want::Page(0));
     let held = store.frames_for(1, &get);
-    assert_eq!(rt; store.journal.wants(1, &get, &held), Want::Ready);
-    let wanted = store.journal.wants(1, &Call::Commit, &held);
+    assert_eq!(rt; store.wants(1, &get, &held), Want::Ready);
+    let wanted = store.wants(1, &Call::Commit, &held);
     assert_eq!(rt; wanted, Want::LetGo);
     Ok(())
 }
@@ -293,5 +339,53 @@ fn every_id_is_made_once(rt: HostRuntime) -> Result<(), Fail> {
     expect(&rt, &mut store, 7, Call::Make { into: 1 }, Reply::Full);
     expect(&rt, &mut store, 7, read, Reply::Id(0));
     assert_eq!(rt; store.journal.opening().len(), 8);
+    Ok(())
+}
+
+#[test]
+fn a_full_history_lets_a_transaction_end(rt: HostRuntime) -> Result<(), Fail> {
+    let mut store = Store::with_limit(rt.alloc(), 4)?;
+    let set = Call::SetPay { r: 0, value: 5 };
+    expect(&rt, &mut store, 1, Call::Begin, Reply::Done);
+    expect(&rt, &mut store, 1, set, Reply::Done);
+    assert!(rt; !store.journal.marks().trace);
+    expect(&rt, &mut store, 1, Call::GetPay { r: 0 }, Reply::TraceFull);
+    assert!(rt; store.journal.marks().trace);
+    assert_eq!(rt; store.abort_step(1), Some(AbortStep::Undone));
+    assert_eq!(rt; store.abort_step(1), Some(AbortStep::Ended));
+    Ok(())
+}
+
+/// The next step of the collector makes an event that deletes nothing; it takes an object out of the queue, or none.
+fn expect_event(rt: &impl Abort, store: &mut Store, pops: bool) {
+    match store.collect_step() {
+        Some(Collect::Did { popped, .. }) => assert_eq!(rt; popped, pops),
+        other => assert!(rt; false, "no event: {other:?}"),
+    }
+}
+
+#[test]
+fn what_an_abort_leaves_is_deleted(rt: HostRuntime) -> Result<(), Fail> {
+    let mut store = Store::fresh(rt.alloc(), 1)?;
+    expect(&rt, &mut store, 1, Call::Begin, Reply::Done);
+    expect(&rt, &mut store, 1, Call::Make { into: 1 }, Reply::Id(2));
+    assert_eq!(rt; store.abort_step(1), Some(AbortStep::Ended));
+    assert_eq!(rt; store.journal.queue_len(), 1);
+    expect_event(&rt, &mut store, true);
+    expect_event(&rt, &mut store, false);
+    expect_event(&rt, &mut store, false);
+    assert_eq!(rt;
+        store.collect_step(),
+        Some(Collect::Deleted { id: 2, left: 1 })
+    );
+    assert_eq!(rt;
+        store.collect_step(),
+        Some(Collect::Did {
+            popped: false,
+            left: 0
+        })
+    );
+    assert_eq!(rt; store.collect_step(), Some(Collect::Idle));
+    assert_eq!(rt; store.journal.queue_len(), 0);
     Ok(())
 }

@@ -1,4 +1,4 @@
-use Rattle.std.proofs.Common.{◌≡◌, ℕ, ◌+◌, ◌<◌, ◌^◌, List, Bool, Option, Some, None, Ok, Err, refl, sym, ap, ◌∙◌, subst, arith, rules, true, false}
+use Rattle.std.proofs.Common.{refl, ap, subst, arith}
 use Rattle.core_store.specs.Tables.{owed_by}
 use Rattle.core_store.specs.Transactions.{Running}
 use Rattle.core_store.specs.Views.{view_of}
@@ -6,16 +6,14 @@ use Rattle.core_store.proofs.MapLaws.{PutsAt, puts-updates, owed-inserted}
 use Rattle.core_store.proofs.HandlerLaws.{does-begin}
 use Rattle.core_store.proofs.tables.Tables.begin.Goals as goal
 
-pub invariant_of-self-2 : goal.invariant_of-self-2
-invariant_of-self-2 c = record {
-  owes =
-      (let entries = ap owed_by c.in_ok-insert.ensures.entries in
-      let more = owed-inserted c.args.pass c.new.result c.args.self.now.transactions.entries c.in_ok-insert.ensures.was_ordered c.requires.none in
-      let nothing = ap (λ (t : Running). Rattle.std.proofs.Common.length t.replaced) c.new.ensures in
-      omega (arith, entries, more, nothing, c.args.self.now.owes));
-}
+pub invariant_of-self-2-clause-owes : goal.invariant_of-self-2-clause-owes
+invariant_of-self-2-clause-owes g c =
+    let entries = ap owed_by c.in_ok-insert.ensures.entries in
+    let more = owed-inserted c.args.pass c.new.result c.args.self.now.transactions.entries c.in_ok-insert.ensures.was_ordered c.requires.none in
+    let nothing = ap (λ (t : Running). Rattle.std.proofs.Common.length t.replaced) c.new.ensures in
+    omega (arith, entries, more, nothing, c.args.self.now.owes)
 
 pub returns-clause-ok : goal.returns-clause-ok
-returns-clause-ok c = λ slots held.
+returns-clause-ok g c = λ held.
     let put = puts-updates c.args.self.now.transactions.entries c.insert.new.self.entries c.args.pass c.new.result c.in_ok-insert.ensures.updates.0 in
-    does-begin (view_of c.args.self.now) held c.args.pass _ _ (subst (λ (t : Running). PutsAt c.args.self.now.transactions.entries c.insert.new.self.entries c.args.pass t) c.new.ensures put)
+    does-begin (view_of c.args.self.now) held c.args.pass _ _ (subst (λ (t : Running). PutsAt c.args.self.now.transactions.entries c.insert.new.self.entries c.args.pass t) c.new.ensures put) refl

@@ -1,36 +1,15 @@
-use Rattle.std.proofs.Common.{◌≡◌, ℕ, ◌+◌, ◌<◌, ◌^◌, List, Bool, Option, Some, None, Ok, Err, refl, sym, ap, ◌∙◌, subst, arith, rules, true, false}
-use Rattle.core_store.specs.Tables.{owed_by}
-use Rattle.core_store.specs.Transactions.{Running}
-use Rattle.core_store.proofs.MapLaws.{owed-removed, owed-least, takes-updates, same_running}
+use Rattle.std.proofs.Common.{rules}
+use Rattle.core_store.specs.Views.{view_of}
+use Rattle.core_store.proofs.QueueLaws.{within-kept, marks-kept, ends-after}
 use Rattle.core_store.proofs.tables.Tables.end.Goals as goal
 
-pub overflow_sub-self : goal.overflow_sub-self
-overflow_sub-self c =
-    let least = owed-least c.args.pass c.in-Some.transaction c.args.self.now.transactions.entries (sym c.in-Some.ensures.value) in
-    omega (arith, least, c.args.self.now.owes, c.left.ensures)
+pub queue_named-requires : goal.queue_named-requires
+queue_named-requires g c =
+    let v = view_of {slots = g.row.SLOTS} c.args.self.now in
+    let p = view_of {slots = g.row.SLOTS} c.drop_transaction.new.self in
+    (search rules, (within-kept v p c.args.pass c.drop_all.new.self c.drop_transaction.ensures.same c.requires.within, marks-kept v p c.drop_all.new.self c.drop_transaction.ensures.same c.requires.marks))
 
-pub overflow_sub-self-in-Some : goal.overflow_sub-self-in-Some
-overflow_sub-self-in-Some c =
-    let least = owed-least c.args.pass c.in-Some.transaction c.args.self.now.transactions.entries (sym c.in-Some.ensures.value) in
-    omega (arith, least, c.args.self.now.owes, c.left.ensures)
-
-pub invariant_of-self : goal.invariant_of-self
-invariant_of-self c = record {
-  owes =
-      (let e = owed-removed c.args.pass c.in-Some.transaction c.args.self.now.transactions.entries (sym c.in-Some.ensures.value) in
-      let n = ap owed_by c.in-Some.ensures.entries in
-      omega (arith, e, n, c.args.self.now.owes, c.left.ensures));
-}
-
-pub returns-in-Some-clause-ends : goal.returns-in-Some-clause-ends
-returns-in-Some-clause-ends c = record {
-  ids = refl;
-  free = refl;
-  zeros = refl;
-  locks = c.drop_all.ensures;
-  transactions = (let t = takes-updates c.args.self.now.transactions.entries c.remove.new.self.entries c.args.pass c.in-Some.ensures.updates.0 in record { here = t.here; others = t.others });
-  owed = λ t e.
-      (let same = ap (λ (x : Running). Rattle.std.proofs.Common.length x.replaced) (same_running _ t c.in-Some.transaction e (sym c.in-Some.ensures.value)) in
-      let least = owed-least c.args.pass c.in-Some.transaction c.args.self.now.transactions.entries (sym c.in-Some.ensures.value) in
-      omega (arith, same, least, c.args.self.now.owes, c.left.ensures));
-}
+pub returns-clause-ends : goal.returns-clause-ends
+returns-clause-ends g c =
+    ends-after (view_of {slots = g.row.SLOTS} c.args.self.now) (view_of {slots = g.row.SLOTS} c.drop_transaction.new.self) (view_of {slots = g.row.SLOTS} c.queue_named.new.self) c.args.pass c.drop_all.new.self c.drop_transaction.ensures.same c.drop_all.ensures
+    c.drop_transaction.ensures.takes c.drop_transaction.ensures.least c.queue_named.ensures.unnamed

@@ -8,13 +8,13 @@ use Rattle.core_store.proofs.PlanRefusals.{refuses-set, refuses-set_busy}
 use Rattle.core_store.proofs.tables.Tables.ownable.Goals as goal
 
 pub returns-in-Some-clause-err : goal.returns-in-Some-clause-err
-returns-in-Some-clause-err c = λ slots value.
+returns-in-Some-clause-err g c = λ value.
     let v = view_of c.args.self.now in
     let b = c.in-Some.ensures in
-    subst (λ (x : Reply). IsRefused slots v c.args.pass (SetPay c.args.r value) x) (sym b.1) (refuses-set_busy slots v c.args.pass c.args.r value c.in_ok-id.id b.0 c.in_ok-id.ensures.ok b.2)
+    subst (λ (x : Reply). IsRefused g.row.SLOTS v c.args.pass (SetPay c.args.r value) x) (sym b.1) (refuses-set_busy g.row.SLOTS v c.args.pass c.args.r value c.in_ok-id.id b.0 c.in_ok-id.ensures.ok b.2)
 
 pub returns-in_err-id-clause-err : goal.returns-in_err-id-clause-err
-returns-in_err-id-clause-err c =
+returns-in_err-id-clause-err g c =
     let v = view_of c.args.self.now in
-    let P = λ (reply : Reply). (slots value : ℕ) → IsRefused slots v c.args.pass (SetPay c.args.r value) reply in
-    if_err c.from_residual.result _ P c.from_residual.ensures.1 (λ y k. subst P (sym k) (λ slots value. refuses-set slots v c.args.pass c.args.r value c.in_err-id.field-0.0 c.in_err-id.ensures.err))
+    let P = λ (reply : Reply). (value : ℕ) → IsRefused g.row.SLOTS v c.args.pass (SetPay c.args.r value) reply in
+    if_err c.from_residual.result _ P c.from_residual.ensures.1 (λ y k. subst P (sym k) (λ value. refuses-set g.row.SLOTS v c.args.pass c.args.r value c.in_err-id.field-0.0 c.in_err-id.ensures.err))

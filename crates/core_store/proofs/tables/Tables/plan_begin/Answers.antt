@@ -4,4 +4,4 @@ use Rattle.core_store.proofs.PlanRefusals.{refuses-begin}
 use Rattle.core_store.proofs.tables.Tables.plan_begin.Goals as goal
 
 pub returns-then-contains_key-clause-err : goal.returns-then-contains_key-clause-err
-returns-then-contains_key-clause-err c = λ slots. refuses-begin slots (view_of c.args.self.now) c.args.pass (sym c.contains_key.ensures ∙ c.if-contains_key.true)
+returns-then-contains_key-clause-err g c = refuses-begin g.row.SLOTS (view_of c.args.self.now) c.args.pass (sym c.contains_key.ensures ∙ c.if-contains_key.true)

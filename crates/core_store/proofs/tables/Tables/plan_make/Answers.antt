@@ -5,7 +5,7 @@ use Rattle.core_store.proofs.PlanRefusals.{refuses-make, refuses-make_full}
 use Rattle.core_store.proofs.tables.Tables.plan_make.Goals as goal
 
 pub returns-in-None-clause-err : goal.returns-in-None-clause-err
-returns-in-None-clause-err c = λ slots. refuses-make_full slots (view_of c.args.self.now) c.args.pass c.args.into (none_from _ (λ x e. c.in_default.not-Some x (c.not_running.ensures ∙ e))) c.in-None.ensures
+returns-in-None-clause-err g c = refuses-make_full g.row.SLOTS (view_of c.args.self.now) c.args.pass c.args.into (none_from _ (λ x e. c.in_default.not-Some x (c.not_running.ensures ∙ e))) c.in-None.ensures
 
 pub returns-in-Some-clause-err : goal.returns-in-Some-clause-err
-returns-in-Some-clause-err c = λ slots. refuses-make slots (view_of c.args.self.now) c.args.pass c.args.into c.in-Some.reply (sym c.not_running.ensures ∙ c.in-Some.is)
+returns-in-Some-clause-err g c = refuses-make g.row.SLOTS (view_of c.args.self.now) c.args.pass c.args.into c.in-Some.reply (sym c.not_running.ensures ∙ c.in-Some.is)

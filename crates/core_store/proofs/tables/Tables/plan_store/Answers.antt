@@ -1,4 +1,4 @@
-use Rattle.std.proofs.Common.{ℕ, sym, subst}
+use Rattle.std.proofs.Common.{sym, subst}
 use Rattle.plain_model.specs.declared.calls.Call.TheVariants.{Store}
 use Rattle.plain_model.specs.declared.calls.Reply.{Reply}
 use Rattle.core_store.specs.Plans.{IsRefused}
@@ -8,22 +8,22 @@ use Rattle.core_store.proofs.PlanRefusals.{refuses-store, refuses-store_source, 
 use Rattle.core_store.proofs.tables.Tables.plan_store.Goals as goal
 
 pub returns-in-Some-clause-err : goal.returns-in-Some-clause-err
-returns-in-Some-clause-err c = λ slots.
+returns-in-Some-clause-err g c =
     let v = view_of c.args.self.now in
     let b = c.in-Some.ensures in
-    subst (λ (x : Reply). IsRefused slots v c.args.pass (Store c.args.r c.args.slot c.args.from) x) (sym b.1)
-    (refuses-store_busy slots v c.args.pass c.args.r c.args.slot c.args.from c.in_ok-id.id c.in_ok-target.target b.0 c.in_ok-id.ensures.ok c.in_ok-target.ensures b.2)
+    subst (λ (x : Reply). IsRefused g.row.SLOTS v c.args.pass (Store c.args.r c.args.slot c.args.from) x) (sym b.1)
+    (refuses-store_busy g.row.SLOTS v c.args.pass c.args.r c.args.slot c.args.from c.in_ok-id.id c.in_ok-target.target b.0 c.in_ok-id.ensures.ok c.in_ok-target.ensures b.2)
 
 pub returns-in_err-id-clause-err : goal.returns-in_err-id-clause-err
-returns-in_err-id-clause-err c =
+returns-in_err-id-clause-err g c =
     let v = view_of c.args.self.now in
-    let P = λ (reply : Reply). (slots : ℕ) → IsRefused slots v c.args.pass (Store c.args.r c.args.slot c.args.from) reply in
+    let P = λ (reply : Reply). IsRefused g.row.SLOTS v c.args.pass (Store c.args.r c.args.slot c.args.from) reply in
     if_err c.from_residual.result _ P c.from_residual.ensures.1
-    (λ y k. subst P (sym k) (λ slots. refuses-store slots v c.args.pass c.args.r c.args.slot c.args.from c.in_err-id.field-0.0 c.in_err-id.ensures.err))
+    (λ y k. subst P (sym k) (refuses-store g.row.SLOTS v c.args.pass c.args.r c.args.slot c.args.from c.in_err-id.field-0.0 c.in_err-id.ensures.err))
 
 pub returns-in_err-target-clause-err : goal.returns-in_err-target-clause-err
-returns-in_err-target-clause-err c =
+returns-in_err-target-clause-err g c =
     let v = view_of c.args.self.now in
-    let P = λ (reply : Reply). (slots : ℕ) → IsRefused slots v c.args.pass (Store c.args.r c.args.slot c.args.from) reply in
+    let P = λ (reply : Reply). IsRefused g.row.SLOTS v c.args.pass (Store c.args.r c.args.slot c.args.from) reply in
     if_err c.from_residual-in_err-target.result _ P c.from_residual-in_err-target.ensures.1
-    (λ y k. subst P (sym k) (λ slots. refuses-store_source slots v c.args.pass c.args.r c.args.slot c.args.from c.in_ok-id.id c.in_err-target.field-0.0 c.in_ok-id.ensures.ok c.in_err-target.ensures))
+    (λ y k. subst P (sym k) (refuses-store_source g.row.SLOTS v c.args.pass c.args.r c.args.slot c.args.from c.in_ok-id.id c.in_err-target.field-0.0 c.in_ok-id.ensures.ok c.in_err-target.ensures))

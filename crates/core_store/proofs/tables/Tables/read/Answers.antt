@@ -1,6 +1,4 @@
-use Rattle.std.proofs.Common.{◌≡◌, ℕ, ◌+◌, ◌<◌, ◌^◌, List, Bool, Option, Some, None, Ok, Err, refl, sym, ap, ◌∙◌, subst, arith, rules, true, false}
-use Rattle.std.specs.Prelude.{slice_index_or}
-use Rattle.core_store.specs.Frames.{Agree}
+use Rattle.std.proofs.Common.{ℕ, Option, sym, ap, ◌∙◌, rules}
 use Rattle.core_store.specs.Transactions.{loaded}
 use Rattle.core_store.specs.Tables.{changed_at}
 use Rattle.core_store.specs.Views.{view_of}
@@ -11,15 +9,13 @@ use Rattle.core_store.proofs.tables.Tables.read.Goals as goal
 pub cell-requires : goal.cell-requires
 cell-requires g c =
     let r = c.requires.ready in
-    (search rules, (search rules, (small-read (view_of c.args.self.now) c.args.held.now c.args.pass c.args.id c.args.slot c.args.into r, (r.pages.0, (r.standing.cells, r.standing.agree)))))
+    (search rules, (search rules, (small-read (view_of c.args.self.now) c.args.held.now c.args.pass c.args.id c.args.slot c.args.into r, (r.pages.0, (r.standing.core.cells, r.standing.agree)))))
 
-pub invariant_of-self-2 : goal.invariant_of-self-2
-invariant_of-self-2 g c = record {
-  owes =
-      (let u = c.requires.ready.granted.2.0 in
-      let e = owed-loaded c.args.pass c.args.into c.nonzero.result u.running c.args.self.now.transactions.entries u.is in
-      rw c.load.ensures (c.args.self.now.owes ∙ sym e));
-}
+pub invariant_of-self-2-clause-owes : goal.invariant_of-self-2-clause-owes
+invariant_of-self-2-clause-owes g c =
+    let u = c.requires.ready.granted.2.0 in
+    let e = owed-loaded c.args.pass c.args.into c.nonzero.result u.running c.args.self.now.transactions.entries u.is in
+    rw c.load.ensures (c.args.self.now.owes ∙ sym e)
 
 pub returns-clause-ok : goal.returns-clause-ok
 returns-clause-ok g c =

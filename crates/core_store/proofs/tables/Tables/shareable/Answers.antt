@@ -1,4 +1,4 @@
-use Rattle.std.proofs.Common.{ℕ, sym, subst}
+use Rattle.std.proofs.Common.{sym, subst}
 use Rattle.plain_model.specs.declared.calls.Call.TheVariants.{GetPay}
 use Rattle.plain_model.specs.declared.calls.Reply.{Reply}
 use Rattle.core_store.specs.Plans.{IsRefused}
@@ -8,13 +8,13 @@ use Rattle.core_store.proofs.PlanRefusals.{refuses-get, refuses-get_busy}
 use Rattle.core_store.proofs.tables.Tables.shareable.Goals as goal
 
 pub returns-in-Some-clause-err : goal.returns-in-Some-clause-err
-returns-in-Some-clause-err c = λ slots.
+returns-in-Some-clause-err g c =
     let v = view_of c.args.self.now in
     let b = c.in-Some.ensures in
-    subst (λ (x : Reply). IsRefused slots v c.args.pass (GetPay c.args.r) x) (sym b.1) (refuses-get_busy slots v c.args.pass c.args.r c.in_ok-id.id b.0 c.in_ok-id.ensures.ok b.2)
+    subst (λ (x : Reply). IsRefused g.row.SLOTS v c.args.pass (GetPay c.args.r) x) (sym b.1) (refuses-get_busy g.row.SLOTS v c.args.pass c.args.r c.in_ok-id.id b.0 c.in_ok-id.ensures.ok b.2)
 
 pub returns-in_err-id-clause-err : goal.returns-in_err-id-clause-err
-returns-in_err-id-clause-err c =
+returns-in_err-id-clause-err g c =
     let v = view_of c.args.self.now in
-    let P = λ (reply : Reply). (slots : ℕ) → IsRefused slots v c.args.pass (GetPay c.args.r) reply in
-    if_err c.from_residual.result _ P c.from_residual.ensures.1 (λ y k. subst P (sym k) (λ slots. refuses-get slots v c.args.pass c.args.r c.in_err-id.field-0.0 c.in_err-id.ensures.err))
+    let P = λ (reply : Reply). IsRefused g.row.SLOTS v c.args.pass (GetPay c.args.r) reply in
+    if_err c.from_residual.result _ P c.from_residual.ensures.1 (λ y k. subst P (sym k) (refuses-get g.row.SLOTS v c.args.pass c.args.r c.in_err-id.field-0.0 c.in_err-id.ensures.err))

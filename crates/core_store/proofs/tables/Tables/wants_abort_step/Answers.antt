@@ -20,35 +20,35 @@ wanted-requires g c =
     let w = c.requires.standing in
     let small : g.row.SLOTS ≤ 14 = ⊎_elim (λ six. omega arith) (λ fourteen. omega arith) w.stands.counted in
     let work = (undo-work w.stands c.args.pass c.in-Some.replaced (sym c.last_replaced.ensures ∙ c.in-Some.is)).0 in
-    (search rules, (subst (λ (o : Work). IsWork g.row.SLOTS o) (sym c.work_of_undo.ensures) work, (w.cells, w.agree, small-targets w.stands)))
+    (search rules, (subst (λ (o : Work). IsWork g.row.SLOTS o) (sym c.work_of_undo.ensures) work, (w.core.cells, w.agree, small-targets w.stands)))
 
 pub wanted-requires-in-None : goal.wanted-requires-in-None
 wanted-requires-in-None g c =
     let w = c.requires.standing in
     let small : g.row.SLOTS ≤ 14 = ⊎_elim (λ six. omega arith) (λ fourteen. omega arith) w.stands.counted in
-    (search rules, (tt, (w.cells, w.agree, small-targets w.stands)))
+    (search rules, (tt, (w.core.cells, w.agree, small-targets w.stands)))
 
 pub returns-in-Some-clause-exact : goal.returns-in-Some-clause-exact
-returns-in-Some-clause-exact g c = λ cells m h agree.
+returns-in-Some-clause-exact g c = λ core h agree.
     let held = pages_held c.args.held.now in
-    c.wanted.ensures.exact cells agree
-    ∙ (ap (λ (x : Work). want_of (pages_of_work cells (Some x)) held) c.work_of_undo.ensures
-    ∙ (ap (λ (pages : List ℕ). want_of pages held) (sym (pages-undo cells c.in-Some.replaced)) ∙ ap (λ (o : Option Write). want_of (pages_for_undo cells o) held) (sym (next-noted h c.args.pass ∙ (sym c.last_replaced.ensures ∙ c.in-Some.is)))))
+    c.wanted.ensures.exact core.cells agree
+    ∙ (ap (λ (x : Work). want_of (pages_of_work core.cells (Some x)) held) c.work_of_undo.ensures
+    ∙ (ap (λ (pages : List ℕ). want_of pages held) (sym (pages-undo core.cells c.in-Some.replaced)) ∙ ap (λ (o : Option Write). want_of (pages_for_undo core.cells o) held) (sym (next-noted h c.args.pass ∙ (sym c.last_replaced.ensures ∙ c.in-Some.is)))))
 
 pub returns-in-None-clause-exact : goal.returns-in-None-clause-exact
-returns-in-None-clause-exact g c = λ cells m h agree.
+returns-in-None-clause-exact g c = λ core h agree.
     let held = pages_held c.args.held.now in
-    c.wanted-in-None.ensures.exact cells agree ∙ ap (λ (o : Option Write). want_of (pages_for_undo cells o) held) (sym (next-noted h c.args.pass ∙ (sym c.last_replaced.ensures ∙ c.in-None.is)))
+    c.wanted-in-None.ensures.exact core.cells agree ∙ ap (λ (o : Option Write). want_of (pages_for_undo core.cells o) held) (sym (next-noted h c.args.pass ∙ (sym c.last_replaced.ensures ∙ c.in-None.is)))
 
 pub returns-in-Some-clause-next : goal.returns-in-Some-clause-next
 returns-in-Some-clause-next g c = λ page e.
     let w = c.requires.standing in
     let held = pages_held c.args.held.now in
     let last = sym c.last_replaced.ensures ∙ c.in-Some.is in
-    let is = returns-in-Some-clause-exact g c w.cells w.moment w.stands w.agree ∙ ap (λ (o : Option Write). want_of (pages_for_undo w.cells o) held) (next-noted w.stands c.args.pass ∙ last) in
-    next-of c.args.self.now.ids c.args.held.now (objects_of_undo w.cells c.in-Some.replaced) page c.wanted.ensures.once (few-undo w.stands c.in-Some.replaced (can-lay w.stands c.args.pass c.in-Some.replaced last)) (sym is ∙ e)
+    let is = returns-in-Some-clause-exact g c w.core w.stands w.agree ∙ ap (λ (o : Option Write). want_of (pages_for_undo w.core.cells o) held) (next-noted w.stands c.args.pass ∙ last) in
+    next-of c.args.self.now.ids c.args.held.now (objects_of_undo w.core.cells c.in-Some.replaced) page c.wanted.ensures.once (few-undo w.stands c.in-Some.replaced (can-lay w.stands c.args.pass c.in-Some.replaced last)) (sym is ∙ e)
 
 pub returns-in-None-clause-next : goal.returns-in-None-clause-next
 returns-in-None-clause-next g c = λ page e.
     let w = c.requires.standing in
-    next-nothing c.args.self.now.ids c.args.held.now page c.wanted-in-None.ensures.once (sym (c.wanted-in-None.ensures.exact w.cells w.agree) ∙ e)
+    next-nothing c.args.self.now.ids c.args.held.now page c.wanted-in-None.ensures.once (sym (c.wanted-in-None.ensures.exact w.core.cells w.agree) ∙ e)

@@ -1,0 +1,119 @@
+-- What the tables of a journal ask for before they work.
+use Rattle.std.proofs.Common.{◌≡◌, ℕ, ◌+◌, ◌<◌, ◌≤◌, List, [], map, length, true, false, refl, sym, ap, ◌∙◌, subst, arith}
+use Rattle.std.specs.List.{AllByRecursion}
+use Rattle.std.specs.Option.{option_map_or}
+use Rattle.plain_model.specs.declared.calls.Call.{Call as TransactionCall}
+use Rattle.plain_model.specs.declared.calls.Entry.{Entry}
+use Rattle.plain_model.specs.History.{start_of, end_of, moment_after}
+use Rattle.std.proofs.lemmas.Bool.Decides.{nat_tests}
+use Rattle.std.proofs.lemmas.List.{length-map, append-nil}
+use Rattle.core_store.specs.declared.journal.Journal.TheInside.{Inside}
+use Rattle.core_store.specs.declared.note.Note.{Note}
+use Rattle.core_store.specs.declared.three.HeldFrame.{HeldFrame}
+use Rattle.core_store.specs.declared.want.Want.TheVariants.{Ready}
+use Rattle.core_store.specs.Collecting.{CanCollect, pages_to_collect}
+use Rattle.core_store.specs.Frames.{Agree, is_held, pages_held, page_of_id}
+use Rattle.core_store.specs.JournalView.{JournalView, cells_of, core_of}
+use Rattle.core_store.specs.Journal.{view_of, IsSound, Keeps}
+use Rattle.core_store.specs.Limited.{is_past_limit, pages_for_call, pages_for_collector, entries_counted, WasFull}
+use Rattle.core_store.specs.Logged.{want_of, pages_for, pages_for_undo, objects_of_undo}
+use Rattle.core_store.specs.Owed.{entries_needed, entries_owed}
+use Rattle.core_store.specs.Ready.{IsStanding, IsReadyToCall, IsReadyToUndo}
+use Rattle.core_store.specs.Replaced.{next_to_restore}
+use Rattle.core_store.specs.Slots.{HoldsPagesOf}
+use Rattle.core_store.specs.Steppings.{IsReadyForCollector}
+use Rattle.core_store.specs.Tables.{TablesView}
+use Rattle.core_store.specs.Views.{view_of as tables_of}
+use Rattle.core_store.proofs.ReplyLaws.{each-map}
+use Rattle.core_store.proofs.WantLaws.{ready-all}
+
+-- ---- within the limit, and past it
+
+pub call-within : (j : JournalView) (pass : ℕ) (c : TransactionCall) → is_past_limit j (entries_needed c) ≡ false → pages_for_call j pass c ≡ pages_for (end_of j.history).state (cells_of j) pass c
+call-within j pass c e = rw e refl
+
+pub call-past : (j : JournalView) (pass : ℕ) (c : TransactionCall) → is_past_limit j (entries_needed c) ≡ true → pages_for_call j pass c ≡ []
+call-past j pass c e = rw e refl
+
+pub collector-within : (j : JournalView) → is_past_limit j 1 ≡ false → pages_for_collector j ≡ pages_to_collect (cells_of j) j.round
+collector-within j e = rw e refl
+
+pub collector-past : (j : JournalView) → is_past_limit j 1 ≡ true → pages_for_collector j ≡ []
+collector-past j e = rw e refl
+
+-- a history that so many entries more take past its limit is full
+pub was-full : (j : JournalView) (v : TablesView) (needed : ℕ) → Keeps j v → is_past_limit j needed ≡ true → needed ≤ 2 → WasFull j
+was-full j v needed k past few =
+    let more : j.limits.trace < entries_counted j + needed = grind (arith, nat_tests, past) in
+    let long : length j.notes ≡ length j.history.entries = sym (length-map j.notes (λ (n : Note). n.entry)) ∙ ap length k.entries in
+    let owed : entries_owed (moment_after (start_of j.history) (map (λ n. n.entry) j.notes)) ≡ entries_owed (end_of j.history) = ap (λ (es : List Entry). entries_owed (moment_after (start_of j.history) es)) k.entries in
+    (j.notes, [], sym (append-nil j.notes), omega (arith, more, few, long, owed))
+
+-- it is marked
+pub Keeps-marked : (j : JournalView) (v : TablesView) (needed : ℕ) → Keeps j v → is_past_limit j needed ≡ true → needed ≤ 2 → Keeps (record j { marks = record j.marks { trace = true } }) v
+Keeps-marked j v needed k past few = record {
+  legal = k.legal;
+  running = k.running;
+  opened = k.opened;
+  bounded = k.bounded;
+  entries = k.entries;
+  consistent = k.consistent;
+  fit = k.fit;
+  laid = k.laid;
+  stands = k.stands;
+  led = k.led;
+  left = k.left;
+  limits = k.limits;
+  counted = k.counted;
+  full = λ e. was-full j v needed k past few;
+  unmarked = k.unmarked;
+}
+
+-- ---- what a call asks for
+
+-- few entries are owed
+pub owed-few : (j : JournalView) (v : TablesView) → Keeps j v → v.owed ≤ 1048576
+owed-few j v k =
+    let owed = k.stands.owed in
+    let few = k.counted in
+    let most = k.limits.trace in
+    omega (arith, owed, few, most)
+
+abbrev pub standing : {slots : ℕ} (a : Inside slots) (now : JournalView) (held : List (HeldFrame slots)) → IsSound a → view_of a ≡ now → Agree (cells_of now) held → IsStanding (tables_of a.tables) held
+standing a now held s is agree = record {
+  core = core_of (view_of a);
+  stands = s.keeps.stands;
+  agree = subst (λ (j : JournalView). Agree (cells_of j) held) (sym is) agree;
+}
+
+pub ready-call : {slots : ℕ} (a : Inside slots) (now : JournalView) (held : List (HeldFrame slots)) (pass : ℕ) (call : TransactionCall) → IsSound a → view_of a ≡ now → Agree (cells_of now) held → is_past_limit now (entries_needed call) ≡ false
+    → want_of (pages_for_call now pass call) (pages_held held) ≡ Ready → IsReadyToCall (tables_of a.tables) held pass call
+ready-call a now held pass call s is agree within ready = record {
+  standing = standing a now held s is agree;
+  pages =
+      subst (λ (j : JournalView). AllByRecursion (λ p. is_held held p ≡ true) (pages_for (end_of j.history).state (cells_of j) pass call)) (sym is)
+      (ready-all (pages_for (end_of now.history).state (cells_of now) pass call) held (sym (ap (λ ps. want_of ps (pages_held held)) (call-within now pass call within)) ∙ ready));
+}
+
+-- ---- an abort step
+
+pub ready-undo : {slots : ℕ} (a : Inside slots) (now : JournalView) (held : List (HeldFrame slots)) (pass : ℕ) → IsSound a → view_of a ≡ now → Agree (cells_of now) held
+    → want_of (pages_for_undo (cells_of now) (next_to_restore (end_of now.history) pass)) (pages_held held) ≡ Ready → IsReadyToUndo (tables_of a.tables) held pass
+ready-undo a now held pass s is agree ready = record {
+  standing = standing a now held s is agree;
+  pages = subst (λ (j : JournalView). HoldsPagesOf held (option_map_or (objects_of_undo (cells_of j)) (next_to_restore (end_of j.history) pass) [])) (sym is)
+      (each-map (λ p. is_held held p ≡ true) page_of_id (option_map_or (objects_of_undo (cells_of now)) (next_to_restore (end_of now.history) pass) []) (ready-all (pages_for_undo (cells_of now) (next_to_restore (end_of now.history) pass)) held ready));
+}
+
+-- ---- an event of the collector
+
+abbrev pub ready-collect : {slots : ℕ} (a : Inside slots) (now : JournalView) (held : List (HeldFrame slots)) → IsSound a → view_of a ≡ now → Agree (cells_of now) held → is_past_limit now 1 ≡ false → IsReadyForCollector now held → CanCollect (tables_of a.tables) held
+ready-collect {slots} a now held s is agree within ready =
+    let r = subst (λ (j : JournalView). IsReadyForCollector j held) (sym is) ready in
+    let few = ap (λ (j : JournalView). is_past_limit j 1) is ∙ within in
+    record {
+      core = core_of (view_of a);
+      stands = s.keeps.stands;
+      agree = subst (λ (j : JournalView). Agree (cells_of j) held) (sym is) agree;
+      ready = record { pages = sym (ap (λ ps. want_of ps (pages_held held)) (collector-within (view_of a) few)) ∙ r.pages; event = r.event few };
+    }

@@ -1,0 +1,164 @@
+-- What happens to a journal at a call, at a step of an abort and at an event of the collector.
+use Rattle.std.proofs.Common.{◌≡◌, ℕ, ◌+◌, ◌≤◌, List, [], true, false, length, refl, sym, ap, ◌∙◌, subst, Option, Some, None, inl, arith}
+use Rattle.std.specs.Prelude.{Contains}
+use Rattle.std.specs.Option.{option_map_or}
+use Rattle.std.proofs.lemmas.Bool.Decides.{nat_tests}
+use Rattle.plain_model.specs.declared.calls.Call.{Call as TransactionCall}
+use Rattle.plain_model.specs.declared.calls.Call.TheVariants.{Abort}
+use Rattle.plain_model.specs.declared.calls.Reply.{Reply}
+use Rattle.plain_model.specs.declared.calls.Reply.TheVariants.{Done}
+use Rattle.plain_model.specs.declared.calls.Entry.{Entry}
+use Rattle.plain_model.specs.declared.calls.Entry.TheVariants.{Call, Undo}
+use Rattle.plain_model.specs.Machine.{State, step, transaction_of}
+use Rattle.plain_model.specs.History.{Moment, IsAllowed, next, end_of, is_stopped}
+use Rattle.plain_model.specs.Outcomes.{IsReachableInSomeOutcome}
+use Rattle.plain_model.proofs.StepLaws.{is_stopped-call, step-plain, is_plain}
+use Rattle.plain_model.proofs.StepLemmas.{step-out}
+use Rattle.store_model.specs.Core.{Core, Round}
+use Rattle.store_model.specs.Sound.{IsSound, condemned_of}
+use Rattle.store_model.proofs.Lists.{Contains-here}
+use Rattle.store_model.proofs.DeletionLaws.{deletion}
+use Rattle.store_model.proofs.AllowedLaws.{no_reason-allowed}
+use Rattle.log_record.specs.declared.cell_record.CellRecord.{CellRecord}
+use Rattle.log_record.specs.declared.cell_record.CellRecord.TheVariants as logs
+use Rattle.core_store.specs.declared.act.Act.{Act}
+use Rattle.core_store.specs.declared.act.Act.TheVariants as act
+use Rattle.core_store.specs.declared.note.Note.{Note}
+use Rattle.core_store.specs.declared.three.HeldFrame.{HeldFrame}
+use Rattle.core_store.specs.Collecting.{Collected}
+use Rattle.core_store.specs.Collects.{Collects, Frees, entry_of}
+use Rattle.core_store.specs.Events.{after_event}
+use Rattle.core_store.specs.JournalView.{JournalView, core_of}
+use Rattle.core_store.specs.Journal.{Keeps}
+use Rattle.core_store.specs.Limited.{is_past_limit, entries_counted}
+use Rattle.core_store.specs.Stands.{Answers, Undoes, Ended}
+use Rattle.core_store.specs.Tables.{TablesView}
+use Rattle.core_store.proofs.LedLaws.{turns-collector}
+use Rattle.core_store.proofs.JournalLaws.{Happens}
+
+-- ---- the limit
+
+-- a history that so many entries more keep within its limit
+pub counted-within : (j : JournalView) (v w : TablesView) (needed : ℕ) → Keeps j v → is_past_limit j needed ≡ false → w.owed + 1 ≤ v.owed + needed → length j.history.entries + 1 + w.owed ≤ j.limits.trace
+counted-within j v w needed k within more =
+    let owed = k.stands.owed in
+    let few : entries_counted j + needed ≤ j.limits.trace = grind (arith, nat_tests, within) in
+    omega (arith, owed, few, more)
+
+-- an entry that was owed
+pub counted-owed : (j : JournalView) (v w : TablesView) → Keeps j v → w.owed + 1 ≡ v.owed → length j.history.entries + 1 + w.owed ≤ j.limits.trace
+counted-owed j v w k less =
+    let owed = k.stands.owed in
+    let few = k.counted in
+    omega (arith, owed, few, less)
+
+-- ---- a call
+
+done_abort : (s : State) (pass : ℕ) (reply : Reply) → reply ≡ (step s pass Abort).0 → transaction_of s pass ≡ None → reply ≡ Done → ⊥
+done_abort s pass reply e none d =
+    let k = ap (λ (x : Reply × State). x.0) (step-out s pass Abort none refl) in
+    cc
+
+-- the note of an event of a client
+abbrev pub client_note : Entry → Option CellRecord → ℕ → Note
+client_note entry logged left = record { entry = entry; logged = logged; left = left; act = act.Other }
+
+pub happens-call : (j : JournalView) (v w : TablesView) (held new : List (HeldFrame j.history.slots)) (pass : ℕ) (call : TransactionCall) (reply : Reply) (logged : Option CellRecord) (left : ℕ) → Keeps j v → Answers j.history.slots w (core_of j) held new pass call reply logged
+    → (call ≡ Abort → transaction_of (end_of j.history).state pass ≡ None) → length j.history.entries + 1 + w.owed ≤ j.limits.trace → Happens j w (client_note (Call pass call reply) logged left) (after_event j.history.slots (core_of j) (Call pass call reply) logged)
+happens-call j v w held new pass call reply logged left k a out counted =
+    let m = end_of j.history in
+    let plain : is_plain reply ≡ true = ap is_plain a.machine ∙ step-plain m.state pass call in
+    record {
+      allowed = (k.running, record { machine = inl a.machine; undone = λ c d. absurd (done_abort m.state pass reply (a.machine ∙ ap (λ (x : TransactionCall). (step m.state pass x).0) c) (out c) d) });
+      going = is_stopped-call m pass call reply k.running plain;
+      fits = a.moves.fits;
+      lays = a.moves.lays;
+      after = refl;
+      turns = (tt, refl, refl);
+      stands = a.stands;
+      counted = counted;
+    }
+
+-- ---- the steps of an abort
+
+pub happens-undo : (j : JournalView) (v w : TablesView) (held new : List (HeldFrame j.history.slots)) (pass : ℕ) (logged : CellRecord) (left : ℕ) → Keeps j v → Undoes j.history.slots w (core_of j) held new pass logged
+    → length j.history.entries + 1 + w.owed ≤ j.limits.trace → Happens j w (client_note (Undo pass) (Some logged) left) (after_event j.history.slots (core_of j) (Undo pass) (Some logged))
+happens-undo j v w held new pass logged left k a counted =
+    let some = a.some_left in
+    record { allowed = (k.running, omega (arith, some)); going = k.running; fits = a.moves.fits; lays = a.moves.lays; after = refl; turns = (tt, refl, refl); stands = a.stands; counted = counted }
+
+pub happens-ended : (j : JournalView) (v w : TablesView) (pass left : ℕ) → Keeps j v → Ended j.history.slots w (core_of j) pass → length j.history.entries + 1 + w.owed ≤ j.limits.trace
+    → Happens j w (client_note (Call pass Abort Done) (Some (logs.AbortEnd pass)) left) (after_event j.history.slots (core_of j) (Call pass Abort Done) (Some (logs.AbortEnd pass)))
+happens-ended j v w pass left k a counted =
+    let m = end_of j.history in
+    record {
+      allowed = (k.running, record { machine = inl a.machine; undone = λ c d. a.all_undone });
+      going = is_stopped-call m pass Abort Done k.running refl;
+      fits = tt;
+      lays = tt;
+      after = refl;
+      turns = (tt, refl, refl);
+      stands = a.stands;
+      counted = counted;
+    }
+
+-- ---- an event of the collector
+
+condemned-first : (c : Core) (id : ℕ) (queue : List ℕ) (round : Option Round) → Frees c id queue round → Contains (condemned_of c) id
+condemned-first c id queue round f = subst (λ (o : Option Round). Contains (option_map_or (λ r. r.condemned) o []) id) (sym f.there) (subst (λ xs. Contains xs id) (sym f.first) (Contains-here id f.left))
+
+freed-condemned : (slots : ℕ) (c : Core) (a : Act) (id : ℕ) (queue : List ℕ) (round : Option Round) → Collects slots c a (Some (logs.Free id)) queue round → Contains (condemned_of c) id
+freed-condemned slots c act.Change id queue round h = condemned-first c id queue round h
+freed-condemned slots c (act.Skip x) id queue round h = absurd h
+freed-condemned slots c (act.Start x) id queue round h = absurd h
+freed-condemned slots c (act.Scan x) id queue round h = absurd h
+freed-condemned slots c act.Judge id queue round h = absurd h
+freed-condemned slots c act.End id queue round h = absurd h
+freed-condemned slots c act.Other id queue round h = absurd h
+
+-- no object is freed that is reachable in some outcome
+pub freed-safe : (slots : ℕ) (c : Core) (a : Act) (id : ℕ) (queue : List ℕ) (round : Option Round) → IsSound c → Collects slots c a (Some (logs.Free id)) queue round → IsReachableInSomeOutcome c.moment.state id → ⊥
+freed-safe slots c a id queue round s h r = deletion c s (Contains (condemned_of c)) s.condemned id (freed-condemned slots c a id queue round h) r
+
+allowed-collector : (slots : ℕ) (c : Core) (a : Act) (logged : Option CellRecord) (queue : List ℕ) (round : Option Round) → IsSound c → is_stopped c.moment ≡ false → Collects slots c a logged queue round → IsAllowed c.moment (entry_of logged)
+allowed-collector slots c a None queue round s runs h = runs
+allowed-collector slots c a (Some (logs.Free id)) queue round s runs h = no_reason-allowed c s runs (Contains (condemned_of c)) s.condemned id (freed-condemned slots c a id queue round h)
+allowed-collector slots c a (Some (logs.Begin pass)) queue round s runs h = runs
+allowed-collector slots c a (Some (logs.Make pass id)) queue round s runs h = runs
+allowed-collector slots c a (Some (logs.Store pass id slot o os n nb ns)) queue round s runs h = runs
+allowed-collector slots c a (Some (logs.Pay pass id o n)) queue round s runs h = runs
+allowed-collector slots c a (Some (logs.Commit pass)) queue round s runs h = runs
+allowed-collector slots c a (Some (logs.Undo pass id place f fs to tb)) queue round s runs h = runs
+allowed-collector slots c a (Some (logs.AbortEnd pass)) queue round s runs h = runs
+allowed-collector slots c a (Some (logs.Weaken id slot target)) queue round s runs h = runs
+allowed-collector slots c a (Some (logs.Strengthen id slot target)) queue round s runs h = runs
+allowed-collector slots c a (Some (logs.Flip id)) queue round s runs h = runs
+allowed-collector slots c a (Some (logs.CutDead id slot target strong)) queue round s runs h = runs
+
+going-collector : (m : Moment) (logged : Option CellRecord) → is_stopped (next m (entry_of logged)) ≡ is_stopped m
+going-collector m None = refl
+going-collector m (Some (logs.Free id)) = refl
+going-collector m (Some (logs.Begin pass)) = refl
+going-collector m (Some (logs.Make pass id)) = refl
+going-collector m (Some (logs.Store pass id slot o os n nb ns)) = refl
+going-collector m (Some (logs.Pay pass id o n)) = refl
+going-collector m (Some (logs.Commit pass)) = refl
+going-collector m (Some (logs.Undo pass id place f fs to tb)) = refl
+going-collector m (Some (logs.AbortEnd pass)) = refl
+going-collector m (Some (logs.Weaken id slot target)) = refl
+going-collector m (Some (logs.Strengthen id slot target)) = refl
+going-collector m (Some (logs.Flip id)) = refl
+going-collector m (Some (logs.CutDead id slot target strong)) = refl
+
+pub happens-collector : (j : JournalView) (v w : TablesView) (held new : List (HeldFrame j.history.slots)) (a : Act) (logged : Option CellRecord) (left : ℕ) → Keeps j v → (t : Collected j.history.slots v w (core_of j) held new a logged)
+    → length j.history.entries + 1 + w.owed ≤ j.limits.trace → Happens j w (record { entry = entry_of logged; logged = logged; left = left; act = a }) t.core
+happens-collector j v w held new a logged left k t counted = record {
+  allowed = allowed-collector j.history.slots (core_of j) a logged t.core.queue t.core.round k.stands.sound k.running t.collects;
+  going = going-collector (end_of j.history) logged ∙ k.running;
+  fits = t.moves.fits;
+  lays = t.moves.lays;
+  after = t.after;
+  turns = turns-collector j.history.slots (core_of j) a logged left t.core.queue t.core.round t.collects;
+  stands = t.stands;
+  counted = counted;
+}

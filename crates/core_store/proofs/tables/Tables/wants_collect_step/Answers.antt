@@ -1,0 +1,85 @@
+use Rattle.std.proofs.Common.{rules, ◌≡◌, ◌≤◌, ◌<◌, ℕ, IfSome, ap, sym, subst, ◌∙◌, ⊎_elim, arith}
+use Rattle.std.specs.Prelude.{Option}
+use Rattle.core_store.specs.declared.want.Work.{Work}
+use Rattle.core_store.specs.declared.round_at.RoundAt.{RoundAt}
+use Rattle.core_store.specs.declared.want.Want.TheVariants.{Ready}
+use Rattle.core_store.specs.Frames.{pages_held, IsNext}
+use Rattle.core_store.specs.Logged.{want_of}
+use Rattle.core_store.specs.Slots.{HoldsPagesOf}
+use Rattle.core_store.specs.Work.{IsWork, pages_of_work}
+use Rattle.core_store.specs.RoundView.{Rounds, asked, left_of, is_event}
+use Rattle.core_store.specs.Collecting.{work_at, objects_at}
+use Rattle.core_store.specs.Tables.{TablesView}
+use Rattle.core_store.specs.Views.{view_of}
+use Rattle.core_store.proofs.LeftLaws.{left-passed}
+use Rattle.core_store.proofs.NextLaws.{next-of}
+use Rattle.core_store.proofs.PlanWork.{small-targets}
+use Rattle.core_store.proofs.ReadyRound.{asked-work, asked-few, ready-pages}
+use Rattle.core_store.proofs.PassLaws.{HasPassed, passed-none, passed-more, look-of}
+use Rattle.core_store.proofs.tables.Tables.wants_collect_step.Goals as goal
+use Rattle.core_store.proofs.tables.Tables.wants_collect_step.Goals.{then-ne-via-then-ne, then-ne-via-else-ne+then-is_event}
+
+pub looks-init : goal.looks-init
+looks-init g c = passed-none g.row.SLOTS (view_of c.args.self.now) c.args.held.now
+
+pub wanted-want-requires : goal.wanted-want-requires
+wanted-want-requires g c =
+    let r = c.requires.standing in
+    let small : g.row.SLOTS ≤ 14 = ⊎_elim (λ six. omega arith) (λ fourteen. omega arith) r.stands.counted in
+    let h = c.looks.invariant.stands r.core r.stands r.agree in
+    let work = subst (λ (a : RoundAt). IfSome (work_at a) (IsWork g.row.SLOTS)) (sym c.at-at.ensures.next) (asked-work h) in
+    (search rules, (subst (λ (o : Option Work). IfSome o (IsWork g.row.SLOTS)) (sym c.work_at.ensures) work, (r.core.cells, r.agree, small-targets h)))
+
+pub is_event-requires : goal.is_event-requires
+is_event-requires g c =
+    let r = c.requires.standing in
+    let held = c.args.held.now in
+    let small : g.row.SLOTS ≤ 14 = ⊎_elim (λ six. omega arith) (λ fourteen. omega arith) r.stands.counted in
+    let h = c.looks.invariant.stands r.core r.stands r.agree in
+    let view = c.looks.self.round.view in
+    let ready : c.wanted-want.result ≡ Ready = search rules in
+    let work = subst (λ (a : RoundAt). IfSome (work_at a) (IsWork g.row.SLOTS)) (sym c.at-at.ensures.next) (asked-work h) in
+    let wants = ap (λ (o : Option Work). want_of (pages_of_work r.core.cells o) (pages_held held)) (sym (c.work_at.ensures ∙ ap work_at c.at-at.ensures.next)) ∙ (sym (c.wanted-want.ensures.exact r.core.cells r.agree) ∙ ready) in
+    let pages = subst (λ (a : RoundAt). HoldsPagesOf held (objects_at r.core.cells a)) (sym c.at-at.ensures.next) (ready-pages r.core.cells view held wants) in
+    (search rules, (r.stands.counted, (work, λ look. (r.core.cells, r.agree, small-targets h, pages))))
+
+pub passed-requires : goal.passed-requires
+passed-requires g c =
+    let r = c.requires.standing in
+    (search rules, look-of r.core.cells (asked c.looks.self.round.view) (ap (is_event r.core.cells) (sym c.at-at.ensures.next) ∙ (sym (c.is_event.ensures r.core.cells r.agree) ∙ c.if-is_event.false)))
+
+pub looks-smaller : goal.looks-smaller
+looks-smaller g c =
+    let r = c.requires.standing in
+    let h = c.looks.invariant.stands r.core r.stands r.agree in
+    let look = look-of r.core.cells (asked c.looks.self.round.view) (ap (is_event r.core.cells) (sym c.at-at.ensures.next) ∙ (sym (c.is_event.ensures r.core.cells r.agree) ∙ c.if-is_event.false)) in
+    subst (λ (x : Rounds). left_of g.row.SLOTS x.view < left_of g.row.SLOTS c.looks.self.round.view) (sym c.passed.ensures.passed) (left-passed g.row.SLOTS c.looks.self.ids c.looks.self.round.view h.in_step look)
+
+pub looks-preserved : goal.looks-preserved
+looks-preserved g c =
+    let held = c.args.held.now in
+    let v = view_of c.args.self.now in
+    let w = view_of {slots = g.row.SLOTS} c.looks.self in
+    subst (λ (x : Rounds). HasPassed g.row.SLOTS v (record w { round = x.view }) held) (sym c.passed.ensures.passed)
+    (passed-more g.row.SLOTS v w held c.looks.invariant (λ d h agree. ap (is_event d.cells) (sym c.at-at.ensures.next) ∙ (sym (c.is_event.ensures d.cells agree) ∙ c.if-is_event.false)))
+
+pub returns-then-ne-clause-next : goal.returns-then-ne-clause-next
+returns-then-ne-clause-next g c page e =
+    let r = c.requires.standing in
+    let held = c.args.held.now in
+    let h = c.looks.invariant.stands r.core r.stands r.agree in
+    let view = c.looks.self.round.view in
+    let wants = ap (λ (o : Option Work). want_of (pages_of_work r.core.cells o) (pages_held held)) (sym (c.work_at.ensures ∙ ap work_at c.at-at.ensures.next)) ∙ (sym (c.wanted-want.ensures.exact r.core.cells r.agree) ∙ e) in
+    subst (λ (ids : ℕ). IsNext ids held page) (ap (λ (v : TablesView). v.ids) c.looks.invariant.same)
+    (next-of c.looks.self.ids held (objects_at r.core.cells (asked view)) page c.wanted-want.ensures.once (asked-few h) wants)
+
+pub returns-then-ne-clause-exact : goal.returns-then-ne-clause-exact
+returns-then-ne-clause-exact g c d h agree =
+    c.wanted-want.ensures.exact d.cells agree ∙ ap (λ (o : Option Work). want_of (pages_of_work d.cells o) (pages_held c.args.held.now)) (c.work_at.ensures ∙ ap work_at c.at-at.ensures.next)
+
+pub returns-then-ne-clause-event : goal.returns-then-ne-clause-event
+returns-then-ne-clause-event g c d h agree ready =
+    elim c.then-ne.branch [
+      | then-ne-via-then-ne w ↦ absurd (let e = rw ready at w.if-ne.ensures in cc)
+      | then-ne-via-else-ne+then-is_event w ↦ ap (is_event d.cells) (sym c.at-at.ensures.next) ∙ (sym (w.is_event.ensures d.cells agree) ∙ w.if-is_event.true)
+    ]

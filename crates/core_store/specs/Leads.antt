@@ -1,0 +1,37 @@
+-- How notes lead from one journal to another: all that a journal has, but how far a walk has come, is what its notes give.
+use Rattle.std.specs.Prelude.{◌≡◌, ◌↔◌, ℕ, List, [], ◌∷◌, Option, None}
+use Rattle.plain_model.specs.declared.calls.Entry.{Entry}
+use Rattle.plain_model.specs.declared.calls.Entry.TheVariants.{Call, Undo}
+use Rattle.store_model.specs.Core.{Round, Core}
+use Rattle.core_store.specs.declared.note.Note.{Note}
+use Rattle.core_store.specs.declared.act.Act.{Act}
+use Rattle.core_store.specs.declared.act.Act.TheVariants.{Other}
+use Rattle.core_store.specs.Queued.{queue_after}
+use Rattle.core_store.specs.Touched.{objects_touched, round_after}
+use Rattle.core_store.specs.Events.{core_after}
+use Rattle.core_store.specs.Collects.{Collects, entry_of}
+
+-- the entry is of a call or of an undo
+abbrev pub IsOfClient : Entry → Type 0
+IsOfClient (Call pass call reply) = Unit {0}
+IsOfClient (Undo pass) = Unit {0}
+IsOfClient _ = ⊥
+
+-- what a note makes of the queue and the round
+abbrev pub Turns : ℕ → Core → Note → List ℕ → Option Round → Type 0
+Turns slots c n queue round = by n.act
+  where
+    by : Act → Type 0
+    by Other = IsOfClient n.entry × (queue ≡ queue_after c n.logged) × (round ≡ round_after c.round (objects_touched n.logged))
+    by a = (n.entry ≡ entry_of n.logged) × Collects slots c a n.logged queue round
+
+-- a note leads from a journal to the next one, and tells that no work is left exactly where no round is open
+pub record Leads (slots : ℕ) (c d : Core) (n : Note) : Type 0 where
+  pub after : d ≡ core_after slots c n.entry n.logged d.queue d.round
+  pub turns : Turns slots c n d.queue d.round
+  pub left : (n.left ≡ 0) ↔ (d.round ≡ None)
+
+-- the notes lead from a journal to another, one after another
+abbrev pub AreLed : ℕ → Core → List Note → Core → Type 0
+AreLed slots c [] d = c ≡ d
+AreLed slots c (n ∷ ns) d = (e : Core) × Leads slots c e n × AreLed slots e ns d

@@ -1,0 +1,57 @@
+-- What a call of a journal and a step of its collector are answered, and what such a step leaves.
+use Rattle.std.specs.Prelude.{◌≡◌, ◌≢◌, ℕ, Bool, true, false, List, Option, Some, None}
+use Rattle.plain_model.specs.declared.calls.Reply.{Reply}
+use Rattle.plain_model.specs.declared.calls.Reply.TheVariants as reply
+use Rattle.plain_model.specs.History.{with_entry}
+use Rattle.log_record.specs.declared.cell_record.CellRecord.{CellRecord}
+use Rattle.core_store.specs.declared.act.Act.{Act}
+use Rattle.core_store.specs.declared.collect.Collect.{Collect}
+use Rattle.core_store.specs.declared.collect.Collect.TheVariants.{Did, Deleted}
+use Rattle.core_store.specs.declared.three.HeldFrame.{HeldFrame}
+use Rattle.core_store.specs.declared.want.Want.TheVariants.{Ready}
+use Rattle.core_store.specs.Frames.{pages_held}
+use Rattle.core_store.specs.Logged.{want_of}
+use Rattle.core_store.specs.JournalView.{JournalView, cells_of, core_of, with_note}
+use Rattle.core_store.specs.Limited.{is_past_limit, pages_for_collector}
+use Rattle.core_store.specs.RoundView.{asked, is_event, left_of, Proceeds}
+use Rattle.core_store.specs.Events.{core_after}
+use Rattle.core_store.specs.Collects.{Collects, entry_of}
+use Rattle.core_store.specs.Collecting.{answer_of}
+
+-- a reply that enters the history
+abbrev pub IsEntered : Reply → Type 0
+IsEntered r = (r ≢ reply.Memory) × (r ≢ reply.TraceFull)
+
+-- the step made an event
+abbrev pub IsEvent : Collect → Type 0
+IsEvent (Did popped left) = Unit {0}
+IsEvent (Deleted id left) = Unit {0}
+IsEvent _ = ⊥
+
+-- how much work is left, where the answer tells it
+abbrev pub left_told : Collect → Option ℕ
+left_told (Did popped left) = Some left
+left_told (Deleted id left) = Some left
+left_told _ = None
+
+-- the event took the first id out of the queue
+abbrev pub pops : Collect → Bool
+pops (Did popped left) = popped
+pops _ = false
+
+-- the pages are held that the collector's next event needs, unless the history is full
+pub record IsReadyForCollector {slots : ℕ} (j : JournalView) (held : List (HeldFrame slots)) : Type 0 where
+  pub pages : want_of (pages_for_collector j) (pages_held held) ≡ Ready
+  pub event : is_past_limit j 1 ≡ false → is_event (cells_of j) (asked j.round) ≡ true
+
+-- the collector made the event that came next: it is noted with its entry, the queue and the round are what it makes of them, and the answer tells of it
+pub record MakesEvent (slots : ℕ) (old new : JournalView) (result : Collect) : Type 0 where
+  pub act : Act
+  pub logged : Option CellRecord
+  pub entry : new.history ≡ with_entry old.history (entry_of logged)
+  pub noted : new.notes ≡ with_note old.notes (entry_of logged) logged (left_of slots new.round) act
+  pub core : core_of new ≡ core_after slots (core_of old) (entry_of logged) logged new.queue (core_of new).round
+  pub collects : Collects slots (core_of old) act logged new.queue (core_of new).round
+  pub proceeds : Proceeds slots old.history.ids old.round act logged new.round
+  pub answer : result ≡ answer_of act logged (left_of slots new.round)
+  pub marks : new.marks ≡ old.marks

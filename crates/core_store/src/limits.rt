@@ -1,0 +1,18 @@
+//! How far a journal may grow.
+
+/// How far a journal may grow.
+#[derive(Clone, Copy, PartialEq, Eq, Debug)]
+pub struct Limits {
+    /// How many entries the history may have, those counted that the active transactions owe: at most 1,048,576.
+    pub trace: u64,
+    /// How many bytes the log may have: at most 1,071,644,672. It has no effect yet, since there is no log.
+    pub log: u64,
+}
+
+impl Limits {
+    /// The greatest limits, which the program uses.
+    pub const GREATEST: Limits = Limits {
+        trace: 1_048_576,
+        log: 1_071_644_672,
+    };
+}

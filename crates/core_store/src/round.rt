@@ -1,0 +1,275 @@
+//! The open round of the collector.
+ghost use Rattle.std.specs.Prelude.{◌≡◌, ℕ, ◌≤◌, ◌<◌, List, Bool, false, filter, length, IfOk, IfSome};
+ghost use Rattle.cell_page.specs.Format.{IsSlotCount};
+ghost use Rattle.strict_locks.specs.Locks.{Table};
+ghost use Rattle.ref_tables.specs.Queue.{has};
+ghost use Rattle.red_walk.specs.Walk.{Walk, IsWalk, opened, moved, joined_by, copied, removed};
+ghost use Rattle.red_walk.specs.Inside.{copy_of_seen};
+ghost use Rattle.green_walk.specs.declared.sweep.Found.{Found};
+ghost use Rattle.green_walk.specs.Judged.{IsSeed, IsLive, Picks};
+ghost use Rattle.green_walk.specs.Sweeping.{Sweeping as Sweep, IsSweep, started, found};
+ghost use Rattle.core_store.specs.RoundView.{RoundView, Closed, Walking, Sweeping, asked, IsLookAt, passed, touched_in, next_slot, left_of, ids_in, IsInStep};
+ghost use Rattle.core_store.specs.RoundInside.{IsRowOf};
+
+use crate::round_at::RoundAt;
+use cell_page::Seen;
+use green_walk::{Found, LockView, Sweep, SweepAt, Verdict};
+use plain_model::Memory;
+use red_walk::{Red, RedAt};
+use ref_tables::TempRefs;
+use std::alloc::Global;
+use std::marker::Model;
+use strict_locks::LockTable;
+
+/// How far a round has come.
+#[derive(Clone, Copy, PartialEq, Eq, Debug)]
+enum Stage {
+    Closed,
+    /// Up to the verdict.
+    Walking,
+    /// From the verdict on.
+    Sweeping,
+}
+
+/// The open round, or none: its walk, its verdict and its sweep.
+///
+/// Room for all ids is taken when it is made, and no later call takes memory.
+#[derive(Debug, Drop)]
+pub(crate) struct Round<const SLOTS: usize> {
+    ids: u32,
+    red: Red<SLOTS>,
+    locked: LockView,
+    verdict: Verdict,
+    sweep: Sweep,
+    stage: Stage,
+    /// The slot of the condemned object in hand from which on references may be left.
+    slot: u8,
+}
+
+impl<const SLOTS: usize> Model for Round<SLOTS> {
+    ghost use Rattle.core_store.specs.RoundView.{Rounds};
+    ghost use Rattle.core_store.specs.RoundInside.{view_of_round, AreInStep};
+
+    ghost Value = { Rounds };
+
+    ghost view = { λ a. record { limit = a.ids; view = view_of_round a.stage a.red a.sweep a.slot } };
+
+    ghost invariant = { λ a. AreInStep SLOTS a.ids a.stage a.red a.locked a.verdict a.sweep a.slot };
+}
+
+/// Notes which of the objects are locked, each at its place.
+fn note_locked(row: &mut LockView, list: &[u32], locks: &LockTable)
+    requires { length list.now ≤ length row.old }
+    ensures row { IsRowOf locks.now list.now row.new }
+    ensures room { length row.new ≡ length row.old }
+{
+    for place in 0..list.len() {
+        row.set(place, locks.holder(list[place]).is_some());
+    }
+}
+
+/// What holds of every walk and of every sweep is known from here on.
+fn known<const SLOTS: usize>(red: &Red<SLOTS>, sweep: &Sweep)
+    ensures walk { IsWalk SLOTS red.now }
+    ensures sweep { IsSweep sweep.now }
+{
+    let _ = red.list();
+    let _ = sweep.next();
+}
+
+impl<const SLOTS: usize> Round<SLOTS> {
+    /// No open round.
+    pub(crate) fn new(alloc: Global, ids: u32) -> Result<Round<SLOTS>, Memory>
+        requires size { IsSlotCount SLOTS }
+        requires few { ids ≤ 8192 }
+        ensures { IfOk result (λ r. r ≡ record { limit = ids; view = Closed }) }
+    {
+        Ok(Round {
+            ids,
+            red: Red::new(alloc, ids)?,
+            locked: LockView::new(alloc, ids)?,
+            verdict: Verdict::new(alloc, ids)?,
+            sweep: Sweep::new(alloc, ids)?,
+            stage: Stage::Closed,
+            slot: 0,
+        })
+    }
+
+    /// What the collector looks at or does next.
+    pub(crate) fn at(&self) -> RoundAt
+        ensures next { result ≡ asked self.now.view }
+        // What holds of every round.
+        ensures sound { IsInStep SLOTS self.now.limit self.now.view }
+    {
+        known(&self.red, &self.sweep);
+        match self.stage {
+            Stage::Closed => RoundAt::Queue,
+            Stage::Walking => match self.red.at() {
+                RedAt::Look { id, slot } => RoundAt::Look { id, slot },
+                RedAt::Copy { id } => RoundAt::Copy { id },
+                RedAt::Verdict => RoundAt::Judge,
+            },
+            Stage::Sweeping => match self.sweep.next() {
+                SweepAt::Slots { id } => RoundAt::Cut {
+                    id,
+                    slot: self.slot,
+                },
+                SweepAt::Free { id } => RoundAt::Free { id },
+                SweepAt::End => RoundAt::End,
+            },
+        }
+    }
+
+    /// How much work is left: 0 exactly where no round is open. Each look and each event of the round lowers it.
+    pub(crate) fn left(&self) -> u64
+        ensures { result ≡ left_of SLOTS self.now.view }
+    {
+        known(&self.red, &self.sweep);
+        match self.stage {
+            Stage::Closed => 0,
+            Stage::Walking => {
+                let sweeping = (SLOTS as u64 + 1) * self.ids as u64 + 1;
+                self.red.work_left() + 1 + sweeping
+            }
+            Stage::Sweeping => {
+                let slots = SLOTS as u64 * self.sweep.unemptied() as u64;
+                slots.saturating_sub(self.slot as u64) + self.sweep.unfreed() as u64 + 1
+            }
+        }
+    }
+
+    /// Whether the object is in the open round.
+    pub(crate) fn holds(&self, id: u32) -> bool
+        ensures holds { result ≡ has (ids_in self.now.view) id }
+    {
+        self.stage != Stage::Closed && self.red.holds(id)
+    }
+
+    /// How many objects are in the open round.
+    pub(crate) fn len(&self) -> u32
+        ensures length { result ≡ length (ids_in self.now.view) }
+        ensures few { result ≤ self.now.limit }
+    {
+        let _ = self.red.list();
+        match self.stage {
+            Stage::Closed => 0,
+            Stage::Walking | Stage::Sweeping => self.red.len(),
+        }
+    }
+
+    /// The objects that joined the open round, the freed ones too.
+    pub(crate) fn list(&self) -> &[u32]
+        ensures walk { (w : Walk) (s : Sweep) (slot : ℕ) → self.now.view ≡ Sweeping w s slot → result.now ≡ w.list }
+        ensures left { (w : Walk) (s : Sweep) (slot : ℕ) → self.now.view ≡ Sweeping w s slot → filter (has w.left) result.now ≡ w.left }
+    {
+        self.red.list()
+    }
+
+    /// A round opens with this object.
+    pub(crate) fn start(&mut self, id: u32)
+        requires within { (1 ≤ id) × (id ≤ self.old.limit) }
+        ensures opened { self.new ≡ record self.old { view = Walking (opened self.old.limit id) } }
+        ensures sound { IsInStep SLOTS self.new.limit self.new.view }
+    {
+        self.red.start(id);
+        self.stage = Stage::Walking;
+        known(&self.red, &self.sweep);
+    }
+
+    /// Goes on from a slot that was looked at, at which there was nothing to do.
+    pub(crate) fn passed(&mut self)
+        requires look { IsLookAt (asked self.old.view) }
+        ensures passed { self.new ≡ record self.old { view = passed SLOTS self.old.view } }
+        ensures sound { IsInStep SLOTS self.new.limit self.new.view }
+    {
+        match self.stage {
+            Stage::Closed => {}
+            Stage::Walking => {
+                self.red.passed();
+                known(&self.red, &self.sweep);
+            }
+            Stage::Sweeping => self.cut(),
+        }
+    }
+
+    /// Goes on from a slot whose pointer was made weak. An object may join the round by this.
+    pub(crate) fn weakened(&mut self, joins: Option<u32>)
+        requires look { (id : ℕ) × (slot : ℕ) × (asked self.old.view ≡ RoundAt.Look id slot) }
+        requires joins { IfSome joins (λ id. (1 ≤ id) × (id ≤ self.old.limit) × (has (ids_in self.old.view) id ≡ false)) }
+        ensures walks { (w : Walk) → self.old.view ≡ Walking w → self.new ≡ record self.old { view = Walking (joined_by (moved SLOTS w) joins) } }
+        ensures sound { IsInStep SLOTS self.new.limit self.new.view }
+    {
+        self.red.weakened(joins);
+        known(&self.red, &self.sweep);
+    }
+
+    /// Takes the copy of the object that was asked for.
+    pub(crate) fn scan(&mut self, id: u32, copy: Seen<SLOTS>)
+        requires at { asked self.old.view ≡ RoundAt.Copy id }
+        ensures copied { (w : Walk) → self.old.view ≡ Walking w → self.new ≡ record self.old { view = Walking (copied w id (copy_of_seen copy.entry)) } }
+        ensures sound { IsInStep SLOTS self.new.limit self.new.view }
+    {
+        self.red.scan(id, copy);
+        known(&self.red, &self.sweep);
+    }
+
+    /// Marks the object as touched, where a verdict is to come and some object was copied.
+    pub(crate) fn touch(&mut self, id: u32)
+        ensures touched { self.new ≡ record self.old { view = touched_in self.old.view id } }
+        ensures sound { IsInStep SLOTS self.new.limit self.new.view }
+    {
+        if self.stage == Stage::Walking {
+            self.red.touch(id);
+        }
+        known(&self.red, &self.sweep);
+    }
+
+    /// The verdict: the sweep begins with what it condemns.
+    pub(crate) fn judge(&mut self, locks: &LockTable, refs: &TempRefs)
+        requires at { asked self.old.view ≡ RoundAt.Judge }
+        ensures judged { (w : Walk) → self.old.view ≡ Walking w → (row : List Bool) × (condemned : List ℕ) × IsRowOf locks.now w.list row × Picks (λ id. IsLive w (IsSeed w row refs.now) id → ⊥) w.list condemned × (self.new ≡ record self.old { view = Sweeping w (started condemned self.old.limit) 0 }) }
+        ensures sound { IsInStep SLOTS self.new.limit self.new.view }
+    {
+        note_locked(&mut self.locked, self.red.list(), locks);
+        self.verdict.decide(&self.red, &self.locked, refs);
+        self.sweep.start(&self.verdict);
+        self.stage = Stage::Sweeping;
+        self.slot = 0;
+        known(&self.red, &self.sweep);
+    }
+
+    /// Goes on from a slot of a condemned object, which is null now.
+    pub(crate) fn cut(&mut self)
+        requires at { (id : ℕ) × (slot : ℕ) × (asked self.old.view ≡ RoundAt.Cut id slot) }
+        ensures moved { self.new ≡ record self.old { view = passed SLOTS self.old.view } }
+        ensures sound { IsInStep SLOTS self.new.limit self.new.view }
+    {
+        known(&self.red, &self.sweep);
+        if self.slot as usize + 1 == SLOTS {
+            self.sweep.found(Found::Nothing);
+            self.slot = 0;
+        } else {
+            self.slot += 1;
+        }
+        known(&self.red, &self.sweep);
+    }
+
+    /// The object that was to be freed is free.
+    pub(crate) fn freed(&mut self, id: u32)
+        requires at { asked self.old.view ≡ RoundAt.Free id }
+        ensures freed { (w : Walk) (s : Sweep) (slot : ℕ) → self.old.view ≡ Sweeping w s slot → self.new ≡ record self.old { view = Sweeping (removed w id) (found s (Found.Made id)) slot } }
+        ensures sound { IsInStep SLOTS self.new.limit self.new.view }
+    {
+        self.sweep.found(Found::Made { id });
+        self.red.remove(id);
+        known(&self.red, &self.sweep);
+    }
+
+    /// The round closes.
+    pub(crate) fn close(&mut self)
+        ensures { self.new ≡ record self.old { view = Closed } }
+    {
+        self.red.close();
+        self.stage = Stage::Closed;
+    }
+}
