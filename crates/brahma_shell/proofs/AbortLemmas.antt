@@ -1,21 +1,18 @@
 -- An abort undoes one write after another.
-use Rattle.std.proofs.Common.{◌≡◌, ℕ, ◌+◌, ◌<◌, Bool, true, false, ◌==◌, cond, List, [], ◌∷◌, ◌++◌, Option, Some, None, replicate, append_assoc, refl, ap, ◌∙◌, arith}
+use Rattle.std.proofs.Common.{◌≡◌, ℕ, ◌+◌, ◌<◌, Bool, true, false, ◌==◌, cond, List, [], ◌∷◌, Option, Some, None, replicate, refl, subst, arith}
 use Rattle.std.specs.Prelude.{IsSome}
 use Rattle.std.specs.Map.{lookup, set_value}
 use Rattle.std.specs.Ordering.{nat_cmp}
 use Rattle.std.specs.BTreeMap.{is_at}
 use Rattle.std.proofs.lemmas.Bool.Decides.{nat_tests}
 use Rattle.std.proofs.lemmas.List.{replicate_more}
-use Rattle.std.proofs.lemmas.List.Sums.{fold_push}
-use Rattle.plain_model.specs.declared.calls.Entry.{Entry}
 use Rattle.plain_model.specs.declared.calls.Entry.TheVariants.{Undo}
 use Rattle.plain_model.specs.ActiveTransaction.{ActiveTransaction}
 use Rattle.plain_model.specs.Machine.{State, transaction_of}
-use Rattle.plain_model.specs.History.{Moment, History, start_of, end_of, next, with_entry, after_undo, undoable, left_to_undo}
-use Rattle.brahma_shell.specs.Replay.{with_entries}
-
-pub end_of-push : (h : History) (e : Entry) → end_of (with_entry h e) ≡ next (end_of h) e
-end_of-push h e = fold_push next (start_of h) h.entries e
+use Rattle.plain_model.specs.History.{Moment, next, after_undo, undoable, left_to_undo}
+use Rattle.core_store.specs.JournalView.{JournalView}
+use Rattle.brahma_shell.specs.Growth.{GrowsBy}
+use Rattle.brahma_shell.proofs.GrowthLemmas.{GrowsBy-trans}
 
 lookup-set_same : (test : ℕ → Bool) (es : List (ℕ × ActiveTransaction)) (v w : ActiveTransaction) → lookup test es ≡ Some v → lookup test (set_value test es w) ≡ Some w
 lookup-set_same test [] v w h = cc
@@ -51,15 +48,6 @@ left_to_undo-undo m client h l =
 pub left_to_undo-none : (m : Moment) (client : ℕ) → transaction_of m.state client ≡ None → left_to_undo m client ≡ 0
 left_to_undo-none m client e = rw e (omega arith)
 
--- the history with one undo more, after some
-pub with_undos : (h g : History) (client k : ℕ) → g ≡ with_entries h (replicate k (Undo client)) → with_entry g (Undo client) ≡ with_entries h (replicate (k + 1) (Undo client))
-with_undos h g client k e =
-    let undos = replicate k (Undo client) in
-    let more : h.entries ++ undos ++ Undo client ∷ [] ≡ h.entries ++ replicate (k + 1) (Undo client) = append_assoc h.entries undos (Undo client ∷ []) ∙ ap (λ (es : List Entry). h.entries ++ es) (replicate_more k (Undo client)) in
-    ap (λ (x : History). with_entry x (Undo client)) e ∙ ap (λ (es : List Entry). let r : History = record h { entries = es } in r) more
-
--- and with the end of the transaction
-pub with_end : (h g : History) (client k : ℕ) (e : Entry) → g ≡ with_entries h (replicate k (Undo client)) → with_entry g e ≡ with_entries h (replicate k (Undo client) ++ e ∷ [])
-with_end h g client k e f =
-    let more : h.entries ++ replicate k (Undo client) ++ e ∷ [] ≡ h.entries ++ (replicate k (Undo client) ++ e ∷ []) = append_assoc h.entries (replicate k (Undo client)) (e ∷ []) in
-    ap (λ (x : History). with_entry x e) f ∙ ap (λ (es : List Entry). let r : History = record h { entries = es } in r) more
+-- one undo more, after some
+pub with_undos : (a b d : JournalView) (client k : ℕ) → GrowsBy a b (replicate k (Undo client)) → GrowsBy b d (Undo client ∷ []) → GrowsBy a d (replicate (k + 1) (Undo client))
+with_undos a b d client k g h = subst (GrowsBy a d) (replicate_more k (Undo client)) (GrowsBy-trans a b d (replicate k (Undo client)) (Undo client ∷ []) g h)

@@ -1,5 +1,5 @@
 -- The frames of a store, those of them that are held, and what is wanted of them.
-use Rattle.std.proofs.Common.{◌≡◌, ◌≢◌, ℕ, ◌-◌, ◌*◌, ◌<◌, false, List, [], ◌∷◌, ◌++◌, length, get_or, set, refl, sym, ap, ◌∙◌, inl, inr, arith, length-append}
+use Rattle.std.proofs.Common.{◌≡◌, ◌≢◌, ◌⊎◌, ⊎_elim, ℕ, ◌+◌, ◌-◌, ◌*◌, ◌<◌, true, false, List, [], ◌∷◌, ◌++◌, length, get_or, set, refl, sym, ap, subst, ◌∙◌, inl, inr, arith, length-append}
 use Rattle.std.specs.Prelude.{◌==◌, Some, slice_get}
 use Rattle.std.specs.List.{AllByRecursion}
 use Rattle.std.proofs.lemmas.Bool.{eqb-true, eq-eqb, cases_Bool}
@@ -8,7 +8,7 @@ use Rattle.std.proofs.lemmas.Grind.{get_or-set_at}
 use Rattle.std.proofs.lemmas.Option.{slice_get-get_or, slice_get_within, get_or_from_slice_get}
 use Rattle.plain_model.specs.declared.calls.Entry.{Entry}
 use Rattle.plain_model.specs.declared.calls.Reply.{Reply}
-use Rattle.plain_model.specs.declared.calls.Reply.TheVariants.{Memory}
+use Rattle.plain_model.specs.declared.calls.Reply.TheVariants.{Memory, TraceFull}
 use Rattle.plain_model.specs.History.{History, with_entry}
 use Rattle.store_model.specs.Cells.{Cell}
 use Rattle.cell_page.specs.Stored.{HoldsPage}
@@ -21,7 +21,13 @@ use Rattle.core_store.specs.declared.want.Want.TheVariants.{Page, LetGo, Ready}
 use Rattle.core_store.specs.JournalView.{JournalView, cells_of}
 use Rattle.core_store.specs.Frames.{pages_held, Agree, AllAgree, IsSameElsewhere}
 use Rattle.core_store.proofs.PageLaws.{is_held-put, Agree-put, Agree-taken, elsewhere-pages}
+use Rattle.core_store.specs.Limited.{pages_for_collector}
+use Rattle.core_store.specs.Logged.{want_of}
+use Rattle.core_store.specs.RoundView.{RoundView, left_of}
+use Rattle.core_store.specs.Steppings.{IsEntered}
+use Rattle.brahma_shell.specs.Growth.{Grows, GrowsBy, BecomesFull}
 use Rattle.brahma_shell.specs.Store.{AreFramesOf, AreHeldOf, PutsBack, FollowsChange}
+use Rattle.brahma_shell.proofs.GrowthLemmas.{Grows-none}
 
 -- the frame of a page
 pub AllAgree-at : (cells : List Cell) (frames : List (Frame 6)) (page : ℕ) (d : Frame 6) → AllAgree cells frames → page < length frames → HoldsPage cells page (get_or frames page d).page
@@ -116,12 +122,63 @@ AreFramesOf-changed j k frames new held changed all ids agree same elsewhere fol
   agree = follows (cells_of j) (cells_of k) all.agree agree (elsewhere-pages (cells_of j) (cells_of k) held changed (sym same) elsewhere);
 }
 
--- a call that is answered adds one entry, and without memory nothing changes: the store has its ids as before
-pub ids-after_call : (j k : JournalView) (reply : Reply) (entry : Entry) → (reply ≡ Memory → k ≡ j) → (reply ≢ Memory → k.history ≡ with_entry j.history entry) → k.history.ids ≡ j.history.ids
-ids-after_call j k Memory entry same more = ap (λ (x : JournalView). x.history.ids) (same refl)
-ids-after_call j k other entry same more = ap (λ (h : History). h.ids) (more (λ e. absurd cc))
+-- a call that is answered adds one entry, and else no entry: the store has its ids as before
+pub ids-after_call : (j k : JournalView) (reply : Reply) (entry : Entry) → (reply ≡ Memory → k ≡ j) → (reply ≡ TraceFull → k ≡ record j { marks = record j.marks { trace = true } }) → (IsEntered reply → k.history ≡ with_entry j.history entry) → k.history.ids ≡ j.history.ids
+ids-after_call j k Memory entry same full more = ap (λ (x : JournalView). x.history.ids) (same refl)
+ids-after_call j k TraceFull entry same full more = ap (λ (x : JournalView). x.history.ids) (full refl)
+ids-after_call j k other entry same full more = ap (λ (h : History). h.ids) (more (λ e. absurd cc, λ e. absurd cc))
 
 -- a step of an abort adds one entry
 pub ids-after_step : (j k : JournalView) (step : AbortStep) (undo end : Entry) → (step ≡ Undone → k.history ≡ with_entry j.history undo) → (step ≡ Ended → k.history ≡ with_entry j.history end) → k.history.ids ≡ j.history.ids
 ids-after_step j k Undone undo end undone ended = ap (λ (h : History). h.ids) (undone refl)
 ids-after_step j k Ended undo end undone ended = ap (λ (h : History). h.ids) (ended refl)
+
+-- ---- what a call is to the journal
+
+pub marked-full : (j k : JournalView) → k ≡ record j { marks = record j.marks { trace = true } } → BecomesFull j k
+marked-full j k e = record {
+  grows = subst (λ (x : JournalView). Grows j x []) (sym e) (record { notes = none.notes; history = none.history; opening = refl; limits = refl });
+  marked = ap (λ (x : JournalView). x.marks.trace) e;
+}
+  where
+    none : Grows j j []
+    none = Grows-none j
+
+pub same-memory : (j k : JournalView) → k ≡ j → GrowsBy j k []
+same-memory j k e = record { more = []; entries = refl; grows = subst (λ (x : JournalView). Grows j x []) (sym e) (Grows-none j); unmarked = ap (λ (x : JournalView). x.marks) e }
+
+-- the collector has only looked
+pub looked : (i j : JournalView) → j ≡ record i { round = j.round } → Grows i j []
+looked i j e = subst (λ (x : JournalView). Grows i x []) (sym e) (record { notes = none.notes; history = none.history; opening = refl; limits = refl })
+  where
+    none : Grows i i []
+    none = Grows-none i
+
+-- ---- the collector looks
+
+-- what was held is held still
+pub looked-held : (j k : JournalView) (held : List (HeldFrame 6)) → k ≡ record j { round = k.round } → AreHeldOf j held → AreHeldOf k held
+looked-held j k held e h = subst (λ (x : JournalView). AreHeldOf x held) (sym e) (record { agree = h.agree; within = h.within })
+
+pub looked-frames : (j k : JournalView) (frames : List (Frame 6)) → k ≡ record j { round = k.round } → AreFramesOf j frames → AreFramesOf k frames
+looked-frames j k frames e h = subst (λ (x : JournalView). AreFramesOf x frames) (sym e) (record { pages = h.pages; agree = h.agree })
+
+looked_nothing : (j k : JournalView) → k ≡ record j { round = k.round } → k.round ≡ j.round → k ≡ j
+looked_nothing j k e same = e ∙ ap (λ (r : RoundView). let x : JournalView = record j { round = r } in x) same
+
+-- a look leaves less of the round, and else one frame more is held
+pub smaller-put : (j k : JournalView) (held new : List (HeldFrame 6)) (h : HeldFrame 6) → (k.round ≡ j.round) ⊎ (left_of 6 k.round < left_of 6 j.round) → length held < 3 → new ≡ held ++ h ∷ [] → left_of 6 k.round * 4 + (3 - length new) < left_of 6 j.round * 4 + (3 - length held)
+smaller-put j k held new h left room more =
+    let less = less_room held new h room more in
+    ⊎_elim
+    (λ e. let same : left_of 6 k.round ≡ left_of 6 j.round = ap (left_of 6) e in omega (arith, same, less))
+    (λ l. omega (arith, l, less))
+    left
+
+-- frames are let go only behind a look
+pub smaller-let_go : (j k : JournalView) (held new : List (HeldFrame 6)) → (k.round ≡ j.round) ⊎ (left_of 6 k.round < left_of 6 j.round) → k ≡ record j { round = k.round } → want_of (pages_for_collector j) (pages_held held) ≢ LetGo → LetGo ≡ want_of (pages_for_collector k) (pages_held held) → left_of 6 k.round * 4 + (3 - length new) < left_of 6 j.round * 4 + (3 - length held)
+smaller-let_go j k held new left e kept go =
+    ⊎_elim
+    (λ same. absurd (kept (subst (λ (x : JournalView). want_of (pages_for_collector x) (pages_held held) ≡ LetGo) (looked_nothing j k e same) (sym go))))
+    (λ l. omega (arith, l))
+    left

@@ -55,13 +55,29 @@ request_of client Abort [] = Some (line.Abort client)
 request_of client Undo [] = Some (line.Undo client)
 request_of client verb operands = None
 
--- what the line of a client asks, by the field of the client and those behind it
-abbrev pub client_line : List ℕ → List (List ℕ) → Option Line
-client_line client [] = None
-client_line client (verb ∷ operands) = do
+-- what a line asks of the collector, by the fields behind `gc`: `step` or `all`, and no more
+abbrev pub collector_line : List ℕ → List (List ℕ) → Option Line
+collector_line steps [] =
+    if bytes_eq steps (codes "step") then Some line.CollectStep
+    else if bytes_eq steps (codes "all") then Some line.CollectAll
+    else None
+collector_line steps operands = None
+
+-- what the line of a client asks, by the fields of the client, the verb and those behind it
+abbrev pub client_line : List ℕ → List ℕ → List (List ℕ) → Option Line
+client_line client verb operands = do
   c ← client_of client
   v ← verb_of verb
   request_of c v operands
+
+-- the field names the collector
+abbrev pub is_collector : List ℕ → Bool
+is_collector field = bytes_eq field (codes "gc")
+
+-- what the line of a client or of the collector asks, by its first field and those behind it
+abbrev pub line_of_party : List ℕ → List (List ℕ) → Option Line
+line_of_party party [] = None
+line_of_party party (verb ∷ operands) = if is_collector party then collector_line verb operands else client_line party verb operands
 
 -- the field begins with `#`
 abbrev pub is_comment : List ℕ → Bool
@@ -71,7 +87,7 @@ is_comment (b ∷ bs) = b == 35
 -- what the fields of a line ask; a line without fields asks nothing, and neither does a comment
 abbrev pub line_of_fields : List (List ℕ) → Option Line
 line_of_fields [] = Some line.Nothing
-line_of_fields (f ∷ fs) = if is_comment f then Some line.Nothing else client_line f fs
+line_of_fields (f ∷ fs) = if is_comment f then Some line.Nothing else line_of_party f fs
 
 -- what a line asks, where it is in the grammar
 abbrev pub meaning_of : List ℕ → Option Line

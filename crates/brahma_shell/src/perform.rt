@@ -1,15 +1,15 @@
-//! What a line asks, done in the store.
-ghost use Rattle.std.specs.Prelude.{◌≡◌, ◌+◌, ◌<◌, [], ◌∷◌, ◌++◌, replicate, IsSome, None, IfOk, OnErr, Option};
+//! What a client's line asks, done in the store.
+ghost use Rattle.std.specs.Prelude.{◌≡◌, ◌+◌, ◌<◌, [], ◌∷◌, ◌++◌, replicate, IsSome, Some, None, IfOk, IfErr, Option};
 ghost use Rattle.plain_model.specs.Machine.{IsInRange, transaction_of};
-ghost use Rattle.plain_model.specs.History.{end_of, left_to_undo, with_entry};
-ghost use Rattle.brahma_shell.specs.Grammar.{IsLineInRange};
-ghost use Rattle.brahma_shell.specs.Replay.{with_entries, answer_text, Performs};
+ghost use Rattle.plain_model.specs.History.{end_of, left_to_undo};
+ghost use Rattle.brahma_shell.specs.Growth.{GrowsBy};
+ghost use Rattle.brahma_shell.specs.Replay.{answer_text, Performs, StopsCall};
 
 use crate::grammar::Line;
+use crate::replay::Stop;
 use crate::store::Store;
 use core_store::AbortStep;
-use plain_model::{Call, Entry, Memory, Reply};
-use std::alloc::AllocError;
+use plain_model::{Call, Entry, Reply};
 
 /// A call, and what the client is answered.
 #[derive(Clone, Copy, PartialEq, Eq, Debug)]
@@ -20,28 +20,29 @@ pub(crate) struct Answer {
 }
 
 /// Does one call.
-fn ask(store: &mut Store, client: u8, call: Call) -> Result<Answer, Memory>
+fn call(store: &mut Store, client: u8, call: Call) -> Result<Answer, Stop>
     requires in_range { IsInRange 6 call }
     requires no_abort { call ≡ Call.Abort → transaction_of (end_of store.old.history).state client ≡ None }
     ensures ok { IfOk result (λ a. (a.client ≡ client) × (a.call ≡ call)
-        × (store.new.history ≡ with_entry store.old.history (Entry.Call client call a.reply))) }
-    ensures err { OnErr result (store.new ≡ store.old) }
+        × GrowsBy store.old store.new (Entry.Call client call a.reply ∷ [])) }
+    ensures err { IfErr result (λ s. StopsCall s store.old store.new) }
 {
     let reply = store.call(client, &call);
-    if reply == Reply::Memory {
-        return Err(AllocError);
+    match reply {
+        Reply::Memory => Err(Stop::Memory),
+        Reply::TraceFull => Err(Stop::Full),
+        _ => Ok(Answer {
+            client,
+            call,
+            reply,
+        }),
     }
-    Ok(Answer {
-        client,
-        call,
-        reply,
-    })
 }
 
 /// Undoes each write of the client's transaction that isn't undone, and ends the transaction.
-fn abort(store: &mut Store, client: u8)
+fn undo_all(store: &mut Store, client: u8)
     requires { IsSome (transaction_of (end_of store.old.history).state client) }
-    ensures { store.new.history ≡ with_entries store.old.history
+    ensures { GrowsBy store.old store.new
         (replicate (left_to_undo (end_of store.old.history) client) (Entry.Undo client)
         ++ Entry.Call client Call.Abort Reply.Done ∷ []) }
 {
@@ -53,27 +54,39 @@ fn abort(store: &mut Store, client: u8)
     }
 }
 
-/// Does what the line asks. Answers what is to be printed, where there is something.
-pub(crate) fn perform(store: &mut Store, line: &Line) -> Result<Option<Answer>, Memory>
-    requires { IsLineInRange line.now }
-    ensures ok { IfOk result (λ answer.
-        Performs store.old.history store.new.history line.now (answer_text answer)) }
-    ensures err { OnErr result (store.new ≡ store.old) }
+/// Does the call that a line asks.
+pub(crate) fn ask(store: &mut Store, client: u8, asked: Call) -> Result<Answer, Stop>
+    requires { IsInRange 6 asked × (asked ≡ Call.Abort → ⊥) }
+    ensures ok { IfOk result (λ a. Performs store.old store.new (Line.Ask client asked) (answer_text (Some a))) }
+    ensures err { IfErr result (λ s. StopsCall s store.old store.new) }
 {
-    match *line {
-        Line::Nothing => Ok(None),
-        Line::Ask { client, call } => Ok(Some(ask(store, client, call)?)),
-        Line::Abort { client } | Line::Undo { client } if !store.active(client) => {
-            Ok(Some(ask(store, client, Call::Abort)?))
-        }
-        Line::Abort { client } => {
-            abort(store, client);
-            Ok(Some(aborted(client)))
-        }
-        Line::Undo { client } => match store.abort_step(client) {
-            AbortStep::Undone => Ok(None),
-            AbortStep::Ended => Ok(Some(aborted(client))),
-        },
+    call(store, client, asked)
+}
+
+/// Undoes the client's transaction, and ends it.
+pub(crate) fn abort(store: &mut Store, client: u8) -> Result<Answer, Stop>
+    ensures ok { IfOk result (λ a. Performs store.old store.new (Line.Abort client) (answer_text (Some a))) }
+    ensures err { IfErr result (λ s. StopsCall s store.old store.new) }
+{
+    if !store.active(client) {
+        return call(store, client, Call::Abort);
+    }
+    undo_all(store, client);
+    Ok(aborted(client))
+}
+
+/// Undoes the last write of the client's transaction that isn't undone, or ends the transaction where there is none.
+/// Nothing is answered to an undo.
+pub(crate) fn undo(store: &mut Store, client: u8) -> Result<Option<Answer>, Stop>
+    ensures ok { IfOk result (λ a. Performs store.old store.new (Line.Undo client) (answer_text a)) }
+    ensures err { IfErr result (λ s. StopsCall s store.old store.new) }
+{
+    if !store.active(client) {
+        return Ok(Some(call(store, client, Call::Abort)?));
+    }
+    match store.abort_step(client) {
+        AbortStep::Undone => Ok(None),
+        AbortStep::Ended => Ok(Some(aborted(client))),
     }
 }
 

@@ -92,6 +92,70 @@ fn scripts(rt: HostRuntime) -> Result<(), Fail> {
 }
 
 #[test]
+fn collector(rt: HostRuntime) -> Result<(), Fail> {
+    for (script, output) in [
+        (
+            "1 begin\n1 make 1\n1 store 0 0 1\n1 commit\ngc all\n",
+            "1 begin: ok\n1 make: 2\n1 store: ok\n1 commit: ok\nstored 1 2\n",
+        ),
+        (
+            "1 begin\n1 make 1\n1 store 0 0 1\n1 commit\n2 begin\n2 store 0 0 -\ngc all\n2 commit\ngc all\n",
+            "1 begin: ok\n1 make: 2\n1 store: ok\n1 commit: ok\n2 begin: ok\n2 store: ok\n2 commit: ok\ndelete 2\nstored 1\n",
+        ),
+        (
+            "1 begin\n1 make 1\ngc all\n1 commit\ngc all\n2 begin\n2 make 1\n2 abort\ngc all\n",
+            "1 begin: ok\n1 make: 2\n1 commit: ok\ndelete 2\n2 begin: ok\n2 make: 2\n2 abort: ok\ndelete 2\nstored 1\n",
+        ),
+        (
+            "1 begin\n1 make 1\n1 make 2\n1 store 0 0 1\n1 store 1 0 2\n1 store 2 0 1\n1 commit\n1 begin\n1 store 0 0 -\n1 commit\ngc all\n",
+            "1 begin: ok\n1 make: 2\n1 make: 3\n1 store: ok\n1 store: ok\n1 store: ok\n1 commit: ok\n1 begin: ok\n1 store: ok\n1 commit: ok\ndelete 2\ndelete 3\nstored 1\n",
+        ),
+        (
+            "1 begin\n1 make 1\n1 store 0 0 1\n1 commit\n1 begin\n1 read 0 0 1\n2 begin\n2 store 0 0 -\n1 store 0 0 -\ngc all\n1 store 0 1 1\n1 commit\ngc all\n",
+            "1 begin: ok\n1 make: 2\n1 store: ok\n1 commit: ok\n1 begin: ok\n1 read: 2\n2 begin: ok\n2 store: busy 1\n1 store: ok\n1 store: ok\n1 commit: ok\nstored 1 2\n",
+        ),
+        (
+            "1 begin\n1 make 1\n1 make 1\n1 make 1\n1 make 1\n1 make 1\n1 make 1\n1 make 1\n1 make 1\n1 abort\ngc all\n1 begin\n1 make 1\n1 abort\n",
+            "1 begin: ok\n1 make: 2\n1 make: 3\n1 make: 4\n1 make: 5\n1 make: 6\n1 make: 7\n1 make: 8\n1 make: full\n1 abort: ok\ndelete 2\ndelete 3\ndelete 4\ndelete 5\ndelete 6\ndelete 7\ndelete 8\n1 begin: ok\n1 make: 2\n1 abort: ok\nstored 1 2\n",
+        ),
+        (
+            "1 begin\n1 make 1\n1 make 2\n1 make 3\n1 store 0 0 1\n1 store 1 0 2\n1 store 1 1 3\n1 store 2 0 1\n1 store 0 1 2\n1 commit\n1 begin\n1 store 0 0 -\n1 commit\ngc step\ngc step\ngc step\ngc step\n1 begin\n1 read 0 1 1\n1 read 1 0 2\n1 read 2 1 3\n1 store 0 2 3\n1 store 2 1 -\n1 store 0 1 -\n1 commit\ngc all\n",
+            "1 begin: ok\n1 make: 2\n1 make: 3\n1 make: 4\n1 store: ok\n1 store: ok\n1 store: ok\n1 store: ok\n1 store: ok\n1 commit: ok\n1 begin: ok\n1 store: ok\n1 commit: ok\n1 begin: ok\n1 read: 3\n1 read: 2\n1 read: 4\n1 store: ok\n1 store: ok\n1 store: ok\n1 commit: ok\nstored 1 2 3 4\n",
+        ),
+        ("gc step\n", "stored 1\n"),
+        ("gc\tall\n", "stored 1\n"),
+    ] {
+        let (found, text) = replayed(rt.alloc(), script, None, None)?;
+        assert_eq!(rt; found, 0, "{script}");
+        assert_eq!(rt; text.as_slice(), output.as_bytes(), "{script}");
+    }
+    // One step is one event: the object is looked at, copied, condemned and freed, and the round ends.
+    let script = "1 begin\n1 make 1\n1 commit\ngc step\ngc step\ngc step\n";
+    let (_, text) = replayed(rt.alloc(), script, None, None)?;
+    assert_eq!(rt;
+        text.as_slice(),
+        b"1 begin: ok\n1 make: 2\n1 commit: ok\nstored 1 2\n".as_slice()
+    );
+    for script in [
+        "gc\n",
+        "gc step 1\n",
+        "gc all all\n",
+        "gc steps\n",
+        "GC step\n",
+        "1 gc step\n",
+    ] {
+        let (found, text) = replayed(rt.alloc(), script, None, None)?;
+        assert_eq!(rt; found, 3, "{script}");
+        assert_eq!(rt;
+            text.as_slice(),
+            b"refused: line 1\n".as_slice(),
+            "{script}"
+        );
+    }
+    Ok(())
+}
+
+#[test]
 fn faults(rt: HostRuntime) -> Result<(), Fail> {
     for (script, failing_read, failing_write, status, output) in [
         (
@@ -114,6 +178,14 @@ fn faults(rt: HostRuntime) -> Result<(), Fail> {
         // Each line goes out as one piece.
         ("1 begin\n1 make 1\n", None, Some(2), 5, "1 begin: ok\n"),
         ("1 begin\n1 stor\n", None, Some(2), 3, "1 begin: ok\n"),
+        // A deletion is written before the next step of the collector.
+        (
+            "1 begin\n1 make 1\n1 make 1\n1 commit\ngc all\n",
+            None,
+            Some(6),
+            5,
+            "1 begin: ok\n1 make: 2\n1 make: 3\n1 commit: ok\ndelete 2\n",
+        ),
     ] {
         let (found, text) = replayed(rt.alloc(), script, failing_read, failing_write)?;
         assert_eq!(rt; found, status, "{script}");

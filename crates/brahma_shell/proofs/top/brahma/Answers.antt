@@ -1,39 +1,46 @@
-use Rattle.std.proofs.Common.{refl, ap, arith, Err}
+use Rattle.std.proofs.Common.{◌≡◌, ◌↔◌, true, inl, inr, refl, ap, arith, Err}
 use Rattle.std.specs.Io.KnownBytes.{Appends}
 use Rattle.core_store.specs.JournalView.{JournalView}
-use Rattle.core_store.specs.Fresh.{fresh_history}
 use Rattle.plain_model.specs.History.{end_of}
 use Rattle.plain_model.specs.Text.{text_of, stored_line}
-use Rattle.brahma_shell.specs.Follows.{FollowsAll, FollowsSome}
+use Rattle.brahma_shell.specs.Follows.{FollowsAll, FollowsPart}
 use Rattle.brahma_shell.specs.Output.{AppendsFront}
-use Rattle.brahma_shell.specs.Top.{whole_text}
-use Rattle.brahma_shell.proofs.OutputLemmas.{Appends-trans}
-use Rattle.brahma_shell.proofs.TopLemmas.{EndsWith-after, AppendsFront-longer, AppendsFront-after, FollowsPart-none, FollowsSome-all, FollowsPart-all, of_journal, of_fresh}
+use Rattle.brahma_shell.specs.Top.{IsOfReplay, whole_text}
+use Rattle.brahma_shell.proofs.OutputLemmas.{Appends-trans, AppendsFront-longer, AppendsFront-after}
+use Rattle.brahma_shell.proofs.TopLemmas.{EndsWith-after, FollowsPart-all, of_journal, of_fresh, unmarked, end-status}
 use Rattle.brahma_shell.proofs.top.brahma.Goals as goal
 
 pub returns-in_default-clause-memory : goal.returns-in_default-clause-memory
-returns-in_default-clause-memory g c = λ _. (fresh_history 6 8, tt, refl, FollowsPart-none (g.R.Source.left c.args.script.now) (fresh_history 6 8) refl, c.finish-in_default.ensures.ends)
+returns-in_default-clause-memory g c = λ _. inl (refl, c.finish-in_default.ensures.ends)
 
 pub returns-in_default-replayed-clause-done : goal.returns-in_default-replayed-clause-done
 returns-in_default-replayed-clause-done g c = λ s.
-    let h = c.replay-replayed.new.store.history in
+    let j = c.replay-replayed.new.store in
     let done = c.in_default-replayed.ensures.done in
-    let P : JournalView → Type 0 = λ j. FollowsAll (g.R.Source.left c.args.script.now) (g.R.Source.left c.replay-replayed.new.source) j.history × Appends (g.W.Sink.written c.args.out.now) (g.W.Sink.written c.end.new.out) (whole_text j.history) in
-    of_journal P c.end.result.1 c.replay-replayed.new.store c.end.ensures.journal (done.0, Appends-trans _ _ _ (text_of h.entries) (stored_line (end_of h).state.stored) done.1 (c.end.ensures.done s))
+    let P : JournalView → Type 0 = λ j. FollowsAll (g.R.Source.left c.args.script.now) (g.R.Source.left c.replay-replayed.new.source) j × Appends (g.W.Sink.written c.args.out.now) (g.W.Sink.written c.end.new.out) (whole_text j.history) in
+    of_journal P c.end.result.1 j c.end.ensures.journal (done.0, Appends-trans _ _ _ (text_of j.history.entries) (stored_line (end_of j.history).state.stored) done.1 (c.end.ensures.done s))
 
 pub returns-in_default-replayed-clause-write : goal.returns-in_default-replayed-clause-write
 returns-in_default-replayed-clause-write g c = λ s.
-    let h = c.replay-replayed.new.store.history in
+    let j = c.replay-replayed.new.store in
     let done = c.in_default-replayed.ensures.done in
     let write = c.end.ensures.write s in
-    let P : JournalView → Type 0 = λ j. FollowsSome (g.R.Source.left c.args.script.now) j.history × AppendsFront (g.W.Sink.written c.args.out.now) (g.W.Sink.written c.end.new.out) (whole_text j.history) in
-    (omega (arith, c.in_default-replayed.ensures.out_later, write.1), of_journal P c.end.result.1 c.replay-replayed.new.store c.end.ensures.journal (FollowsSome-all _ _ h done.0, AppendsFront-after _ _ _ (text_of h.entries) (stored_line (end_of h).state.stored) done.1 write.0))
+    let P : JournalView → Type 0 = λ j. FollowsPart (g.R.Source.left c.args.script.now) j × AppendsFront (g.W.Sink.written c.args.out.now) (g.W.Sink.written c.end.new.out) (whole_text j.history) in
+    (omega (arith, c.in_default-replayed.ensures.out_later, write.1), of_journal P c.end.result.1 j c.end.ensures.journal (FollowsPart-all _ _ j done.0, AppendsFront-after _ _ _ (text_of j.history.entries) (stored_line (end_of j.history).state.stored) done.1 write.0))
 
 pub returns-in_default-replayed-clause-memory : goal.returns-in_default-replayed-clause-memory
 returns-in_default-replayed-clause-memory g c = λ s.
-    let h = c.replay-replayed.new.store.history in
+    let j = c.replay-replayed.new.store in
     let done = c.in_default-replayed.ensures.done in
-    (h, c.history.ensures.legal, of_fresh h c.in-Ok.store.history c.in-Ok.ensures c.in_default-replayed.ensures.same_start, FollowsPart-all _ _ h done.0, EndsWith-after _ _ _ _ _ _ (text_of h.entries) _ c.in_default-replayed.ensures.out_later done.1 (c.end.ensures.memory s))
+    let fresh = of_fresh c.in-Ok.store j c.in-Ok.ensures.history.0 c.in-Ok.ensures.limits c.in_default-replayed.ensures.same_start c.history.ensures.opening in
+    let of : IsOfReplay j = record { legal = c.history.ensures.legal; fresh = fresh; entries = c.history.ensures.entries; sound = c.history.ensures.sound; led = c.history.ensures.led } in
+    inr (j, of, FollowsPart-all _ _ j done.0, EndsWith-after _ _ _ _ _ _ (text_of j.history.entries) _ c.in_default-replayed.ensures.out_later done.1 (c.end.ensures.memory s))
+
+pub returns-in_default-replayed-clause-marked : goal.returns-in_default-replayed-clause-marked
+returns-in_default-replayed-clause-marked g c =
+    let j = c.replay-replayed.new.store in
+    let P : JournalView → Type 0 = λ j. (j.marks.trace ≡ true) ↔ (c.end.result.0 ≡ 9) in
+    of_journal P c.end.result.1 j c.end.ensures.journal (unmarked c.in-Ok.store j c.end.result.0 c.in-Ok.ensures.unmarked c.in_default-replayed.ensures.marks (end-status c.end.result.0 c.end.ensures.statuses))
 
 pub returns-in-Line-clause-refused : goal.returns-in-Line-clause-refused
 returns-in-Line-clause-refused g c = λ _.
@@ -52,8 +59,16 @@ returns-in-Write-clause-write g c = λ _.
     let stopped = rw c.in-Write.is at c.in-Err.ensures.stopped in
     rw c.into_journal-in-Write.ensures (c.in-Err.ensures.write (ap Err c.in-Write.is), (stopped.0, AppendsFront-longer _ _ (text_of h.entries) (stored_line (end_of h).state.stored) stopped.1))
 
+pub returns-in-Full-clause-limit : goal.returns-in-Full-clause-limit
+returns-in-Full-clause-limit g c = λ _.
+    let stopped = rw c.in-Full.is at c.in-Err.ensures.stopped in
+    let marked = rw c.in-Full.is at c.in-Err.ensures.marks in
+    rw c.into_journal-in-Full.ensures (c.history.ensures.full marked, stopped.0, EndsWith-after _ _ _ _ _ _ _ _ c.in-Err.ensures.out_later stopped.1 c.finish-in-Full.ensures.ends)
+
 pub returns-in-Memory-clause-memory : goal.returns-in-Memory-clause-memory
 returns-in-Memory-clause-memory g c = λ _.
-    let h = c.replay-replayed.new.store.history in
+    let j = c.replay-replayed.new.store in
     let stopped = rw c.in-Memory.is at c.in-Err.ensures.stopped in
-    (h, c.history.ensures.legal, of_fresh h c.in-Ok.store.history c.in-Ok.ensures c.in-Err.ensures.same_start, stopped.0, EndsWith-after _ _ _ _ _ _ _ _ c.in-Err.ensures.out_later stopped.1 c.finish-in-Memory.ensures.ends)
+    let fresh = of_fresh c.in-Ok.store j c.in-Ok.ensures.history.0 c.in-Ok.ensures.limits c.in-Err.ensures.same_start c.history.ensures.opening in
+    let of : IsOfReplay j = record { legal = c.history.ensures.legal; fresh = fresh; entries = c.history.ensures.entries; sound = c.history.ensures.sound; led = c.history.ensures.led } in
+    inr (j, of, stopped.0, EndsWith-after _ _ _ _ _ _ _ _ c.in-Err.ensures.out_later stopped.1 c.finish-in-Memory.ensures.ends)

@@ -7,7 +7,8 @@ use Rattle.plain_model.specs.History.{end_of}
 use Rattle.core_store.specs.declared.want.Want.TheVariants.{Ready}
 use Rattle.core_store.specs.JournalView.{JournalView, cells_of}
 use Rattle.core_store.specs.Frames.{Agree, pages_held}
-use Rattle.core_store.specs.Logged.{want_of, pages_for}
+use Rattle.core_store.specs.Limited.{pages_for_call}
+use Rattle.core_store.specs.Logged.{want_of}
 use Rattle.brahma_shell.proofs.StoreLemmas.{places-within, AreFramesOf-changed, ids-after_call}
 use Rattle.brahma_shell.proofs.store.Store.call.Goals as goal
 
@@ -25,7 +26,7 @@ apply-reply-requires c =
             subst (λ (j : JournalView). c.args.call.now ≡ call.Abort → transaction_of (end_of j.history).state c.args.client ≡ None) is c.requires.no_abort,
             (
               subst (λ (j : JournalView). Agree (cells_of j) held) is c.frames_for-held.ensures.held.agree,
-              subst (λ (j : JournalView). want_of (pages_for (end_of j.history).state (cells_of j) c.args.client c.args.call.now) (pages_held held) ≡ Ready) is c.frames_for-held.ensures.ready,
+              subst (λ (j : JournalView). want_of (pages_for_call j c.args.client c.args.call.now) (pages_held held) ≡ Ready) is c.frames_for-held.ensures.ready,
             ),
           ),
         ),
@@ -41,5 +42,5 @@ invariant_of-self c =
     let done = c.apply-reply.ensures in
     let j = c.self.inside.journal in
     let k = c.apply-reply.new.self in
-    let ids = ids-after_call j k c.apply-reply.result (Call c.args.client c.args.call.now c.apply-reply.result) (λ e. (done.memory e).0) done.entry in
+    let ids = ids-after_call j k c.apply-reply.result (Call c.args.client c.args.call.now c.apply-reply.result) (λ e. (done.memory e).0) (λ e. (done.marked e).0) done.entry in
     AreFramesOf-changed j k c.self.inside.frames.items c.put_back.new.frames.items c.frames_for-held.result c.apply-reply.new.held c.self.invariant ids done.agree done.pages done.elsewhere c.put_back.ensures.follows c.put_back.ensures.count

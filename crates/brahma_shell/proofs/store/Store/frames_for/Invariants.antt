@@ -1,9 +1,8 @@
 use Rattle.std.proofs.Common.{◌≢◌, ◌-◌, length}
-use Rattle.plain_model.specs.History.{end_of}
 use Rattle.core_store.specs.declared.want.Want.TheVariants.{LetGo}
-use Rattle.core_store.specs.JournalView.{cells_of}
 use Rattle.core_store.specs.Frames.{pages_held}
-use Rattle.core_store.specs.Logged.{want_of, pages_for}
+use Rattle.core_store.specs.Limited.{pages_for_call}
+use Rattle.core_store.specs.Logged.{want_of}
 use Rattle.brahma_shell.specs.Store.{AreHeldOf}
 use Rattle.brahma_shell.proofs.store.Store.frames_for.Given as goal
 
@@ -11,7 +10,7 @@ use Rattle.brahma_shell.proofs.store.Store.frames_for.Given as goal
 abbrev pub invariant-pages : goal.invariant-pages
 invariant-pages l = record {
   held : AreHeldOf l.fn.self l.held;
-  needed : want_of (pages_for (end_of l.fn.self.history).state (cells_of l.fn.self) l.client l.call) (pages_held l.held) ≢ LetGo;
+  needed : want_of (pages_for_call l.fn.self l.client l.call) (pages_held l.held) ≢ LetGo;
 }
 
 abbrev pub decreases-pages : goal.decreases-pages

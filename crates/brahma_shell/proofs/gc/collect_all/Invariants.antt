@@ -1,0 +1,17 @@
+use Rattle.std.proofs.Common.{◌≡◌, ◌+◌, ◌-◌, ◌*◌, ◌^◌, ◌<◌, ◌≤◌}
+use Rattle.core_store.specs.JournalView.{last_left}
+use Rattle.brahma_shell.proofs.GcLemmas.{Collected}
+use Rattle.brahma_shell.proofs.gc.collect_all.Given as goal
+
+-- where as many objects were looked at as the store has ids, a round is open
+abbrev pub invariant-steps : goal.invariant-steps
+invariant-steps g l = record {
+  so_far : Collected l.fn.store l.store l.popped (g.W.Sink.written l.fn.out) (g.W.Sink.written l.out);
+  within : l.popped ≤ 8;
+  in_round : l.popped ≡ 8 → 0 < last_left l.store.notes;
+  later : g.W.Sink.faults l.fn.out ≤ g.W.Sink.faults l.out;
+}
+
+-- each step takes one of at most 8 objects out of the queue, or leaves less of the round
+abbrev pub decreases-steps : goal.decreases-steps
+decreases-steps g l = (8 - l.popped) * 2 ^ 64 + last_left l.store.notes

@@ -1,0 +1,73 @@
+use Rattle.std.proofs.Common.{◌≡◌, false, ◌<◌, [], sym, ap, subst, ◌∙◌}
+use Rattle.plain_model.specs.declared.calls.Entry.TheVariants.{Delete, Hidden}
+use Rattle.core_store.specs.Collects.{Collects, entry_of}
+use Rattle.core_store.specs.JournalView.{JournalView, core_of, last_left}
+use Rattle.core_store.specs.Steppings.{IsEvent, pops, left_told}
+use Rattle.brahma_shell.specs.Points.{point_of, MayRest}
+use Rattle.brahma_shell.specs.Growth.{GrowsBy, GrowsByEvent, BecomesFull}
+use Rattle.brahma_shell.proofs.StoreLemmas.{places-within, AreFramesOf-changed, looked-frames}
+use Rattle.brahma_shell.proofs.StepLemmas.{told-did, told-deleted, free-pops, grows-event, rests, nothing, full, ids-after_collect}
+use Rattle.brahma_shell.proofs.store.Store.collect_step.Goals as goal
+
+pub put_back-requires : goal.put_back-requires
+put_back-requires c =
+    let i = c.self.inside.journal in
+    let j = c.frames_to_collect-held.new.journal in
+    let frames = looked-frames i j c.self.inside.frames.items c.frames_to_collect-held.ensures.same c.self.invariant in
+    record { within = places-within j c.self.inside.frames.items c.frames_to_collect-held.result c.collect_step-step.new.held frames c.frames_to_collect-held.ensures.held c.collect_step-step.ensures.pages }
+
+pub invariant_of-self : goal.invariant_of-self
+invariant_of-self c =
+    let done = c.collect_step-step.ensures in
+    let i = c.self.inside.journal in
+    let j = c.frames_to_collect-held.new.journal in
+    let k = c.collect_step-step.new.self in
+    let frames = looked-frames i j c.self.inside.frames.items c.frames_to_collect-held.ensures.same c.self.invariant in
+    let ids = ids-after_collect j k c.collect_step-step.result (λ e. (done.marked e).0) (λ e. (done.unchanged e).0) (λ e. (done.memory e).0) done.event in
+    AreFramesOf-changed j k c.self.inside.frames.items c.put_back.new.frames.items c.frames_to_collect-held.result c.collect_step-step.new.held frames ids done.agree done.pages done.elsewhere c.put_back.ensures.follows c.put_back.ensures.count
+
+pub returns-clause-idle : goal.returns-clause-idle
+returns-clause-idle c = λ e.
+    let done = c.collect_step-step.ensures in
+    let idle = done.idle.0 e in
+    let i = c.self.inside.journal in
+    let k = c.collect_step-step.new.self in
+    subst (λ (x : JournalView). GrowsBy x k [] × MayRest (point_of x)) c.self.view_is
+    (rests i c.frames_to_collect-held.new.journal k c.frames_to_collect-held.ensures.same (done.unchanged e).0 c.history.ensures.sound c.history.ensures.led idle.1 idle.2)
+
+pub returns-clause-full : goal.returns-clause-full
+returns-clause-full c = λ e.
+    let k = c.collect_step-step.new.self in
+    subst (λ (x : JournalView). BecomesFull x k) c.self.view_is (full c.self.inside.journal c.frames_to_collect-held.new.journal k c.frames_to_collect-held.ensures.same (c.collect_step-step.ensures.marked e).0)
+
+pub returns-clause-memory : goal.returns-clause-memory
+returns-clause-memory c = λ e.
+    let k = c.collect_step-step.new.self in
+    subst (λ (x : JournalView). GrowsBy x k []) c.self.view_is (nothing c.self.inside.journal c.frames_to_collect-held.new.journal k c.frames_to_collect-held.ensures.same (c.collect_step-step.ensures.memory e).0)
+
+pub returns-clause-did : goal.returns-clause-did
+returns-clause-did c = λ popped left e.
+    let done = c.collect_step-step.ensures in
+    let i = c.self.inside.journal in
+    let j = c.frames_to_collect-held.new.journal in
+    let k = c.collect_step-step.new.self in
+    let r = c.collect_step-step.result in
+    let m = done.event (subst IsEvent (sym e) tt) in
+    let told = told-did m.act m.logged _ popped left (sym e ∙ m.answer) in
+    let lower : popped ≡ false → left < last_left j.notes = λ p. (done.lower left (ap left_told e)).1 (ap pops e ∙ p) in
+    subst (λ (x : JournalView). GrowsByEvent x k popped left Hidden) c.self.view_is
+    (grows-event i j k r popped left Hidden c.frames_to_collect-held.ensures.same m done.opening.0 done.opening.1 c.history.ensures.led told.0 told.1 told.2 lower)
+
+pub returns-clause-deleted : goal.returns-clause-deleted
+returns-clause-deleted c = λ id left e.
+    let done = c.collect_step-step.ensures in
+    let i = c.self.inside.journal in
+    let j = c.frames_to_collect-held.new.journal in
+    let k = c.collect_step-step.new.self in
+    let r = c.collect_step-step.result in
+    let m = done.event (subst IsEvent (sym e) tt) in
+    let told = told-deleted m.act m.logged _ id left (sym e ∙ m.answer) in
+    let pop = free-pops 6 (core_of j) m.act id k.queue (core_of k).round (subst (λ l. Collects 6 (core_of j) m.act l k.queue (core_of k).round) told.0 m.collects) in
+    let lower : false ≡ false → left < last_left j.notes = λ p. (done.lower left (ap left_told e)).1 (ap pops e) in
+    subst (λ (x : JournalView). GrowsByEvent x k false left (Delete id)) c.self.view_is
+    (grows-event i j k r false left (Delete id) c.frames_to_collect-held.ensures.same m done.opening.0 done.opening.1 c.history.ensures.led (ap entry_of told.0) pop told.1 lower)
