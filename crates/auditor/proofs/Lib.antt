@@ -1,0 +1,4 @@
+pub mod EditSame
+pub mod ReplayLaws
+pub mod RecountLaws
+pub mod CountLaws

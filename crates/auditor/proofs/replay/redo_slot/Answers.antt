@@ -1,0 +1,11 @@
+use Rattle.std.proofs.Common.{map, ap, ◌∙◌, arith}
+use Rattle.std.proofs.lemmas.List.{length-map}
+use Rattle.store_model.specs.Cells.{relink}
+use Rattle.cell_page.specs.Stored.{cell_of}
+use Rattle.auditor.proofs.EditSame.{edit-as}
+use Rattle.auditor.proofs.replay.redo_slot.Goals as goal
+
+pub returns-clause-exact : goal.returns-clause-exact
+returns-clause-exact g c =
+    let cells = map cell_of c.args.cells.now in
+    c.put.ensures.exact ∙ edit-as cells c.args.id (relink c.args.slot (record { target = c.args.target; bit = c.args.bit })) _ (λ within. (let at = c.get-cell.ensures.cell (let n = length-map c.args.cells.now cell_of in omega (arith, n, within)) in c.lay.ensures ∙ ap (relink c.args.slot (record { target = c.args.target; bit = c.args.bit })) at))
