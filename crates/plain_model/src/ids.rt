@@ -1,5 +1,6 @@
 //! Lists of ids.
 ghost use Rattle.std.specs.Prelude.{◌≡◌, IfOk};
+ghost use Rattle.std.specs.List.Sorted.{IsStrictlyIncreasing};
 ghost use Rattle.plain_model.specs.Machine.{least_free};
 
 use crate::memory::Memory;
@@ -24,7 +25,8 @@ impl Model for Ids {
 impl Ids {
     /// The ids of the set.
     pub(crate) fn from_set(alloc: Global, set: &BTreeSet<u32>) -> Result<Ids, Memory>
-        ensures { IfOk result (λ ids. ids ≡ set.now.keys) }
+        ensures keys { IfOk result (λ ids. ids ≡ set.now.keys) }
+        ensures ascending { IfOk result (λ ids. IsStrictlyIncreasing ids) }
     {
         let items = set.iter().copied().collect(alloc)?;
         Ok(Ids { items })

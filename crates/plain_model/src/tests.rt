@@ -7,7 +7,9 @@ use crate::graph::Graph;
 use crate::memory::Memory;
 use crate::object::Object;
 use crate::plain::Plain;
+use crate::reachable::reach;
 use crate::slots::Slots;
+use std::alloc::Global;
 use std::process::Abort;
 use std::test::Fail;
 
@@ -112,5 +114,57 @@ fn keeps_what_is_pushed(rt: HostRuntime) -> Result<(), Fail> {
     assert_eq!(rt; graph.items().len(), 1);
     assert_eq!(rt; graph.items()[0].id, 3);
     assert_eq!(rt; graph.items()[0].payload, 8);
+    Ok(())
+}
+
+/// A graph of the root and an object 2, each with one slot, which hold these ids.
+fn root_and_second(alloc: Global, first: u32, second: u32) -> Result<Graph, Memory> {
+    let mut graph = Graph::new(alloc);
+    let mut slots = Slots::new(alloc);
+    slots.push(first)?;
+    graph.push(Object {
+        id: 1,
+        slots,
+        payload: 0,
+    })?;
+    let mut others = Slots::new(alloc);
+    others.push(second)?;
+    graph.push(Object {
+        id: 2,
+        slots: others,
+        payload: 0,
+    })?;
+    Ok(graph)
+}
+
+#[test]
+fn reaches_what_a_slot_names(rt: HostRuntime) -> Result<(), Fail> {
+    let graph = root_and_second(rt.alloc(), 2, 0)?;
+    assert_eq!(rt; reach(rt.alloc(), &graph, &[1])?.items(), [1, 2].as_slice());
+    assert_eq!(rt; reach(rt.alloc(), &graph, &[2])?.items(), [2].as_slice());
+    Ok(())
+}
+
+#[test]
+fn goes_round_a_cycle_once(rt: HostRuntime) -> Result<(), Fail> {
+    let graph = root_and_second(rt.alloc(), 2, 1)?;
+    assert_eq!(rt; reach(rt.alloc(), &graph, &[2])?.items(), [1, 2].as_slice());
+    Ok(())
+}
+
+#[test]
+fn leaves_out_ids_that_the_graph_has_not(rt: HostRuntime) -> Result<(), Fail> {
+    let graph = root_and_second(rt.alloc(), 3, 0)?;
+    assert_eq!(rt;
+        reach(rt.alloc(), &graph, &[3, 1, 1])?.items(),
+        [1].as_slice()
+    );
+    Ok(())
+}
+
+#[test]
+fn reaches_nothing_from_nothing(rt: HostRuntime) -> Result<(), Fail> {
+    let graph = root_and_second(rt.alloc(), 2, 1)?;
+    assert_eq!(rt; reach(rt.alloc(), &graph, &[])?.items().len(), 0);
     Ok(())
 }
