@@ -4,3 +4,15 @@ pub mod SeedLaws
 pub mod DecideLaws
 pub mod JudgedLaws
 pub mod SweepLaws
+pub mod LinkLaws
+pub mod CopiedLaws
+pub mod TouchedLaws
+pub mod GreenWork
+pub mod GreenSteps
+pub mod GreenHeads
+pub mod GreenAsked
+pub mod GreenStart
+pub mod GreenParts
+pub mod GreenAnswers
+pub mod GreenFound
+pub mod GreenTests

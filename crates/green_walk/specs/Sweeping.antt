@@ -4,7 +4,7 @@ use Rattle.red_walk.specs.Ids.{IsIdList}
 use Rattle.green_walk.specs.declared.sweep.SweepAt.{SweepAt}
 use Rattle.green_walk.specs.declared.sweep.SweepAt.TheVariants.{Slots, Free, End}
 use Rattle.green_walk.specs.declared.sweep.Found.{Found}
-use Rattle.green_walk.specs.declared.sweep.Found.TheVariants.{Nothing, Made}
+use Rattle.green_walk.specs.declared.sweep.Found.TheVariants.{Nothing, Made, Strong}
 
 -- a sweep, as far as it has come
 pub record Sweeping : Type 0 where
@@ -39,8 +39,10 @@ next s = first_of (unemptied s) (unfreed s)
 abbrev pub IsAnswer : SweepAt → Found → Type 0
 IsAnswer (Slots id) Nothing = Unit {0}
 IsAnswer (Slots id) (Made made) = made ≡ id
+IsAnswer (Slots id) Strong = ⊥
 IsAnswer (Free id) Nothing = ⊥
 IsAnswer (Free id) (Made made) = made ≡ id
+IsAnswer (Free id) Strong = ⊥
 IsAnswer End what = ⊥
 
 -- the sweep begins
@@ -50,7 +52,7 @@ started list limit = record { list = list; emptied = 0; freed = 0; limit = limit
 -- after the answer to what was asked for
 abbrev pub found_at : Sweeping → SweepAt → Found → Sweeping
 found_at s (Slots id) Nothing = record s { emptied = s.emptied + 1 }
-found_at s (Slots id) (Made made) = s
+found_at s (Slots id) _ = s
 found_at s (Free id) what = record s { freed = s.freed + 1 }
 found_at s End what = s
 

@@ -1,4 +1,4 @@
-//! The verdict of a collector round, and the sweep of what it condemns.
+//! The verdict of a collector round, the sweep of what it condemns, and the green walk of what lives.
 //!
 //! When all objects of a round were copied, `Verdict` tells which of them live: the seeds, which something
 //! outside the round's copies holds, and all that copied slots name from there. The others are condemned.
@@ -9,7 +9,10 @@
 //! memory.
 #![tactic(auto)]
 
+mod copied_slots;
 mod counts;
+mod green;
+mod green_at;
 mod laws;
 mod lock_view;
 mod part;
@@ -18,7 +21,12 @@ mod seeds;
 mod sweep;
 mod verdict;
 
-pub use laws::{condemned_objects_are_garbage, sweeps_free_the_condemned};
+pub use green::Green;
+pub use green_at::{GreenAt, Test};
+pub use laws::{
+    condemned_objects_are_garbage, green_walks_are_of_the_living, green_walks_end,
+    green_walks_stay_in_step, sweeps_free_the_condemned,
+};
 pub use lock_view::LockView;
 pub use sweep::{Found, Sweep, SweepAt};
 pub use verdict::Verdict;

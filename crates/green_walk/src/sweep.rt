@@ -27,13 +27,16 @@ pub enum SweepAt {
 /// What the caller of a walk found and did.
 #[derive(Clone, Copy, PartialEq, Eq, Debug)]
 pub enum Found {
-    /// There was nothing to do: no slot of the object holds a reference any more.
+    /// There was nothing to do: no slot of the object holds a reference any more, a seed is passed over, or a slot
+    /// isn't to change.
     Nothing,
     /// The event was made.
     Made {
-        /// The object that was asked for.
+        /// The object that was asked for; at a slot of a green object, the target of the pointer that was made strong.
         id: u32,
     },
+    /// A strong pointer leads to the seed, so there is nothing to do for it.
+    Strong,
 }
 
 /// The order in which the condemned objects are emptied and freed: first the slots of each, then each
@@ -128,6 +131,7 @@ impl Sweep {
                     self.freed += 1;
                 }
             }
+            Found::Strong => {}
         }
     }
 }

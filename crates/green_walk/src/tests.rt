@@ -2,7 +2,7 @@
 ghost use Rattle.std.specs.Prelude.{◌≡◌, length};
 ghost use Rattle.green_walk.specs.Sweeping.{IsAnswer};
 
-use crate::{Found, LockView, Sweep, SweepAt, Verdict};
+use crate::{Found, Green, GreenAt, LockView, Sweep, SweepAt, Verdict};
 use cell_page::Seen;
 use red_walk::{Red, RedAt};
 use ref_tables::{Kind, TempRefs};
@@ -184,4 +184,12 @@ fn a_mark_makes_a_seed(rt: HostRuntime) {
 fn a_name_makes_a_seed(rt: HostRuntime) {
     let verdict = judge_with(&rt, rt.alloc(), [1, 1], false, false, true);
     expect_lists(&rt, &verdict, &[3], &[2, 3], &[]);
+}
+
+#[test]
+fn a_green_walk_that_has_not_begun_asks_for_nothing(rt: HostRuntime) {
+    let green = Green::<6>::new(rt.alloc(), 8).expect(&rt, "room for eight ids");
+    assert_eq!(rt; green.next(), GreenAt::End);
+    assert_eq!(rt; green.test(), None);
+    assert!(rt; !green.waits(2));
 }
