@@ -1,5 +1,5 @@
 -- A journal after a step of an abort.
-use Rattle.std.proofs.Common.{◌≡◌, ℕ, ◌+◌, ◌<◌, List, refl, sym, subst, Some, arith}
+use Rattle.std.proofs.Common.{◌≡◌, ℕ, ◌+◌, ◌<◌, List, refl, sym, ap, ◌∙◌, subst, Some, arith}
 use Rattle.std.specs.Prelude.{option_map}
 use Rattle.plain_model.specs.declared.calls.Call.TheVariants.{Abort}
 use Rattle.plain_model.specs.declared.calls.Reply.TheVariants.{Done}
@@ -15,6 +15,7 @@ use Rattle.core_store.specs.JournalView.{JournalView, cells_of, core_of}
 use Rattle.core_store.specs.Journal.{view_of, IsSound}
 use Rattle.core_store.specs.Logged.{logged_by_undo}
 use Rattle.core_store.specs.Replaced.{next_to_restore}
+use Rattle.core_store.specs.RoundView.{touched_by_record}
 use Rattle.core_store.specs.Stands.{Moves, Undoes, UndoesOne, Ended, EndsAbort}
 use Rattle.core_store.specs.Views.{view_of as tables_of}
 use Rattle.core_store.proofs.HappensLaws.{client_note, happens-undo, happens-ended, counted-owed}
@@ -28,7 +29,7 @@ module _ {slots : ℕ} (a b : Inside slots) (now : JournalView) (held new : List
   -- ---- one write is undone
 
   module _ (logged : CellRecord) (g : Grows a b (client_note (Undo pass) (Some logged) left)) (undoes : UndoesOne slots (tables_of a.tables) (tables_of b.tables) held new pass logged) where
-    it : Undoes slots (tables_of b.tables) (core_of (view_of a)) held new pass logged
+    it : Undoes slots (tables_of a.tables) (tables_of b.tables) (core_of (view_of a)) held new pass logged
     it = undoes (core_of (view_of a)) s.keeps.stands agree_a
 
     happens : Happens (view_of a) (tables_of b.tables) (client_note (Undo pass) (Some logged) left) (after_event slots (core_of (view_of a)) (Undo pass) (Some logged))
@@ -45,10 +46,14 @@ module _ {slots : ℕ} (a b : Inside slots) (now : JournalView) (held new : List
     pub undone-record : Some logged ≡ option_map (logged_by_undo (cells_of now) pass) (next_to_restore (end_of now.history) pass)
     undone-record = subst (λ (j : JournalView). Some logged ≡ option_map (logged_by_undo (cells_of j) pass) (next_to_restore (end_of j.history) pass)) is it.record_is
 
+    -- the objects that the record concerns are touched, and the cursor stays
+    pub undone-round : b.tables.round.view ≡ touched_by_record now.round (option_map (logged_by_undo (cells_of now) pass) (next_to_restore (end_of now.history) pass))
+    undone-round = it.round ∙ (ap (λ (j : JournalView). touched_by_record j.round (Some logged)) is ∙ ap (touched_by_record now.round) undone-record)
+
   -- ---- the transaction ends
 
   module _ (g : Grows a b (client_note (Call pass Abort Done) (Some (AbortEnd pass)) left)) (ends : EndsAbort slots (tables_of a.tables) (tables_of b.tables) pass) (same : new ≡ held) where
-    done : Ended slots (tables_of b.tables) (core_of (view_of a)) pass
+    done : Ended slots (tables_of a.tables) (tables_of b.tables) (core_of (view_of a)) pass
     done = ends (core_of (view_of a)) s.keeps.stands
 
     moves : Moves slots (cells_of (view_of a)) held new (Some (AbortEnd pass))
@@ -64,3 +69,6 @@ module _ {slots : ℕ} (a b : Inside slots) (now : JournalView) (held new : List
 
     pub ended-left : left_to_undo (end_of now.history) pass ≡ 0
     ended-left = subst (λ (j : JournalView). left_to_undo (end_of j.history) pass ≡ 0) is (let l = done.all_undone in omega (arith, l))
+
+    pub ended-round : b.tables.round.view ≡ now.round
+    ended-round = done.round ∙ ap (λ (j : JournalView). j.round) is

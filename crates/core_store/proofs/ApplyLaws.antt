@@ -16,6 +16,7 @@ use Rattle.core_store.specs.Journal.{view_of, IsSound}
 use Rattle.core_store.specs.Limited.{is_past_limit}
 use Rattle.core_store.specs.Logged.{logged_by}
 use Rattle.core_store.specs.Owed.{entries_needed}
+use Rattle.core_store.specs.RoundView.{touched_by_record}
 use Rattle.core_store.specs.Stands.{Answers, Performs}
 use Rattle.core_store.specs.Views.{view_of as tables_of}
 use Rattle.core_store.proofs.HappensLaws.{client_note, happens-call, counted-within}
@@ -25,7 +26,7 @@ use Rattle.core_store.proofs.JournalSteps.{Grows, HasGrown, has-grown}
 module _ {slots : ℕ} (a b : Inside slots) (now : JournalView) (held new : List (HeldFrame slots)) (pass : ℕ) (call : TransactionCall) (reply : Reply) (logged : Option CellRecord) (left : ℕ) (s : IsSound a) (is : view_of a ≡ now) (agree : Agree (cells_of now) held)
     (g : Grows a b (client_note (Call pass call reply) logged left)) (performs : Performs slots (tables_of a.tables) (tables_of b.tables) held new pass call reply logged) (out : call ≡ Abort → transaction_of (end_of now.history).state pass ≡ None)
     (within : is_past_limit now (entries_needed call) ≡ false) (more : b.tables.owed + 1 ≤ a.tables.owed + entries_needed call) where
-  answers : Answers slots (tables_of b.tables) (core_of (view_of a)) held new pass call reply logged
+  answers : Answers slots (tables_of a.tables) (tables_of b.tables) (core_of (view_of a)) held new pass call reply logged
   answers = performs (core_of (view_of a)) s.keeps.stands (subst (λ (j : JournalView). Agree (cells_of j) held) (sym is) agree)
 
   happens : Happens (view_of a) (tables_of b.tables) (client_note (Call pass call reply) logged left) (after_event slots (core_of (view_of a)) (Call pass call reply) logged)
@@ -44,3 +45,7 @@ module _ {slots : ℕ} (a b : Inside slots) (now : JournalView) (held new : List
 
   pub called-record : logged ≡ logged_by (end_of now.history).state (cells_of now) pass call
   called-record = answers.record_is ∙ ap (λ (j : JournalView). logged_by (end_of j.history).state (cells_of j) pass call) is
+
+  -- the objects that the record concerns are touched, and the cursor stays
+  pub called-round : b.tables.round.view ≡ touched_by_record now.round (logged_by (end_of now.history).state (cells_of now) pass call)
+  called-round = answers.round ∙ (ap (λ (j : JournalView). touched_by_record j.round logged) is ∙ ap (touched_by_record now.round) called-record)

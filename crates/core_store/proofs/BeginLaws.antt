@@ -38,7 +38,7 @@ logged-begin s cells pass none =
     ap (λ (o : Option ActiveTransaction). option_map_or (λ (reply : Reply). None) (option_map_or (λ t. refusal_in s pass t Begin) o (refusal_out Begin)) (option_map_or (λ t. record_in s cells pass t Begin) o (Some (logs.Begin pass)))) none
 
 pub answers-begin : (slots : ℕ) (v : TablesView) (ts : List (ℕ × Running)) (n : ℕ) (c : Core) (held : List (HeldFrame slots)) (pass : ℕ) → Stands slots v c → Agree c.cells held → transaction_of c.moment.state pass ≡ None → PutsAt v.transactions ts pass just_begun
-    → n ≡ v.owed + 1 → Answers slots (record v { transactions = ts; owed = n }) c held held pass Begin Done (Some (logs.Begin pass))
+    → n ≡ v.owed + 1 → Answers slots v (record v { transactions = ts; owed = n }) c held held pass Begin Done (Some (logs.Begin pass))
 answers-begin slots v ts n c held pass h agree none put owed =
     let begun = call-begun c.moment.state pass none in
     let w : TablesView = record v { transactions = ts; owed = n } in
@@ -72,4 +72,5 @@ answers-begin slots v ts n c held pass h agree none put owed =
       }) state h.zeros sound (λ x e. e) (λ x k. nothing-in x k)
           (HasRest-same slots v w c d h refl refl refl refl (round-same c.round)
           (owed-begun_with slots c d (with_transaction c.moment.state pass new_transaction) pass just_begun new_transaction h.sound sound state refl here others undone runs none v.owed n h.owed owed) refl refl refl);
+      round = refl;
     }

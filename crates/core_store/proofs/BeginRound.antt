@@ -18,7 +18,8 @@ use Rattle.core_store.specs.Stands.{Stands}
 use Rattle.core_store.specs.Steps.{AreNames}
 use Rattle.core_store.specs.Collects.{is_loose}
 use Rattle.core_store.specs.Collecting.{Collected}
-use Rattle.core_store.proofs.CollectedLaws.{marks-long, mark-of_live, are-names, Stands-collected, Moves-none}
+use Rattle.core_store.proofs.CollectedLaws.{marks-long, mark-of_live, Stands-collected, Moves-none}
+use Rattle.core_store.proofs.EndQueue.{are-names}
 
 -- what isn't loose has a strong pointer or a name
 not-loose : (strong : ℕ) (named : Bool) → ((strong == 0) && not named) ≡ false → (strong ≢ 0) ⊎ (named ≡ true)
@@ -47,7 +48,7 @@ module _ (slots : ℕ) (v : TablesView) (c : Core) (id : ℕ) (rest : List ℕ) 
 
   -- whether it is loose is what the tables tell
   pub first-loose : (b : Bool) → ((named : ℕ → Bool) → AreNames v.references named → b ≡ (get_or v.zeros id false && not (named id))) → is_loose c id ≡ b
-  first-loose b f = ap (λ (zero : Bool). zero && not (is_named c.refs id)) (sym (mark-of_live slots v c h id first-live)) ∙ sym (f (is_named c.refs) (are-names slots v c h))
+  first-loose b f = ap (λ (zero : Bool). zero && not (is_named c.refs id)) (sym (mark-of_live slots v c h id first-live)) ∙ sym (f (is_named c.refs) (are-names c.refs v.references h.references))
 
 module _ (slots : ℕ) (v : TablesView) (c : Core) (held : List (HeldFrame slots)) (id : ℕ) (rest : List ℕ) (h : Stands slots v c) (agree : Agree c.cells held) (closed : v.round ≡ Closed) (queue : v.queue ≡ id ∷ rest) where
   none : c.round ≡ None
@@ -59,11 +60,12 @@ module _ (slots : ℕ) (v : TablesView) (c : Core) (held : List (HeldFrame slots
   pub skip-collected : is_loose c id ≡ false → Collected slots v (record v { queue = rest }) c held held (act.Skip id) None
   skip-collected kept = record {
     proceeds = subst (λ (r : RoundView). Proceeds slots v.ids r (act.Skip id) None r) (sym closed) (skip id);
+    begins = λ e. absurd (cc);
     moves = Moves-none slots c.cells held agree;
     core = after_look c rest c.round;
     after = refl;
     collects = record { none = none; «first» = first; kept = kept; still = none };
-    stands = Stands-collected slots v c c.cells rest c.round v.zeros v.round h (skip-sound c h.sound id rest first (not-loose (cell_at c.cells id).strong (is_named c.refs id) kept)) (λ x. refl) h.zeros h.round h.in_step h.emptied;
+    stands = Stands-collected slots v c c.cells rest c.round v.zeros v.round h (skip-sound c h.sound id rest first (not-loose (cell_at c.cells id).strong (is_named c.refs id) kept)) (λ x. refl) h.zeros h.round h.in_step h.emptied h.tested;
   }
 
   pub start-collected : (limit : ℕ) → limit ≡ v.ids → IsInStep slots limit (Walking (opened limit id)) → is_loose c id ≡ true → Collected slots v (record v { queue = rest; round = Walking (opened limit id) }) c held held (act.Start id) None
@@ -71,10 +73,11 @@ module _ (slots : ℕ) (v : TablesView) (c : Core) (held : List (HeldFrame slots
       subst (λ (n : ℕ). IsInStep slots n (Walking (opened n id)) → Collected slots v (record v { queue = rest; round = Walking (opened n id) }) c held held (act.Start id) None) (sym same)
       (λ within. record {
         proceeds = subst (λ (r : RoundView). Proceeds slots v.ids r (act.Start id) None (Walking (opened v.ids id))) (sym closed) (start id);
+        begins = λ e. absurd (cc);
         moves = Moves-none slots c.cells held agree;
         core = after_look c rest (Some (opened_round id));
         after = refl;
         collects = record { none = none; «first» = first; loose = loose; opened = refl };
-        stands = Stands-collected slots v c c.cells rest (Some (opened_round id)) v.zeros (Walking (opened v.ids id)) h (start-sound c h.sound id rest first none) (λ x. refl) h.zeros refl within tt;
+        stands = Stands-collected slots v c c.cells rest (Some (opened_round id)) v.zeros (Walking (opened v.ids id)) h (start-sound c h.sound id rest first none) (λ x. refl) h.zeros refl within tt tt;
       })
       step

@@ -93,5 +93,6 @@ module _ (slots : ℕ) (v w : TablesView) (c d : Core) (z : State) (pass : ℕ) 
     round = rest.round;
     in_step = rest.in_step;
     emptied = rest.emptied;
+    tested = rest.tested;
     owed = rest.owed;
   }

@@ -1,30 +1,31 @@
 -- What tables stand for after an event of the collector that frees nothing.
-use Rattle.std.proofs.Common.{◌≡◌, ℕ, ◌<◌, List, [], ◌∷◌, length, get_or, map, Bool, true, false, ap, ◌∙◌, Option, None, inl, inr, refl}
-use Rattle.std.specs.Prelude.{◌==◌}
-use Rattle.std.proofs.lemmas.Bool.{cases_Bool, or_right, eq-eqb}
+use Rattle.std.proofs.Common.{◌≡◌, ℕ, ◌+◌, ◌<◌, ◌==◌, if◌then◌else◌, IfSome, sym, subst, List, length, get_or, map, Bool, true, false, ap, ◌∙◌, Option, None, refl}
 use Rattle.std.proofs.lemmas.List.{get_or-map, length-map}
 use Rattle.store_model.specs.Cells.{Cell, blank_cell, cell_at, is_live}
 use Rattle.store_model.proofs.EditLaws.{live-within}
-use Rattle.store_model.specs.Core.{Ref, Round, Core, is_named}
+use Rattle.store_model.specs.Core.{Round, Core}
 use Rattle.store_model.specs.Sound.{IsSound}
-use Rattle.store_model.specs.Steps.{after_collect}
-use Rattle.ref_tables.specs.Queue.{has}
+use Rattle.store_model.specs.Steps.{after_look, after_collect}
+use Rattle.red_walk.specs.Walk.{Walk}
+use Rattle.green_walk.specs.declared.sweep.SweepAt.TheVariants as sweep
+use Rattle.green_walk.specs.declared.sweep.Found.TheVariants.{Nothing}
+use Rattle.green_walk.specs.declared.green_at.Test.{Test}
+use Rattle.green_walk.specs.Sweeping.{Sweeping as Sweep, next as next_of_sweep, found}
+use Rattle.green_walk.specs.Greening.{Greening}
 use Rattle.core_store.specs.declared.three.HeldFrame.{HeldFrame}
 use Rattle.core_store.specs.Frames.{Agree}
 use Rattle.core_store.specs.Changes.{has_no_strong}
-use Rattle.core_store.specs.References.{named_by}
-use Rattle.core_store.specs.RoundView.{RoundView, round_of, IsInStep}
+use Rattle.core_store.specs.RoundView.{RoundView, Sweeping, round_of, next_slot, IsGreeningOf, IsInStep}
 use Rattle.core_store.specs.Tables.{TablesView}
-use Rattle.core_store.specs.Steps.{AreNames}
-use Rattle.core_store.specs.Stands.{IsEmptied, Stands, Moves}
+use Rattle.core_store.specs.Stands.{IsEmptied, IsTestedIn, IsTested, Stands, Moves}
 use Rattle.core_store.proofs.LayLaws.{CanLay-later}
 use Rattle.core_store.proofs.PageLaws.{elsewhere-refl}
 
 -- the cells and with them the marks, the queue and the round change
 pub Stands-collected : (slots : ℕ) (v : TablesView) (c : Core) (cells : List Cell) (queue : List ℕ) (round : Option Round) (zeros : List Bool) (view : RoundView) → Stands slots v c → IsSound (after_collect c cells queue round)
-    → ((x : ℕ) → is_live cells x ≡ is_live c.cells x) → zeros ≡ map has_no_strong cells → round_of view ≡ round → IsInStep slots v.ids view → IsEmptied cells view
+    → ((x : ℕ) → is_live cells x ≡ is_live c.cells x) → zeros ≡ map has_no_strong cells → round_of view ≡ round → IsInStep slots v.ids view → IsEmptied cells view → IsTested cells view
     → Stands slots (record v { zeros = zeros; queue = queue; round = view }) (after_collect c cells queue round)
-Stands-collected slots v c cells queue round zeros view h sound live marks is step emptied = record {
+Stands-collected slots v c cells queue round zeros view h sound live marks is step emptied tested = record {
   ids = h.ids;
   few = h.few;
   slots_are = h.slots_are;
@@ -41,40 +42,45 @@ Stands-collected slots v c cells queue round zeros view h sound live marks is st
   round = is;
   in_step = step;
   emptied = emptied;
+  tested = tested;
   owed = h.owed;
 }
+
+-- the queue and the round alone change
+pub Stands-looked : (slots : ℕ) (v : TablesView) (c : Core) (queue : List ℕ) (r : RoundView) → Stands slots v c → IsInStep slots v.ids r → IsEmptied c.cells r → IsTested c.cells r → IsSound (after_look c queue (round_of r)) → Stands slots (record v { queue = queue; round = r }) (after_look c queue (round_of r))
+Stands-looked slots v c queue r h step emptied tested sound = Stands-collected slots v c c.cells queue (round_of r) v.zeros r h sound (λ x. refl) h.zeros refl step emptied tested
+
+-- ---- tests
+
+-- where no test is in hand, nothing was found by it
+pub tested-none : (cells : List Cell) (w : Walk) (s : Sweep) (slot : ℕ) (g : Greening) → g.test ≡ None → IsTested cells (Sweeping w s slot g)
+tested-none cells w s slot g none = subst (λ (o : Option Test). IfSome o (IsTestedIn cells g)) (sym none) tt
+
+pub tested-next_slot : (slots : ℕ) (cells : List Cell) (w : Walk) (s : Sweep) (slot : ℕ) (g : Greening) → g.test ≡ None → IsTested cells (next_slot slots w s slot g)
+tested-next_slot slots cells w s slot g none = by (slot + 1 == slots)
+  where
+    by : (b : Bool) → IsTested cells (if b then Sweeping w (found s Nothing) 0 g else Sweeping w s (slot + 1) g)
+    by true = tested-none cells w (found s Nothing) 0 g none
+    by false = tested-none cells w s (slot + 1) g none
+
+-- in the sweep no test is in hand
+pub rests-at_slots : (slots ids : ℕ) (w : Walk) (s : Sweep) (g : Greening) (id : ℕ) → IsGreeningOf slots ids w s g → next_of_sweep s ≡ sweep.Slots id → g.test ≡ None
+rests-at_slots slots ids w s g id k e = k.at_rest (λ over. slots-end id (sym e ∙ over))
+  where
+    slots-end : (id : ℕ) → sweep.Slots id ≡ sweep.End → ⊥
+    slots-end id e = absurd (cc)
+
+pub rests-at_free : (slots ids : ℕ) (w : Walk) (s : Sweep) (g : Greening) (id : ℕ) → IsGreeningOf slots ids w s g → next_of_sweep s ≡ sweep.Free id → g.test ≡ None
+rests-at_free slots ids w s g id k e = k.at_rest (λ over. free-end id (sym e ∙ over))
+  where
+    free-end : (id : ℕ) → sweep.Free id ≡ sweep.End → ⊥
+    free-end id e = absurd (cc)
+
+-- ---- moves and marks
 
 -- nothing is logged, and no page changes
 pub Moves-none : (slots : ℕ) (cells : List Cell) (held : List (HeldFrame slots)) → Agree cells held → Moves slots cells held held None
 Moves-none slots cells held agree = record { fits = tt; lays = tt; agree = agree; elsewhere = elsewhere-refl cells held }
-
--- ---- names
-
-named-later : (r : Ref) (rs : List Ref) (p id : ℕ) → has (named_by rs p) id ≡ true → has (named_by (r ∷ rs) p) id ≡ true
-named-later r rs p id there =
-    elim (cases_Bool (r.pass == p)) [
-      | inl e ↦ rw e (or_right (r.target == id) (has (named_by rs p) id) there)
-      | inr e ↦ rw e there
-    ]
-
-named-some : (refs : List Ref) (id : ℕ) → is_named refs id ≡ true → (p : ℕ) × (has (named_by refs p) id ≡ true)
-named-some [] id e = absurd (cc)
-named-some (r ∷ rs) id e =
-    elim (cases_Bool (r.target == id)) [
-      | inl here ↦ (r.pass, rw (eq-eqb r.pass r.pass refl, here) refl)
-      | inr other ↦ let rest = named-some rs id (rw other at e) in (rest.0, named-later r rs rest.0 id rest.1)
-    ]
-
-named-none : (refs : List Ref) (id p : ℕ) → is_named refs id ≡ false → has (named_by refs p) id ≡ false
-named-none [] id p e = refl
-named-none (r ∷ rs) id p e =
-    elim (cases_Bool (r.target == id)) [
-      | inl here ↦ absurd (let some : is_named (r ∷ rs) id ≡ true = rw here refl in cc)
-      | inr other ↦ elim (cases_Bool (r.pass == p)) [
-        | inl own ↦ rw (own, other) (named-none rs id p (rw other at e))
-        | inr apart ↦ rw apart (named-none rs id p (rw other at e))
-      ]
-    ]
 
 -- a mark is the cell's
 pub mark-at : (zeros : List Bool) (cells : List Cell) → zeros ≡ map has_no_strong cells → (id : ℕ) → id < length cells → get_or zeros id false ≡ has_no_strong (cell_at cells id)
@@ -84,13 +90,6 @@ pub marks-long_of : (zeros : List Bool) (cells : List Cell) → zeros ≡ map ha
 marks-long_of zeros cells is = ap length is ∙ length-map cells has_no_strong
 
 module _ (slots : ℕ) (v : TablesView) (c : Core) (h : Stands slots v c) where
-  -- what the tables name is what some client names
-  pub are-names : AreNames v.references (is_named c.refs)
-  are-names = record {
-    yes = λ id e. (let some = named-some c.refs id e in (some.0, ap (λ (ids : List ℕ). has ids id) (h.references some.0) ∙ some.1));
-    no = λ id p e. ap (λ (ids : List ℕ). has ids id) (h.references p) ∙ named-none c.refs id p e;
-  }
-
   pub mark-of : (id : ℕ) → id < length c.cells → get_or v.zeros id false ≡ has_no_strong (cell_at c.cells id)
   mark-of id l = mark-at v.zeros c.cells h.zeros id l
 

@@ -17,4 +17,4 @@ module _ {slots : ℕ} (v : TablesView) (held : List (HeldFrame slots)) (pass : 
   pub does-commit : (w : TablesView) → Ends v w pass → Does v w held held pass plan.Commit (record { reply = reply.Done; logged = Some (logs.Commit pass) })
   does-commit w ends c k core h agree =
       let g = granted-commit h pass k.1 in
-      subst (λ (c : TransactionCall). Answers slots w core held held pass c reply.Done (Some (logs.Commit pass))) (sym k.0) (answers-commit slots v w core held pass g.kept g.transaction h agree (serves g) ends)
+      subst (λ (c : TransactionCall). Answers slots v w core held held pass c reply.Done (Some (logs.Commit pass))) (sym k.0) (answers-commit slots v w core held pass g.kept g.transaction h agree (serves g) ends)

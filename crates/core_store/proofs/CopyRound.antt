@@ -51,12 +51,13 @@ module _ (slots : ℕ) (v : TablesView) (c : Core) (held : List (HeldFrame slots
       let r = with_copy (walked w) id (cell_at c.cells id) in
       record {
         proceeds = subst (λ (r : RoundView). Proceeds slots v.ids r (act.Scan id) None (Walking (copied w id copy))) (sym is) (scan w id copy at);
+        begins = λ e. absurd (cc);
         moves = Moves-none slots c.cells held agree;
         core = after_look c c.queue (Some r);
         after = refl;
         collects = record { of = walked w; there = there; before = refl; rest = (copy-rest (drop w.place w.list) w.slot (drop (length w.copies) w.list) id at).0; next = next-is; queue_is = refl; round_is = refl };
         stands = subst (λ (q : List ℕ). Stands slots (record v { queue = q; round = Walking (copied w id copy) }) (after_look c c.queue (Some r))) (sym h.queue)
-            (Stands-collected slots v c c.cells c.queue (Some r) v.zeros (Walking (copied w id copy)) h (copy-sound c h.sound (walked w) there id listed) (λ x. refl) h.zeros (ap (λ (x : Round). Some x) same) step tt);
+            (Stands-collected slots v c c.cells c.queue (Some r) v.zeros (Walking (copied w id copy)) h (copy-sound c h.sound (walked w) there id listed) (λ x. refl) h.zeros (ap (λ (x : Round). Some x) same) step tt tt);
       }
 
 -- what was seen of the held cell is the copy of the store's

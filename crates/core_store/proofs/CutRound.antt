@@ -19,6 +19,7 @@ use Rattle.red_walk.specs.Rounds.{round_of as walked}
 use Rattle.red_walk.proofs.Members.{has-Contains, Contains-has}
 use Rattle.green_walk.specs.declared.sweep.SweepAt.TheVariants as sweep
 use Rattle.green_walk.specs.Sweeping.{Sweeping as Sweep, next as next_of_sweep, unfreed}
+use Rattle.green_walk.specs.Greening.{Greening}
 use Rattle.green_walk.proofs.SweepLaws.{empty-law}
 use Rattle.log_record.specs.declared.cell_record.CellRecord.{CellRecord}
 use Rattle.log_record.specs.declared.cell_record.CellRecord.TheVariants as logs
@@ -30,15 +31,15 @@ use Rattle.core_store.specs.declared.slots.SlotChange.{SlotChange}
 use Rattle.core_store.specs.Frames.{Agree}
 use Rattle.core_store.specs.Changes.{has_no_strong, is_counted_strong, restored_change}
 use Rattle.core_store.specs.Slots.{IsChanged, HoldsPagesOf, IsReadyToChange, Changes}
-use Rattle.core_store.specs.RoundView.{RoundView, Rounds, Sweeping, round_of, asked, is_event, ids_in, next_slot, passed, IsSweeping, IsInStep, Proceeds, cut}
+use Rattle.core_store.specs.RoundView.{RoundView, Rounds, Sweeping, round_of, asked, is_event, ids_in, next_slot, passed, passed_by_sweep, IsSweeping, IsInStep, Proceeds, cut}
 use Rattle.core_store.specs.Tables.{TablesView}
 use Rattle.core_store.specs.Stands.{IsEmptied, Stands}
 use Rattle.core_store.specs.Steps.{is_queued, JoinsIfCut}
 use Rattle.core_store.specs.Collects.{is_let_go}
 use Rattle.core_store.specs.Collecting.{objects_at, IsReadyToCollect, Collected}
 use Rattle.core_store.proofs.SlotLaws.{holds-old}
-use Rattle.core_store.proofs.CollectedLaws.{Stands-collected, are-names, mark-at, marks-long_of}
-use Rattle.core_store.proofs.EndQueue.{not-free}
+use Rattle.core_store.proofs.CollectedLaws.{Stands-collected, tested-next_slot, rests-at_slots, mark-at, marks-long_of}
+use Rattle.core_store.proofs.EndQueue.{not-free, are-names}
 use Rattle.core_store.proofs.NextLaws.{one-live}
 use Rattle.core_store.proofs.PassLaws.{round-next_slot, IsEmptied-next_slot}
 use Rattle.core_store.proofs.PlanLaws.{live-id}
@@ -160,8 +161,8 @@ module _ {slots : ℕ} {v : TablesView} {c : Core} {held new : List (HeldFrame s
   some-id : id ≢ 0
   some-id = live-there c.cells id h.sound.exact.none k.live
 
-  module _ (w : Walk) (s : Sweep) (is : v.round ≡ Sweeping w s slot) (at : next_of_sweep s ≡ sweep.Slots id) where
-    sweeping : IsSweeping slots v.ids w s slot
+  module _ (w : Walk) (s : Sweep) (g : Greening) (is : v.round ≡ Sweeping w s slot g) (at : next_of_sweep s ≡ sweep.Slots id) where
+    sweeping : IsSweeping slots v.ids w s slot g
     sweeping = subst (λ (r : RoundView). IsInStep slots v.ids r) is h.in_step
 
     there : c.round ≡ Some (swept w s)
@@ -238,45 +239,48 @@ module _ {slots : ℕ} {v : TablesView} {c : Core} {held new : List (HeldFrame s
     behind-sound true e = joined-sound (and_parts was_strong is_lost e).1
     behind-sound false e = stays-sound (known e)
 
-    emptied-later : length (cell_at later id).pointers ≡ slots → IsEmptied later (next_slot slots w s slot)
+    emptied-later : length (cell_at later id).pointers ≡ slots → IsEmptied later (next_slot slots w s slot g)
     emptied-later long =
         let within : slot < length (cell_at c.cells id).pointers = fits.0.within in
         let there = live-within c.cells id k.live in
-        IsEmptied-next_slot slots later w s slot id at long (ap (λ (p : Pointer). p.target) (relinked-slot c.cells id slot null some-id there within))
+        IsEmptied-next_slot slots later w s slot g id at long (ap (λ (p : Pointer). p.target) (relinked-slot c.cells id slot null some-id there within))
         (subst (IsEmptied later) is (IsEmptied-kept c.cells later v.round (null-stays c.cells id slot some-id there within) h.emptied))
 
-    collected : IsInStep slots v.ids (next_slot slots w s slot) → Collected slots v (record v { zeros = marks; queue = queue_behind (was_strong && is_lost) c.queue; round = next_slot slots w s slot }) c held new act.Change (Some logged)
+    collected : IsInStep slots v.ids (next_slot slots w s slot g) → Collected slots v (record v { zeros = marks; queue = queue_behind (was_strong && is_lost) c.queue; round = next_slot slots w s slot g }) c held new act.Change (Some logged)
     collected step =
         let queue = queue_behind (was_strong && is_lost) c.queue in
         let sound = behind-sound (was_strong && is_lost) refl in
         record {
-          proceeds = subst (λ (r : RoundView). Proceeds slots v.ids r act.Change (Some logged) (next_slot slots w s slot)) (sym is) (cut w s slot id target was_strong at);
+          proceeds = subst (λ (r : RoundView). Proceeds slots v.ids r act.Change (Some logged) (next_slot slots w s slot g)) (sym is) (cut w s slot id target was_strong g at);
+          begins = λ e. absurd (cc);
           moves = record { fits = fits; lays = tt; agree = k.changed.agree; elsewhere = k.changed.elsewhere };
           core = after_collect c later queue c.round;
           after = refl;
           collects = record { of = swept w s; there = there; behind = refl; condemned = condemned; queue_is = refl; round_is = there };
-          stands = Stands-collected slots v c later queue c.round marks (next_slot slots w s slot) h sound (relinked-live c.cells id slot null) (k.changed.marks_are h.zeros) (round-next_slot slots w s slot id at ∙ sym there) step
-              (emptied-later (sound.slotted id (relinked-live c.cells id slot null id ∙ k.live) ∙ h.slots_are));
+          stands = Stands-collected slots v c later queue c.round marks (next_slot slots w s slot g) h sound (relinked-live c.cells id slot null) (k.changed.marks_are h.zeros) (round-next_slot slots w s slot g id at ∙ sym there) step
+              (emptied-later (sound.slotted id (relinked-live c.cells id slot null id ∙ k.live) ∙ h.slots_are))
+              (tested-next_slot slots later w s slot g (rests-at_slots slots v.ids w s g id sweeping.greens at));
         }
 
     -- the queue and the round as the tables have them
-    cut-passed : IsInStep slots v.ids (passed slots v.round)
-        → Collected slots v (record v { zeros = marks; queue = queue_behind (was_strong && is_queued (record v { zeros = marks }) (is_named c.refs) target) v.queue; round = passed slots v.round }) c held new act.Change (Some logged)
+    cut-passed : IsInStep slots v.ids (passed slots c.cells v.round)
+        → Collected slots v (record v { zeros = marks; queue = queue_behind (was_strong && is_queued (record v { zeros = marks }) (is_named c.refs) target) v.queue; round = passed slots c.cells v.round }) c held new act.Change (Some logged)
     cut-passed step =
-        subst (λ (r : RoundView). Collected slots v (record v { zeros = marks; queue = queue_behind (was_strong && is_queued (record v { zeros = marks }) (is_named c.refs) target) v.queue; round = passed slots r }) c held new act.Change (Some logged)) (sym is)
-        (subst (λ (q : List ℕ). Collected slots v (record v { zeros = marks; queue = q; round = next_slot slots w s slot }) c held new act.Change (Some logged))
+        let is_next : passed slots c.cells v.round ≡ next_slot slots w s slot g = ap (passed slots c.cells) is ∙ ap (passed_by_sweep slots c.cells w s slot g) at in
+        subst (λ (r : RoundView). Collected slots v (record v { zeros = marks; queue = queue_behind (was_strong && is_queued (record v { zeros = marks }) (is_named c.refs) target) v.queue; round = r }) c held new act.Change (Some logged)) (sym is_next)
+        (subst (λ (q : List ℕ). Collected slots v (record v { zeros = marks; queue = q; round = next_slot slots w s slot g }) c held new act.Change (Some logged))
         (ap (λ (q : List ℕ). queue_behind (was_strong && is_lost) q) (sym h.queue) ∙ ap (λ (b : Bool). queue_behind (was_strong && b) v.queue) (sym told))
-        (collected (subst (λ (r : RoundView). IsInStep slots v.ids (passed slots r)) is step)))
+        (collected (subst (λ (r : RoundView). IsInStep slots v.ids r) is_next step)))
 
     -- the tables after the target's turn, and the round after that
-    pub cut-collected : (x : TablesView) (limit : ℕ) (after : Rounds) → JoinsIfCut (record v { zeros = marks }) x target was_strong → limit ≡ x.ids → after ≡ record { limit = limit; view = passed slots x.round } → IsInStep slots after.limit after.view
+    pub cut-collected : (x : TablesView) (limit : ℕ) (after : Rounds) → JoinsIfCut (record v { zeros = marks }) x target was_strong → limit ≡ x.ids → after ≡ record { limit = limit; view = passed slots c.cells x.round } → IsInStep slots after.limit after.view
         → Collected slots v (record x { round = after.view }) c held new act.Change (Some logged)
     cut-collected x limit after joins sized moved step =
         let round : x.round ≡ v.round = ap (λ (y : TablesView). y.round) joins.same in
         let ids : limit ≡ v.ids = sized ∙ ap (λ (y : TablesView). y.ids) joins.same in
-        let step_of : IsInStep slots limit (passed slots x.round) = subst (λ (r : Rounds). IsInStep slots r.limit r.view) moved step in
-        let step_here : IsInStep slots v.ids (passed slots v.round) = subst (λ (r : RoundView). IsInStep slots v.ids (passed slots r)) round (subst (λ (n : ℕ). IsInStep slots n (passed slots x.round)) ids step_of) in
-        let queue = joins.queue (is_named c.refs) (are-names slots v c h) in
+        let step_of : IsInStep slots limit (passed slots c.cells x.round) = subst (λ (r : Rounds). IsInStep slots r.limit r.view) moved step in
+        let step_here : IsInStep slots v.ids (passed slots c.cells v.round) = subst (λ (r : RoundView). IsInStep slots v.ids (passed slots c.cells r)) round (subst (λ (n : ℕ). IsInStep slots n (passed slots c.cells x.round)) ids step_of) in
+        let queue = joins.queue (is_named c.refs) (are-names c.refs v.references h.references) in
         let tables = joins.same ∙ ap (λ (q : List ℕ). record v { zeros = marks; queue = q }) queue in
-        let whole = ap (λ (r : Rounds). record x { round = r.view }) moved ∙ ap (λ (y : TablesView). record y { round = passed slots y.round }) tables in
+        let whole = ap (λ (r : Rounds). record x { round = r.view }) moved ∙ ap (λ (y : TablesView). record y { round = passed slots c.cells y.round }) tables in
         subst (λ (y : TablesView). Collected slots v y c held new act.Change (Some logged)) (sym whole) (cut-passed step_here)

@@ -40,7 +40,7 @@ use Rattle.core_store.specs.Steps.{Ends}
 use Rattle.core_store.specs.Owed.{entries_owed}
 use Rattle.core_store.specs.Queued.{queue_after_end}
 use Rattle.core_store.specs.RoundView.{round_of, IsInStep}
-use Rattle.core_store.specs.Stands.{IsRunning, Matches, CanLay, IsEmptied, owns_in, shares_in, is_free, Stands, Answers, Ended, EndsAbort}
+use Rattle.core_store.specs.Stands.{IsRunning, Matches, CanLay, IsEmptied, IsTested, owns_in, shares_in, is_free, Stands, Answers, Ended, EndsAbort}
 use Rattle.core_store.proofs.EndQueue.{references-left_are, queue-ended, queue-is_left}
 use Rattle.core_store.proofs.OwedLaws.{owed-kept_ended}
 use Rattle.core_store.proofs.PlanActive.{active-of}
@@ -129,13 +129,14 @@ module _ (slots : ℕ) (v w : TablesView) (c d : Core) (z : State) (pass : ℕ) 
     round = ap round_of ends.round ∙ (h.round ∙ sym round);
     in_step = subst (λ n. IsInStep slots n w.round) (sym ends.ids) (subst (λ r. IsInStep slots v.ids r) (sym ends.round) h.in_step);
     emptied = subst (λ r. IsEmptied d.cells r) (sym ends.round) (subst (λ cs. IsEmptied cs v.round) (sym cells) h.emptied);
+    tested = subst (λ r. IsTested d.cells r) (sym ends.round) (subst (λ cs. IsTested cs v.round) (sym cells) h.tested);
     owed = owed;
   }
 
 -- ---- a commit
 
 pub answers-commit : (slots : ℕ) (v w : TablesView) (c : Core) (held : List (HeldFrame slots)) (pass : ℕ) (kept : Running) (t : ActiveTransaction) → Stands slots v c → Agree c.cells held → Serves slots v c.moment pass Commit kept t → Ends v w pass
-    → Answers slots w c held held pass Commit Done (Some (logs.Commit pass))
+    → Answers slots v w c held held pass Commit Done (Some (logs.Commit pass))
 answers-commit slots v w c held pass kept t h agree s ends =
     let m = c.moment in
     let logged = Some (logs.Commit pass) in
@@ -150,12 +151,13 @@ answers-commit slots v w c held pass kept t h agree s ends =
           (sound-untouched (record c { moment = next m (Call pass Commit Done); refs = references_left c.refs pass; queue = queue_after_end c pass })
           (commit-call c h.sound pass t s.found (references_left c.refs pass) (queue_after_end c pass) (references_left-fit c.refs pass) (queue-is_left c h.sound pass) s.granted Done))
           refl refl refl (round-same c.round) kept s.here;
+      round = ends.round;
     }
 
 -- ---- the end of an abort
 
 pub ended-abort : (slots : ℕ) (v w : TablesView) (c : Core) (pass : ℕ) (kept : Running) (t : ActiveTransaction) → Stands slots v c → running_at v.transactions pass ≡ Some kept → transaction_of c.moment.state pass ≡ Some t → IsRunning slots c.moment.state.committed kept t (c.moment.undone pass)
-    → kept.replaced ≡ [] → Ends v w pass → Ended slots w c pass
+    → kept.replaced ≡ [] → Ends v w pass → Ended slots v w c pass
 ended-abort slots v w c pass kept t h here found runs nothing ends =
     let m = c.moment in
     let none = ap (λ (ws : List Write). length ws) nothing in
@@ -169,6 +171,7 @@ ended-abort slots v w c pass kept t h here found runs nothing ends =
           (sound-untouched (record c { moment = next m (Call pass Abort Done); refs = references_left c.refs pass; queue = queue_after_end c pass })
           (abort-call c h.sound pass t found (references_left c.refs pass) (queue_after_end c pass) (references_left-fit c.refs pass) (queue-is_left c h.sound pass) (omega (arith, left, none)) Done))
           refl refl refl (round-same c.round) kept here;
+      round = ends.round;
     }
 
 -- whatever journal the tables stand for

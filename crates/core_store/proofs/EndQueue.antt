@@ -117,7 +117,7 @@ module _ (slots : ℕ) (v : TablesView) (c : Core) (h : Stands slots v c) where
       by : (r : RoundView) → ids_in r ≡ option_map_or (λ (x : Round). x.list) (round_of r) []
       by Closed = refl
       by (Walking w) = refl
-      by (Sweeping w s slot) = refl
+      by (Sweeping w s slot g) = refl
 
   -- on a live object they agree
   pub queued-agrees : (left : List Ref) (id : ℕ) → is_live c.cells id ≡ true → is_queued v (is_named left) id ≡ is_to_queue c left id

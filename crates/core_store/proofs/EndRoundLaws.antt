@@ -7,9 +7,9 @@ use Rattle.red_walk.specs.Walk.{Walk}
 use Rattle.red_walk.specs.Rounds.{round_of as walked}
 use Rattle.red_walk.proofs.Members.{Contains-has, absent}
 use Rattle.red_walk.proofs.Filters.{filter-same, filter-both, among-filter, once-filter, filter-among}
-use Rattle.green_walk.specs.declared.sweep.SweepAt.{SweepAt}
 use Rattle.green_walk.specs.declared.sweep.SweepAt.TheVariants as sweep
 use Rattle.green_walk.specs.Sweeping.{Sweeping as Sweep, next, unfreed}
+use Rattle.green_walk.specs.Greening.{Greening}
 use Rattle.store_model.specs.Cells.{cell_at}
 use Rattle.store_model.specs.Core.{Core, Round, is_named}
 use Rattle.store_model.specs.Sound.{in_round, IsSound}
@@ -20,7 +20,7 @@ use Rattle.core_store.specs.declared.round_at.RoundAt.TheVariants as at
 use Rattle.core_store.specs.declared.three.HeldFrame.{HeldFrame}
 use Rattle.core_store.specs.Frames.{Agree}
 use Rattle.core_store.specs.Queued.{all_joined}
-use Rattle.core_store.specs.RoundView.{RoundView, Closed, Walking, Sweeping, round_of, asked, asked_by_sweep, Proceeds, end, IsInStep, IsSweeping}
+use Rattle.core_store.specs.RoundView.{RoundView, Closed, Walking, Sweeping, round_of, asked, Proceeds, end}
 use Rattle.core_store.specs.Collects.{is_loose}
 use Rattle.core_store.specs.Collecting.{Collected}
 use Rattle.core_store.specs.Tables.{TablesView}
@@ -28,7 +28,7 @@ use Rattle.core_store.specs.Steps.{AreNames, is_left_loose, JoinsIfLoose}
 use Rattle.core_store.specs.Stands.{Stands}
 use Rattle.core_store.proofs.QueueLaws.{passed-joins, failed-stays, all_joined-behind}
 use Rattle.core_store.proofs.EndQueue.{are-names, mark-at}
-use Rattle.core_store.proofs.LookedLaws.{Stands-looked}
+use Rattle.core_store.proofs.CollectedLaws.{Stands-looked}
 
 -- ---- the objects of the list, one place after another
 
@@ -57,25 +57,9 @@ have_requeued-more v w x ids place id l is h j = record {
 abbrev pub walk_list : RoundView → List ℕ
 walk_list Closed = []
 walk_list (Walking w) = w.list
-walk_list (Sweeping w s slot) = w.list
+walk_list (Sweeping w s slot g) = w.list
 
 -- ---- the end
-
--- the end comes next in a sweep alone
-pub ending : (r : RoundView) → asked r ≡ at.End → (w : Walk) × (s : Sweep) × (slot : ℕ) × (r ≡ Sweeping w s slot) × (next s ≡ sweep.End)
-ending Closed e = absurd (cc)
-ending (Walking w) e = absurd (by (Rattle.red_walk.specs.Walk.next w) e)
-  where
-    by : (n : Rattle.red_walk.specs.declared.red_at.RedAt.RedAt) → Rattle.core_store.specs.RoundView.asked_by_walk n ≡ at.End → ⊥
-    by (Rattle.red_walk.specs.declared.red_at.RedAt.TheVariants.Look id slot) e = absurd (cc)
-    by (Rattle.red_walk.specs.declared.red_at.RedAt.TheVariants.Copy id) e = absurd (cc)
-    by Rattle.red_walk.specs.declared.red_at.RedAt.TheVariants.Verdict e = absurd (cc)
-ending (Sweeping w s slot) e = (w, s, slot, refl, by (next s) e)
-  where
-    by : (n : SweepAt) → asked_by_sweep slot n ≡ at.End → n ≡ sweep.End
-    by (sweep.Slots id) e = absurd (cc)
-    by (sweep.Free id) e = absurd (cc)
-    by sweep.End e = refl
 
 nothing-left : (unemptied left : List ℕ) → Rattle.green_walk.specs.Sweeping.first_of unemptied left ≡ sweep.End → left ≡ []
 nothing-left (x ∷ xs) ys e = absurd (cc)
@@ -86,7 +70,7 @@ nothing-left [] [] e = refl
 abbrev marked_loose : TablesView → Core → ℕ → Bool
 marked_loose v c x = get_or v.zeros x false && not (is_named c.refs x)
 
-module _ (slots : ℕ) (v : TablesView) (c : Core) (w : Walk) (s : Sweep) (slot : ℕ) (h : Stands slots v c) (sweeps : v.round ≡ Sweeping w s slot) (over : next s ≡ sweep.End) where
+module _ (slots : ℕ) (v : TablesView) (c : Core) (w : Walk) (s : Sweep) (slot : ℕ) (g : Greening) (h : Stands slots v c) (sweeps : v.round ≡ Sweeping w s slot g) (over : next s ≡ sweep.End) where
   there : c.round ≡ Some (record (walked w) { judged = true; condemned = unfreed s })
   there = sym h.round ∙ ap round_of sweeps
 
@@ -120,12 +104,13 @@ module _ (slots : ℕ) (v : TablesView) (c : Core) (w : Walk) (s : Sweep) (slot 
       is-loose : (x : ℕ) → (cell_at c.cells x).strong ≡ 0 → is_named c.refs x ≡ false → is_loose c x ≡ true
       is-loose x z n = ap (λ k. (k == 0) && not (is_named c.refs x)) z ∙ ap not n
 
-  pub end-collected : {held : List (HeldFrame slots)} (queue : List ℕ) → Agree c.cells held → queue ≡ all_joined c.queue (filter (is_loose c) w.left) → Collected slots v (record v { queue = queue; round = Closed }) c held held act.End None
-  end-collected queue agree is = record {
-    proceeds = subst (λ (r : RoundView). Proceeds slots v.ids r act.End None Closed) (sym sweeps) (end w s slot over);
+  pub end-collected : {held : List (HeldFrame slots)} (queue : List ℕ) → Agree c.cells held → asked (Sweeping w s slot g) ≡ at.End → queue ≡ all_joined c.queue (filter (is_loose c) w.left) → Collected slots v (record v { queue = queue; round = Closed }) c held held act.End None
+  end-collected queue agree asks is = record {
+    proceeds = subst (λ (r : RoundView). Proceeds slots v.ids r act.End None Closed) (sym sweeps) (end w s slot g asks);
+    begins = λ e. absurd (cc);
     moves = record { fits = tt; lays = tt; agree = agree; elsewhere = λ p e. refl };
     core = after_look c queue None;
     after = refl;
     collects = record { of = record (walked w) { judged = true; condemned = unfreed s }; there = there; behind = refl; none_left = nothing-left (Rattle.green_walk.specs.Sweeping.unemptied s) (unfreed s) over; queue_is = is; round_is = refl };
-    stands = Stands-looked slots v c queue Closed h tt tt (subst (λ xs. IsSound (after_look c xs None)) (sym is) sound);
+    stands = Stands-looked slots v c queue Closed h tt tt tt (subst (λ xs. IsSound (after_look c xs None)) (sym is) sound);
   }

@@ -13,7 +13,7 @@ use Rattle.core_store.specs.declared.journal.Journal.TheInside.{Inside}
 use Rattle.core_store.specs.declared.note.Note.{Note}
 use Rattle.core_store.specs.declared.three.HeldFrame.{HeldFrame}
 use Rattle.core_store.specs.Collecting.{Collected, CollectsOne, answer_of, is_pop}
-use Rattle.core_store.specs.Collects.{Collects, entry_of}
+use Rattle.core_store.specs.Collects.{Collects, BeginsGreen, entry_of}
 use Rattle.core_store.specs.Events.{core_after}
 use Rattle.core_store.specs.Frames.{Agree}
 use Rattle.core_store.specs.JournalView.{JournalView, cells_of, core_of, last_left, with_note}
@@ -97,7 +97,7 @@ module _ {slots : ℕ} (a b : Inside slots) (now : JournalView) (held new : List
 
   pub made-event : (result : Collect) → result ≡ answer_of act logged left → MakesEvent slots now (view_of b) result
   made-event result e = record {
-    act = act;
+    event = act;
     logged = logged;
     entry = ap (λ (j : JournalView). j.history) made.view_is;
     noted = ap (λ (j : JournalView). j.notes) made.view_is ∙ ap (λ n. with_note now.notes (entry_of logged) logged n act) g.left;
@@ -111,6 +111,7 @@ module _ {slots : ℕ} (a b : Inside slots) (now : JournalView) (held new : List
         subst (λ (j : JournalView). Collects slots (core_of j) act logged b.tables.queue.ids (round_of b.tables.round.view)) is
         (subst (λ (r : Option Round). Collects slots (core_of (view_of a)) act logged b.tables.queue.ids r) round-is (subst (λ q. Collects slots (core_of (view_of a)) act logged q it.core.round) queue-is it.collects));
     proceeds = subst (λ (j : JournalView). Proceeds slots j.history.ids j.round act logged b.tables.round.view) is it.proceeds;
+    begins = λ judges. subst (λ (j : JournalView). BeginsGreen (core_of j) b.tables.round.view) is (it.begins judges);
     answer = e ∙ ap (answer_of act logged) g.left;
     marks = ap (λ (j : JournalView). j.marks) made.view_is;
   }

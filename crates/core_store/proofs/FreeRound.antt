@@ -34,6 +34,7 @@ use Rattle.green_walk.specs.declared.sweep.SweepAt.{SweepAt}
 use Rattle.green_walk.specs.declared.sweep.SweepAt.TheVariants as sweep
 use Rattle.green_walk.specs.declared.sweep.Found.TheVariants.{Made}
 use Rattle.green_walk.specs.Sweeping.{Sweeping as Sweep, next as next_of_sweep, found, found_at, unfreed, unemptied}
+use Rattle.green_walk.specs.Greening.{Greening}
 use Rattle.green_walk.proofs.SweepLaws.{free-first, drop-some, free-law}
 use Rattle.log_record.specs.declared.cell_record.CellRecord.TheVariants as logs
 use Rattle.core_store.specs.declared.three.HeldFrame.{HeldFrame}
@@ -45,6 +46,7 @@ use Rattle.core_store.specs.Transactions.{Running, running_at}
 use Rattle.core_store.specs.Tables.{TablesView}
 use Rattle.core_store.specs.Stands.{CanLay, IsEmptied, is_free, Stands}
 use Rattle.core_store.specs.Collecting.{Collected}
+use Rattle.core_store.proofs.CollectedLaws.{tested-none, rests-at_free}
 use Rattle.core_store.proofs.EndLaws.{matches-same}
 use Rattle.core_store.proofs.PageLaws.{elsewhere-edit}
 use Rattle.core_store.proofs.PlanActive.{active-of}
@@ -66,8 +68,8 @@ none-dropped : (n : ℕ) (xs : List ℕ) → drop n xs ≡ [] → length xs ≤ 
 none-dropped n xs e = let len = length-drop n xs in let none = ap (λ (ys : List ℕ). length ys) e in omega (arith, len, none)
 
 -- the sweep frees an object where all condemned ones are emptied
-pub emptied-all : (cells : List Cell) (w : Walk) (s : Sweep) (slot id : ℕ) → next_of_sweep s ≡ sweep.Free id → IsEmptied cells (Sweeping w s slot) → (x : ℕ) → Contains (unfreed s) x → HasNoPointer (cell_at cells x)
-emptied-all cells w s slot id at e x m k =
+pub emptied-all : (cells : List Cell) (w : Walk) (s : Sweep) (slot : ℕ) (g : Greening) (id : ℕ) → next_of_sweep s ≡ sweep.Free id → IsEmptied cells (Sweeping w s slot g) → (x : ℕ) → Contains (unfreed s) x → HasNoPointer (cell_at cells x)
+emptied-all cells w s slot g id at e x m k =
     let none : length s.list ≤ s.emptied = none-dropped s.emptied s.list (free-first (unemptied s) (unfreed s) id at).0 in
     let p = drop-place s.freed s.list x m in
     let within = p.2 in
@@ -90,11 +92,11 @@ null-freed cells id slots some within x k e =
     (cases_eq x id)
 
 -- what is emptied stays so, and the freed object counts no more
-emptied-freed : (cells later : List Cell) (w u : Walk) (s : Sweep) (slot id : ℕ) → next_of_sweep s ≡ sweep.Free id → ((x k : ℕ) → (pointer_at cells x k).target ≡ 0 → (pointer_at later x k).target ≡ 0) → IsEmptied cells (Sweeping w s slot)
-    → IsEmptied later (Sweeping u (found s (Made id)) slot)
-emptied-freed cells later w u s slot id at keeps e =
+emptied-freed : (cells later : List Cell) (w u : Walk) (s : Sweep) (slot : ℕ) (g : Greening) (id : ℕ) → next_of_sweep s ≡ sweep.Free id → ((x k : ℕ) → (pointer_at cells x k).target ≡ 0 → (pointer_at later x k).target ≡ 0) → IsEmptied cells (Sweeping w s slot g)
+    → IsEmptied later (Sweeping u (found s (Made id)) slot g)
+emptied-freed cells later w u s slot g id at keeps e =
     let after : found s (Made id) ≡ record s { freed = s.freed + 1 } = ap (λ (n : SweepAt). found_at s n (Made id)) at in
-    subst (λ (z : Sweep). IsEmptied later (Sweeping u z slot)) (sym after) (λ place k a b l. keeps _ k (e.0 place k (omega (arith, a)) b l), λ k a b. keeps _ k (e.1 k a b))
+    subst (λ (z : Sweep). IsEmptied later (Sweeping u z slot g)) (sym after) (λ place k a b l. keeps _ k (e.0 place k (omega (arith, a)) b l), λ k a b. keeps _ k (e.1 k a b))
 
 -- ---- the free ids
 
@@ -123,11 +125,11 @@ swept w condemned = record (walked w) { judged = true; condemned = condemned }
 nonzero-above : (n : ℕ) → n ≢ 0 → 0 < n
 nonzero-above n some = ⊎_elim (λ l. l) (λ l. absurd (some (omega (arith, l)))) (cases_lt 0 n)
 
-module _ (slots : ℕ) (v : TablesView) (c : Core) (h : Stands slots v c) (w : Walk) (s : Sweep) (slot id : ℕ) (is : v.round ≡ Sweeping w s slot) (at : next_of_sweep s ≡ sweep.Free id) where
+module _ (slots : ℕ) (v : TablesView) (c : Core) (h : Stands slots v c) (w : Walk) (s : Sweep) (slot : ℕ) (g : Greening) (id : ℕ) (is : v.round ≡ Sweeping w s slot g) (at : next_of_sweep s ≡ sweep.Free id) where
   there : c.round ≡ Some (swept w (unfreed s))
   there = sym h.round ∙ ap round_of is
 
-  sweeping : IsSweeping slots v.ids w s slot
+  sweeping : IsSweeping slots v.ids w s slot g
   sweeping = subst (λ (r : RoundView). IsInStep slots v.ids r) is h.in_step
 
   chosen : Contains (unfreed s) id
@@ -149,7 +151,7 @@ module _ (slots : ℕ) (v : TablesView) (c : Core) (h : Stands slots v c) (w : W
   within = live-within c.cells id freed-live
 
   pub all-emptied : (x : ℕ) → Contains (unfreed s) x → HasNoPointer (cell_at c.cells x)
-  all-emptied = emptied-all c.cells w s slot id at (subst (λ (r : RoundView). IsEmptied c.cells r) is h.emptied)
+  all-emptied = emptied-all c.cells w s slot g id at (subst (λ (r : RoundView). IsEmptied c.cells r) is h.emptied)
 
   -- nothing points to it: all that does is condemned, and so has null slots
   unpointed : (u k : ℕ) → is_live c.cells u ≡ true → (pointer_at c.cells u k).target ≢ id
@@ -202,7 +204,7 @@ module _ (slots : ℕ) (v : TablesView) (c : Core) (h : Stands slots v c) (w : W
 
   -- ---- the tables after it
 
-  module _ (ids : List ℕ) (joined : (k : ℕ) → list_any (is_at (nat_cmp k)) ids ≡ ((k == id) || list_any (is_at (nat_cmp k)) v.free)) (step : IsInStep slots v.ids (Sweeping (removed w id) (found s (Made id)) slot)) where
+  module _ (ids : List ℕ) (joined : (k : ℕ) → list_any (is_at (nat_cmp k)) ids ≡ ((k == id) || list_any (is_at (nat_cmp k)) v.free)) (step : IsInStep slots v.ids (Sweeping (removed w id) (found s (Made id)) slot g)) where
     round-listed : IsOnce w.left
     round-listed = subst IsOnce (list-is c h.sound (swept w (unfreed s)) there) h.sound.round_once
 
@@ -222,7 +224,7 @@ module _ (slots : ℕ) (v : TablesView) (c : Core) (h : Stands slots v c) (w : W
         ∙ (free-joined k id c.moment.state.ids (list_any (is_at (nat_cmp k)) v.free) (is_stored c.moment.state.stored k) (nonzero-above id some) (omega (arith, size, within)) (h.free k)
         ∙ ap (λ b. (nat_lt 0 k && nat_le k c.moment.state.ids) && not b) (sym (stored-remove c.moment.state.stored id k h.sound.state.ascend)))
 
-    pub Stands-freed : Stands slots (record v { free = ids; round = Sweeping (removed w id) (found s (Made id)) slot }) (later slots)
+    pub Stands-freed : Stands slots (record v { free = ids; round = Sweeping (removed w id) (found s (Made id)) slot g }) (later slots)
     Stands-freed = record {
       ids = h.ids;
       few = h.few;
@@ -239,14 +241,16 @@ module _ (slots : ℕ) (v : TablesView) (c : Core) (h : Stands slots v c) (w : W
       queue = h.queue;
       round = refl;
       in_step = step;
-      emptied = emptied-freed c.cells (edit c.cells id (λ _. blank_cell false slots)) w (removed w id) s slot id at (null-freed c.cells id slots some within) (subst (λ (r : RoundView). IsEmptied c.cells r) is h.emptied);
+      emptied = emptied-freed c.cells (edit c.cells id (λ _. blank_cell false slots)) w (removed w id) s slot g id at (null-freed c.cells id slots some within) (subst (λ (r : RoundView). IsEmptied c.cells r) is h.emptied);
+      tested = tested-none (edit c.cells id (λ _. blank_cell false slots)) (removed w id) (found s (Made id)) slot g (rests-at_free slots v.ids w s g id sweeping.greens at);
       owed = h.owed;
     }
 
     pub free-collected : (held new : List (HeldFrame slots)) → is_held held (page_of_id id) ≡ true → Agree (edit c.cells id (λ _. blank_cell false slots)) new
-        → Collected slots v (record v { free = ids; round = Sweeping (removed w id) (found s (Made id)) slot }) c held new act.Change (Some (logs.Free id))
+        → Collected slots v (record v { free = ids; round = Sweeping (removed w id) (found s (Made id)) slot g }) c held new act.Change (Some (logs.Free id))
     free-collected held new page agree = record {
-      proceeds = subst (λ (r : RoundView). Proceeds slots v.ids r act.Change (Some (logs.Free id)) (Sweeping (removed w id) (found s (Made id)) slot)) (sym is) (free w s slot id at);
+      proceeds = subst (λ (r : RoundView). Proceeds slots v.ids r act.Change (Some (logs.Free id)) (Sweeping (removed w id) (found s (Made id)) slot g)) (sym is) (free w s slot id g at);
+      begins = λ e. absurd (cc);
       moves = record { fits = freed-fits; lays = tt; agree = agree; elsewhere = elsewhere-edit c.cells held id (λ _. blank_cell false slots) page };
       core = later slots;
       after = refl;

@@ -23,7 +23,7 @@ use Rattle.core_store.specs.Tables.{TablesView}
 use Rattle.core_store.specs.Limited.{AreLimits}
 use Rattle.core_store.specs.RoundView.{RoundView, Closed, round_of, IsInStep}
 use Rattle.core_store.specs.Transactions.{Running, running_at}
-use Rattle.core_store.specs.Stands.{Matches, IsEmptied, Stands}
+use Rattle.core_store.specs.Stands.{Matches, IsEmptied, IsTested, Stands}
 use Rattle.core_store.specs.Steps.{IsFreshOf}
 use Rattle.core_store.proofs.FreshLaws.{fresh-cells, fresh-graph, fresh-marks, fresh-free_ids}
 
@@ -56,6 +56,7 @@ fresh-stands slots more v count few f = record {
   round = ap round_of f.round;
   in_step = subst (λ r. IsInStep slots v.ids r) (sym f.round) tt;
   emptied = subst (λ r. IsEmptied (fresh_cells slots more) r) (sym f.round) tt;
+  tested = subst (λ r. IsTested (fresh_cells slots more) r) (sym f.round) tt;
   owed = f.owed;
 }
 

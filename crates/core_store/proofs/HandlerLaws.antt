@@ -98,7 +98,7 @@ module _ {slots : ℕ} (v : TablesView) (held : List (HeldFrame slots)) (pass : 
   pub does-begin : (ts : List (ℕ × Running)) (n : ℕ) → PutsAt v.transactions ts pass just_begun → n ≡ v.owed + 1 → Does v (record v { transactions = ts; owed = n }) held held pass plan.Begin (record { reply = reply.Done; logged = Some (logs.Begin pass) })
   does-begin ts n put more c w core h agree =
       let none = (granted-begin h pass w.1).0 in
-      subst (λ (c : TransactionCall). Answers slots (record v { transactions = ts; owed = n }) core held held pass c reply.Done (Some (logs.Begin pass))) (sym w.0) (answers-begin slots v ts n core held pass h agree none put more)
+      subst (λ (c : TransactionCall). Answers slots v (record v { transactions = ts; owed = n }) core held held pass c reply.Done (Some (logs.Begin pass))) (sym w.0) (answers-begin slots v ts n core held pass h agree none put more)
 
   pub does-read : (locks : Table) (id slot into : ℕ) (cell : Cell slots) → AddsShare v.locks locks pass id → ((cells : List StoredCell) → Agree cells held → cell_of cell ≡ cell_at cells id)
       → (let value = slice_index_or cell.slots slot 0 in
@@ -109,9 +109,9 @@ module _ {slots : ℕ} (v : TablesView) (held : List (HeldFrame slots)) (pass : 
       let value = slot-target core.cells id slot cell (stored core.cells agree) in
       let W : ℕ → TablesView = λ value. record v { locks = locks; transactions = changed_at pass (loaded into (nonzero value)) v.transactions } in
       let main = answers-read slots v core held h agree locks pass w.0 g.grants.kept t (subst (λ x. AddsShare v.locks locks pass x) (sym g.names.id_is) adds) slot into (serves g.grants) in
-      let at_id = subst (λ x. let value = (pointer_at core.cells x slot).target in Answers slots (W value) core held held pass (call.Read w.0 slot into) (reply.Id value) None) g.names.id_is main in
-      let at_value = subst (λ value. Answers slots (W value) core held held pass (call.Read w.0 slot into) (reply.Id value) None) (sym value) at_id in
-      subst (λ (c : TransactionCall). let value = slice_index_or cell.slots slot 0 in Answers slots (W value) core held held pass c (reply.Id value) None) (sym w.1) at_value
+      let at_id = subst (λ x. let value = (pointer_at core.cells x slot).target in Answers slots v (W value) core held held pass (call.Read w.0 slot into) (reply.Id value) None) g.names.id_is main in
+      let at_value = subst (λ value. Answers slots v (W value) core held held pass (call.Read w.0 slot into) (reply.Id value) None) (sym value) at_id in
+      subst (λ (c : TransactionCall). let value = slice_index_or cell.slots slot 0 in Answers slots v (W value) core held held pass c (reply.Id value) None) (sym w.1) at_value
 
   pub does-get : (locks : Table) (id : ℕ) (cell : Cell slots) → AddsShare v.locks locks pass id → ((cells : List StoredCell) → Agree cells held → cell_of cell ≡ cell_at cells id)
       → Does v (record v { locks = locks }) held held pass (plan.Get id) (record { reply = reply.Pay cell.payload; logged = None })
@@ -119,9 +119,9 @@ module _ {slots : ℕ} (v : TablesView) (held : List (HeldFrame slots)) (pass : 
       let g = granted-get h pass w.0 id w.2 in
       let value : cell.payload ≡ (cell_at core.cells id).payload = ap (λ (x : StoredCell). x.payload) (stored core.cells agree) in
       let main = answers-get slots v core held h agree locks pass w.0 g.grants.kept g.grants.transaction (subst (λ x. AddsShare v.locks locks pass x) (sym g.names.id_is) adds) (serves g.grants) in
-      let at_id = subst (λ x. Answers slots (record v { locks = locks }) core held held pass (call.GetPay w.0) (reply.Pay (cell_at core.cells x).payload) None) g.names.id_is main in
-      let at_value = subst (λ value. Answers slots (record v { locks = locks }) core held held pass (call.GetPay w.0) (reply.Pay value) None) (sym value) at_id in
-      subst (λ (c : TransactionCall). Answers slots (record v { locks = locks }) core held held pass c (reply.Pay cell.payload) None) (sym w.1) at_value
+      let at_id = subst (λ x. Answers slots v (record v { locks = locks }) core held held pass (call.GetPay w.0) (reply.Pay (cell_at core.cells x).payload) None) g.names.id_is main in
+      let at_value = subst (λ value. Answers slots v (record v { locks = locks }) core held held pass (call.GetPay w.0) (reply.Pay value) None) (sym value) at_id in
+      subst (λ (c : TransactionCall). Answers slots v (record v { locks = locks }) core held held pass c (reply.Pay cell.payload) None) (sym w.1) at_value
 
   pub does-set : (new : List (HeldFrame slots)) (locks : Table) (id value noted old n : ℕ) → n ≡ v.owed + 1 → AddsOwner v.locks locks pass id → is_held held (page_of_id id) ≡ true → ((cells : List StoredCell) → Agree cells held → noted ≡ (cell_at cells id).payload) → ((cells : List StoredCell) → Agree cells held → old ≡ (cell_at cells id).payload)
       → ((cells : List StoredCell) → Agree cells held → is_live cells id ≡ true → Agree (edit cells id (pays value)) new)
@@ -130,7 +130,7 @@ module _ {slots : ℕ} (v : TablesView) (held : List (HeldFrame slots)) (pass : 
       let g = granted-set h pass w.0 value id w.2 in
       let cells = core.cells in
       let live = g.names.there.live in
-      let P : TransactionCall → ℕ → ℕ → ℕ → Type 0 = λ c x k o. Answers slots (record v { locks = locks; transactions = changed_at pass (writing (record { id = x; place = Payload; value = k })) v.transactions; owed = n }) core held new pass c reply.Done (Some (logs.Pay pass x o value)) in
+      let P : TransactionCall → ℕ → ℕ → ℕ → Type 0 = λ c x k o. Answers slots v (record v { locks = locks; transactions = changed_at pass (writing (record { id = x; place = Payload; value = k })) v.transactions; owed = n }) core held new pass c reply.Done (Some (logs.Pay pass x o value)) in
       let Q : ℕ → Type 0 = λ x. (AddsOwner v.locks locks pass x → Nobody (StandsInWayOfOwn (holders_of v.locks x) pass) → is_live cells x ≡ true → Agree (edit cells x (pays value)) new → IsSameElsewhere cells (edit cells x (pays value)) held → v.zeros ≡ map has_no_strong (edit cells x (pays value)) → P (call.SetPay w.0 value) x (cell_at cells x).payload (cell_at cells x).payload) in
       let main : Q (register_id g.grants.transaction w.0) = λ a b l s e z. answers-set slots v core held new h locks pass w.0 n g.grants.kept g.grants.transaction a b value (serves g.grants) more l s e z in
       let at_id = subst Q g.names.id_is main adds w.2.1 live (stored cells agree live) (elsewhere-edit cells held id (pays value) page) (h.zeros ∙ sym (pays-marks cells id value)) in
@@ -149,7 +149,7 @@ module _ {slots : ℕ} (v : TablesView) (held : List (HeldFrame slots)) (pass : 
       let sized = h.sound.sized in
       let blank = h.sound.empty id (omega (arith, top, sized)) g.not_live in
       let zero : (cell_at cells id).strong ≡ 0 = ap (λ (x : StoredCell). x.strong) blank in
-      subst (λ (c : TransactionCall). Answers slots (record v { free = free; locks = locks; transactions = changed_at pass (loaded into (Some id)) v.transactions; references = references }) core held new pass c (reply.Id id) (Some (logs.Make pass id))) (sym w.0)
+      subst (λ (c : TransactionCall). Answers slots v (record v { free = free; locks = locks; transactions = changed_at pass (loaded into (Some id)) v.transactions; references = references }) core held new pass c (reply.Id id) (Some (logs.Make pass id))) (sym w.0)
       (answers-make slots v core held new h locks free references pass into id g.grants.kept g.grants.transaction adds nobody (serves g.grants) g.id_is (λ e. absurd (omega (arith, bottom, e))) removed noted (stored cells agree) (elsewhere-edit cells held id (λ _. blank_cell true slots) page) (h.zeros ∙ sym (make-marks slots cells id zero)))
 
   -- nobody holds what is free

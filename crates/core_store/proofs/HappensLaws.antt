@@ -63,7 +63,7 @@ done_abort s pass reply e none d =
 abbrev pub client_note : Entry → Option CellRecord → ℕ → Note
 client_note entry logged left = record { entry = entry; logged = logged; left = left; act = act.Other }
 
-pub happens-call : (j : JournalView) (v w : TablesView) (held new : List (HeldFrame j.history.slots)) (pass : ℕ) (call : TransactionCall) (reply : Reply) (logged : Option CellRecord) (left : ℕ) → Keeps j v → Answers j.history.slots w (core_of j) held new pass call reply logged
+pub happens-call : (j : JournalView) (v w : TablesView) (held new : List (HeldFrame j.history.slots)) (pass : ℕ) (call : TransactionCall) (reply : Reply) (logged : Option CellRecord) (left : ℕ) → Keeps j v → Answers j.history.slots v w (core_of j) held new pass call reply logged
     → (call ≡ Abort → transaction_of (end_of j.history).state pass ≡ None) → length j.history.entries + 1 + w.owed ≤ j.limits.trace → Happens j w (client_note (Call pass call reply) logged left) (after_event j.history.slots (core_of j) (Call pass call reply) logged)
 happens-call j v w held new pass call reply logged left k a out counted =
     let m = end_of j.history in
@@ -81,13 +81,13 @@ happens-call j v w held new pass call reply logged left k a out counted =
 
 -- ---- the steps of an abort
 
-pub happens-undo : (j : JournalView) (v w : TablesView) (held new : List (HeldFrame j.history.slots)) (pass : ℕ) (logged : CellRecord) (left : ℕ) → Keeps j v → Undoes j.history.slots w (core_of j) held new pass logged
+pub happens-undo : (j : JournalView) (v w : TablesView) (held new : List (HeldFrame j.history.slots)) (pass : ℕ) (logged : CellRecord) (left : ℕ) → Keeps j v → Undoes j.history.slots v w (core_of j) held new pass logged
     → length j.history.entries + 1 + w.owed ≤ j.limits.trace → Happens j w (client_note (Undo pass) (Some logged) left) (after_event j.history.slots (core_of j) (Undo pass) (Some logged))
 happens-undo j v w held new pass logged left k a counted =
     let some = a.some_left in
     record { allowed = (k.running, omega (arith, some)); going = k.running; fits = a.moves.fits; lays = a.moves.lays; after = refl; turns = (tt, refl, refl); stands = a.stands; counted = counted }
 
-pub happens-ended : (j : JournalView) (v w : TablesView) (pass left : ℕ) → Keeps j v → Ended j.history.slots w (core_of j) pass → length j.history.entries + 1 + w.owed ≤ j.limits.trace
+pub happens-ended : (j : JournalView) (v w : TablesView) (pass left : ℕ) → Keeps j v → Ended j.history.slots v w (core_of j) pass → length j.history.entries + 1 + w.owed ≤ j.limits.trace
     → Happens j w (client_note (Call pass Abort Done) (Some (logs.AbortEnd pass)) left) (after_event j.history.slots (core_of j) (Call pass Abort Done) (Some (logs.AbortEnd pass)))
 happens-ended j v w pass left k a counted =
     let m = end_of j.history in

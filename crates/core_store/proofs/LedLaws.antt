@@ -41,7 +41,7 @@ last_left-push notes n = ap (λ (o : Option Note). option_map_or (λ x. x.left) 
 pub left-none : (slots : ℕ) (r : RoundView) → (left_of slots r ≡ 0) ↔ (round_of r ≡ None)
 left-none slots Closed = (λ e. refl, λ e. refl)
 left-none slots (Walking w) = (λ e. absurd (omega (arith, e)), λ e. absurd (cc))
-left-none slots (Sweeping w s slot) = (λ e. absurd (omega (arith, e)), λ e. absurd (cc))
+left-none slots (Sweeping w s slot g) = (λ e. absurd (omega (arith, e)), λ e. absurd (cc))
 
 pub left-told : (slots left : ℕ) (r : RoundView) (round : Option Round) → left ≡ left_of slots r → round_of r ≡ round → (left ≡ 0) ↔ (round ≡ None)
 left-told slots left r round e f = let l = left-none slots r in (λ z. sym f ∙ l.0 (sym e ∙ z), λ z. e ∙ l.1 (f ∙ z))

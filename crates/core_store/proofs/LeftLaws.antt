@@ -1,25 +1,34 @@
 -- How much work is left of a round: each look and each event of it lowers that.
 use Rattle.std.proofs.Common.{◌≡◌, ℕ, suc, ◌+◌, ◌*◌, ◌<◌, ◌≤◌, Bool, true, false, if◌then◌else◌, ◌==◌, List, [], ◌∷◌, length, drop, Option, Some, None, refl, sym, ap, ◌∙◌, subst, arith, inl, inr, ⊎_elim}
-use Rattle.std.specs.Prelude.{◌⊎◌}
+use Rattle.std.specs.Prelude.{◌⊎◌, ◌≢◌}
 use Rattle.std.proofs.Math.Nat.{mul-le-mul_left}
 use Rattle.std.proofs.lemmas.List.{length-drop}
 use Rattle.std.proofs.lemmas.Bool.Decides.{nat_tests}
 use Rattle.store_model.specs.Cells.{Cell}
-use Rattle.red_walk.specs.Walk.{Walk, next, moved, joined_by, copied, work_left}
+use Rattle.red_walk.specs.Walk.{Walk, next, moved, joined_by, copied, removed, work_left}
 use Rattle.red_walk.specs.declared.red_at.RedAt.{RedAt}
 use Rattle.red_walk.specs.declared.red_at.RedAt.TheVariants as red
 use Rattle.red_walk.proofs.WorkLaws.{look-work-law, copy-work-law, join-work-law}
 use Rattle.red_walk.proofs.KeptLaws.{moved-walk-law}
 use Rattle.green_walk.specs.declared.sweep.SweepAt.{SweepAt}
 use Rattle.green_walk.specs.declared.sweep.SweepAt.TheVariants as sweep
+use Rattle.green_walk.specs.declared.sweep.Found.{Found}
 use Rattle.green_walk.specs.declared.sweep.Found.TheVariants.{Nothing, Made}
+use Rattle.green_walk.specs.Judged.{Judged}
 use Rattle.green_walk.specs.Sweeping.{Sweeping as Sweep, first_of, next as next_of_sweep, started, found, found_at, unemptied, unfreed}
+use Rattle.green_walk.specs.Greening.{Greening, IsGreening, IsAnswer, next as next_of_green, found as found_by_green, started as green_started}
+use Rattle.green_walk.specs.GreenLaws.{most_work}
+use Rattle.green_walk.proofs.GreenWork.{found-work, started-work}
 use Rattle.log_record.specs.declared.cell_record.CellRecord.{CellRecord}
 use Rattle.core_store.specs.declared.act.Act.{Act}
 use Rattle.core_store.specs.declared.round_at.RoundAt.{RoundAt}
 use Rattle.core_store.specs.declared.round_at.RoundAt.TheVariants as at
-use Rattle.core_store.specs.RoundView.{RoundView, Closed, Walking, Sweeping, asked, asked_by_walk, asked_by_sweep, is_event, IsLookAt, next_slot, passed, Passes, none, more, Proceeds, skip, start, weaken, scan, judge, cut, free, end, left_of, IsInStep, IsWalking, IsSweeping}
+use Rattle.core_store.specs.RoundView.{RoundView, Closed, Walking, Sweeping, asked, asked_by_walk, asked_by_sweep, asked_by_green, is_event, next_slot, passed, passed_by_green, passed_by_sweep, Passes, none, more, Proceeds, skip, start, weaken, scan, judge, cut, free, flip, into, strengthen, end, left_of, IsInStep, IsWalking, IsGreeningOf, IsSweeping}
 use Rattle.core_store.specs.Collecting.{is_pop}
+use Rattle.core_store.proofs.AskedGreen.{IsAskedBy, asked-by}
+use Rattle.core_store.proofs.AskedLaws.{IsGreenAt}
+use Rattle.core_store.proofs.GreenAsks.{flip-answers, into-answers, strengthen-answers}
+use Rattle.core_store.proofs.GreenLooks.{Looks, green-looks, looks-lower, looks-keep, greens-kept}
 
 -- ---- one object more
 
@@ -51,36 +60,51 @@ found-made s id e = ap (λ a. found_at s a (Made id)) e
 
 -- ---- a sweep goes on at the next slot
 
-pub left-next_slot : (slots : ℕ) (w : Walk) (s : Sweep) (slot id : ℕ) → slot < slots → next_of_sweep s ≡ sweep.Slots id → left_of slots (next_slot slots w s slot) < left_of slots (Sweeping w s slot)
-left-next_slot slots w s slot id within e = by (slot + 1 == slots) refl
+pub left-next_slot : (slots : ℕ) (w : Walk) (s : Sweep) (slot id : ℕ) (g : Greening) → slot < slots → next_of_sweep s ≡ sweep.Slots id → left_of slots (next_slot slots w s slot g) < left_of slots (Sweeping w s slot g)
+left-next_slot slots w s slot id g within e = by (slot + 1 == slots) refl
   where
     rows : slots * length (unemptied s) ≡ slots * length (drop (s.emptied + 1) s.list) + slots
     rows =
         let f = slots-drop (unemptied s) (unfreed s) id e in
         row-more slots (length (unemptied s)) (length (drop (s.emptied + 1) s.list)) (drop-one s.emptied s.list f.0 id f.1).1
 
-    less : left_of slots (Sweeping w (record s { emptied = s.emptied + 1 }) 0) < left_of slots (Sweeping w s slot)
+    less : left_of slots (Sweeping w (record s { emptied = s.emptied + 1 }) 0 g) < left_of slots (Sweeping w s slot g)
     less = omega (arith, rows, within)
 
-    by : (last : Bool) → (slot + 1 == slots) ≡ last → left_of slots (next_slot slots w s slot) < left_of slots (Sweeping w s slot)
-    by true l = rw l (subst (λ (x : Sweep). left_of slots (Sweeping w x 0) < left_of slots (Sweeping w s slot)) (sym (found-nothing s id e)) less)
+    by : (last : Bool) → (slot + 1 == slots) ≡ last → left_of slots (next_slot slots w s slot g) < left_of slots (Sweeping w s slot g)
+    by true l = rw l (subst (λ (x : Sweep). left_of slots (Sweeping w x 0 g) < left_of slots (Sweeping w s slot g)) (sym (found-nothing s id e)) less)
     by false l = rw l (omega (arith, rows, within))
 
-pub in_step-next_slot : (slots ids : ℕ) (w : Walk) (s : Sweep) (slot id : ℕ) → IsSweeping slots ids w s slot → next_of_sweep s ≡ sweep.Slots id → IsInStep slots ids (next_slot slots w s slot)
-in_step-next_slot slots ids w s slot id k e = by (slot + 1 == slots) refl
+-- no test is in hand before the end of the sweep
+not-end : (s : Sweep) (id : ℕ) → next_of_sweep s ≡ sweep.Slots id → next_of_sweep s ≢ sweep.End
+not-end s id e over = absurd (let both : sweep.Slots id ≡ sweep.End = sym e ∙ over in cc)
+
+pub in_step-next_slot : (slots ids : ℕ) (w : Walk) (s : Sweep) (slot id : ℕ) (g : Greening) → IsSweeping slots ids w s slot g → next_of_sweep s ≡ sweep.Slots id → IsInStep slots ids (next_slot slots w s slot g)
+in_step-next_slot slots ids w s slot id g k e = by (slot + 1 == slots) refl
   where
-    after : IsSweeping slots ids w (record s { emptied = s.emptied + 1 }) 0
+    greens : IsGreeningOf slots ids w (record s { emptied = s.emptied + 1 }) g
+    greens = record {
+      greening = k.greens.greening;
+      green_limit = k.greens.green_limit;
+      green_slots = k.greens.green_slots;
+      left = k.greens.left;
+      spared = k.greens.spared;
+      at_rest = λ _. k.greens.at_rest (not-end s id e);
+    }
+
+    after : IsSweeping slots ids w (record s { emptied = s.emptied + 1 }) 0 g
     after = record {
       walk = k.walk;
       limit = k.limit;
       sweep = record { ids = k.sweep.ids; late = λ early. k.sweep.late (omega (arith, early)) };
       sweep_limit = k.sweep_limit;
       within = omega (arith, k.within);
+      greens = greens;
     }
 
-    by : (last : Bool) → (slot + 1 == slots) ≡ last → IsInStep slots ids (next_slot slots w s slot)
-    by true l = rw l (subst (λ (x : Sweep). IsSweeping slots ids w x 0) (sym (found-nothing s id e)) after)
-    by false l = rw l (record { walk = k.walk; limit = k.limit; sweep = k.sweep; sweep_limit = k.sweep_limit; within = grind (arith, nat_tests, l, k.within) })
+    by : (last : Bool) → (slot + 1 == slots) ≡ last → IsInStep slots ids (next_slot slots w s slot g)
+    by true l = rw l (subst (λ (x : Sweep). IsSweeping slots ids w x 0 g) (sym (found-nothing s id e)) after)
+    by false l = rw l (record { walk = k.walk; limit = k.limit; sweep = k.sweep; sweep_limit = k.sweep_limit; within = grind (arith, nat_tests, l, k.within); greens = k.greens })
 
 -- ---- a walk goes on at the next slot
 
@@ -95,64 +119,92 @@ joined-limit w None = refl
 joined-limit w (Some id) = refl
 
 left-walk : (slots : ℕ) (w u : Walk) → u.limit ≡ w.limit → work_left slots u < work_left slots w → left_of slots (Walking u) < left_of slots (Walking w)
-left-walk slots w u e l = let same = ap (λ n. (slots + 1) * n) e in omega (arith, same, l)
+left-walk slots w u e l = let same = ap (λ (n : ℕ). (slots + 1) * n + most_work slots n) e in omega (arith, same, l)
 
-look-asked : (r : RedAt) → IsLookAt (asked_by_walk r) → (id : ℕ) × (slot : ℕ) × (r ≡ red.Look id slot)
-look-asked (red.Look id slot) h = (id, slot, refl)
-look-asked (red.Copy id) h = absurd h
-look-asked red.Verdict h = absurd h
+-- ---- a look at which there is nothing to do
 
-pub slots-asked : (slot : ℕ) (a : SweepAt) → IsLookAt (asked_by_sweep slot a) → (id : ℕ) × (a ≡ sweep.Slots id)
-slots-asked slot (sweep.Slots id) h = (id, refl)
-slots-asked slot (sweep.Free id) h = absurd h
-slots-asked slot sweep.End h = absurd h
+-- behind the sweep it is one of the green walk
+module _ (slots ids : ℕ) (cells : List Cell) (w : Walk) (s : Sweep) (slot : ℕ) (g : Greening) (k : IsSweeping slots ids w s slot g) (rest : next_of_sweep s ≡ sweep.End) (idle : is_event cells (asked_by_green g.slots g.test (next_of_green g)) ≡ false) where
+  abbrev behind : Greening
+  behind = passed_by_green cells g (asked_by_green g.slots g.test (next_of_green g))
+
+  looks : Looks cells g behind
+  looks = green-looks cells g k.greens.greening (asked_by_green g.slots g.test (next_of_green g)) (asked-by g.slots g.test (next_of_green g)) idle
+
+  left-green : left_of slots (Sweeping w s slot behind) < left_of slots (Sweeping w s slot g)
+  left-green = let less = looks-lower cells g behind k.greens.greening looks in omega (arith, less)
+
+  in_step-green : IsSweeping slots ids w s slot behind
+  in_step-green =
+      let kept = looks-keep cells g behind k.greens.greening looks in
+      record { walk = k.walk; limit = k.limit; sweep = k.sweep; sweep_limit = k.sweep_limit; within = k.within; greens = greens-kept slots ids w s g behind k.greens rest kept.0 kept.1 }
+
+look-asked : (cells : List Cell) (r : RedAt) → is_event cells (asked_by_walk r) ≡ false → (id : ℕ) × (slot : ℕ) × (r ≡ red.Look id slot)
+look-asked cells (red.Look id slot) h = (id, slot, refl)
+look-asked cells (red.Copy id) h = absurd (cc)
+look-asked cells red.Verdict h = absurd (cc)
 
 -- a look at which there is nothing to do lowers what is left, and keeps the round in step
-pub left-passed : (slots ids : ℕ) (r : RoundView) → IsInStep slots ids r → IsLookAt (asked r) → left_of slots (passed slots r) < left_of slots r
-left-passed slots ids Closed k h = absurd h
-left-passed slots ids (Walking w) k h = let l = look-asked (next w) h in left-walk slots w (moved slots w) (moved-limit slots w) (look-work-law slots w l.0 l.1 k.walk l.2)
-left-passed slots ids (Sweeping w s slot) k h = let l = slots-asked slot (next_of_sweep s) h in left-next_slot slots w s slot l.0 k.within l.1
+module _ (slots ids : ℕ) (cells : List Cell) where
+  left-swept : (w : Walk) (s : Sweep) (slot : ℕ) (g : Greening) (a : SweepAt) → next_of_sweep s ≡ a → IsSweeping slots ids w s slot g → is_event cells (asked_by_sweep slot g a) ≡ false → left_of slots (passed_by_sweep slots cells w s slot g a) < left_of slots (Sweeping w s slot g)
+  left-swept w s slot g (sweep.Slots id) e k h = left-next_slot slots w s slot id g k.within e
+  left-swept w s slot g (sweep.Free id) e k h = absurd (cc)
+  left-swept w s slot g sweep.End e k h = left-green slots ids cells w s slot g k e h
 
-pub in_step-passed : (slots ids : ℕ) (r : RoundView) → IsInStep slots ids r → IsLookAt (asked r) → IsInStep slots ids (passed slots r)
-in_step-passed slots ids Closed k h = absurd h
-in_step-passed slots ids (Walking w) k h = record { walk = moved-walk-law slots w k.walk; limit = moved-limit slots w ∙ k.limit; whole = moved-whole slots w k.whole }
-in_step-passed slots ids (Sweeping w s slot) k h = let l = slots-asked slot (next_of_sweep s) h in in_step-next_slot slots ids w s slot l.0 k l.1
+  in_step-swept : (w : Walk) (s : Sweep) (slot : ℕ) (g : Greening) (a : SweepAt) → next_of_sweep s ≡ a → IsSweeping slots ids w s slot g → is_event cells (asked_by_sweep slot g a) ≡ false → IsInStep slots ids (passed_by_sweep slots cells w s slot g a)
+  in_step-swept w s slot g (sweep.Slots id) e k h = in_step-next_slot slots ids w s slot id g k e
+  in_step-swept w s slot g (sweep.Free id) e k h = absurd (cc)
+  in_step-swept w s slot g sweep.End e k h = in_step-green slots ids cells w s slot g k e h
 
--- only at a look is there nothing to do
-pub look-idle : (cells : List Cell) (a : RoundAt) → is_event cells a ≡ false → IsLookAt a
-look-idle cells at.Queue e = absurd (cc)
-look-idle cells (at.Look id slot) e = tt
-look-idle cells (at.Copy id) e = absurd (cc)
-look-idle cells at.Judge e = absurd (cc)
-look-idle cells (at.Cut id slot) e = tt
-look-idle cells (at.Free id) e = absurd (cc)
-look-idle cells at.End e = absurd (cc)
+  pub left-passed : (r : RoundView) → IsInStep slots ids r → is_event cells (asked r) ≡ false → left_of slots (passed slots cells r) < left_of slots r
+  left-passed Closed k h = absurd (cc)
+  left-passed (Walking w) k h = let l = look-asked cells (next w) h in left-walk slots w (moved slots w) (moved-limit slots w) (look-work-law slots w l.0 l.1 k.walk l.2)
+  left-passed (Sweeping w s slot g) k h = left-swept w s slot g (next_of_sweep s) refl k h
 
-pub in_step-passes : (slots ids : ℕ) (cells : List Cell) (u v : RoundView) → IsInStep slots ids u → Passes slots cells u v → IsInStep slots ids v
-in_step-passes slots ids cells u _ k none = k
-in_step-passes slots ids cells u _ k (more v before idle) = in_step-passed slots ids v (in_step-passes slots ids cells u v k before) (look-idle cells (asked v) idle)
+  pub in_step-passed : (r : RoundView) → IsInStep slots ids r → is_event cells (asked r) ≡ false → IsInStep slots ids (passed slots cells r)
+  in_step-passed Closed k h = absurd (cc)
+  in_step-passed (Walking w) k h = record { walk = moved-walk-law slots w k.walk; limit = moved-limit slots w ∙ k.limit; whole = moved-whole slots w k.whole }
+  in_step-passed (Sweeping w s slot g) k h = in_step-swept w s slot g (next_of_sweep s) refl k h
 
--- looks at which there was nothing to do: none, or what is left is lower
-pub left-passes : (slots ids : ℕ) (cells : List Cell) (u v : RoundView) → IsInStep slots ids u → Passes slots cells u v → (v ≡ u) ⊎ (left_of slots v < left_of slots u)
-left-passes slots ids cells u _ k none = inl refl
-left-passes slots ids cells u _ k (more v before idle) =
-    let less = left-passed slots ids v (in_step-passes slots ids cells u v k before) (look-idle cells (asked v) idle) in
-    inr (⊎_elim (λ (same : v ≡ u). subst (λ x. left_of slots (passed slots v) < left_of slots x) same less) (λ l. omega (arith, less, l)) (left-passes slots ids cells u v k before))
+  pub in_step-passes : (u v : RoundView) → IsInStep slots ids u → Passes slots cells u v → IsInStep slots ids v
+  in_step-passes u _ k none = k
+  in_step-passes u _ k (more v before idle) = in_step-passed v (in_step-passes u v k before) idle
+
+  -- looks at which there was nothing to do: none, or what is left is lower
+  pub left-passes : (u v : RoundView) → IsInStep slots ids u → Passes slots cells u v → (v ≡ u) ⊎ (left_of slots v < left_of slots u)
+  left-passes u _ k none = inl refl
+  left-passes u _ k (more v before idle) =
+      let less = left-passed v (in_step-passes u v k before) idle in
+      inr (⊎_elim (λ (same : v ≡ u). subst (λ x. left_of slots (passed slots cells v) < left_of slots x) same less) (λ l. omega (arith, less, l)) (left-passes u v k before))
 
 -- ---- events
 
-left-judged : (slots ids : ℕ) (w : Walk) (condemned : List ℕ) → IsWalking slots ids w → IsSweeping slots ids w (started condemned ids) 0 → left_of slots (Sweeping w (started condemned ids) 0) < left_of slots (Walking w)
-left-judged slots ids w condemned k l =
-    let most : length condemned ≤ w.limit = subst (λ n. length condemned ≤ n) (sym k.limit) l.sweep.ids.most in
+left-judged : (slots ids : ℕ) (w : Walk) (j : Judged) → IsWalking slots ids w → IsSweeping slots ids w (started j.condemned ids) 0 (green_started slots j w) → left_of slots (Sweeping w (started j.condemned ids) 0 (green_started slots j w)) < left_of slots (Walking w)
+left-judged slots ids w j k l =
+    let most : length j.condemned ≤ w.limit = subst (λ n. length j.condemned ≤ n) (sym k.limit) l.sweep.ids.most in
     let less = mul-le-mul_left (slots + 1) most in
-    let split : (slots + 1) * length condemned ≡ slots * length condemned + length condemned = grind arith in
-    omega (arith, less, split)
+    let split : (slots + 1) * length j.condemned ≡ slots * length j.condemned + length j.condemned = grind arith in
+    let green_few = started-work slots j w l.greens.greening in
+    omega (arith, less, split, green_few)
 
-left-freed : (slots : ℕ) (w : Walk) (s : Sweep) (slot id : ℕ) → next_of_sweep s ≡ sweep.Free id → left_of slots (Sweeping w (found s (Made id)) slot) < left_of slots (Sweeping w s slot)
-left-freed slots w s slot id e =
+left-freed : (slots : ℕ) (w u : Walk) (s : Sweep) (slot id : ℕ) (g : Greening) → next_of_sweep s ≡ sweep.Free id → left_of slots (Sweeping u (found s (Made id)) slot g) < left_of slots (Sweeping w s slot g)
+left-freed slots w u s slot id g e =
     let f = free-drop (unemptied s) (unfreed s) id e in
     let d = (drop-one s.freed s.list f.1 id f.2).1 in
-    subst (λ (x : Sweep). left_of slots (Sweeping w x slot) < left_of slots (Sweeping w s slot)) (sym (found-made s id e)) (omega (arith, d))
+    subst (λ (x : Sweep). left_of slots (Sweeping u x slot g) < left_of slots (Sweeping w s slot g)) (sym (found-made s id e)) (omega (arith, d))
+
+-- an event of the green walk
+left-found : (slots : ℕ) (w : Walk) (s : Sweep) (slot : ℕ) (g : Greening) (what : Found) → IsGreening g → IsAnswer g (next_of_green g) what → left_of slots (Sweeping w s slot (found_by_green g what)) < left_of slots (Sweeping w s slot g)
+left-found slots w s slot g what k a = let less = found-work g what k a in omega (arith, less)
+
+asks-at : (slot : ℕ) (g : Greening) (n : SweepAt) (a : RoundAt) → asked_by_sweep slot g n ≡ a → IsGreenAt a → IsAskedBy g.slots g.test (next_of_green g) a
+asks-at slot g (sweep.Slots id) a e of = absurd (subst IsGreenAt (sym e) of)
+asks-at slot g (sweep.Free id) a e of = absurd (subst IsGreenAt (sym e) of)
+asks-at slot g sweep.End a e of = subst (IsAskedBy g.slots g.test (next_of_green g)) e (asked-by g.slots g.test (next_of_green g))
+
+-- the green walk asked for it
+asks : (w : Walk) (s : Sweep) (slot : ℕ) (g : Greening) (a : RoundAt) → asked (Sweeping w s slot g) ≡ a → IsGreenAt a → IsAskedBy g.slots g.test (next_of_green g) a
+asks w s slot g a e of = asks-at slot g (next_of_sweep s) a e of
 
 -- each event of a round lowers what is left
 pub left-proceeds : (slots ids : ℕ) (r q : RoundView) (a : Act) (logged : Option CellRecord) → IsInStep slots ids r → IsInStep slots ids q → Proceeds slots ids r a logged q → is_pop a ≡ false → left_of slots q < left_of slots r
@@ -163,7 +215,10 @@ left-proceeds slots ids _ _ _ _ k l (weaken w id slot target joins at) e =
     let less = look-work-law slots w id slot k.walk at in
     left-walk slots w (joined_by (moved slots w) joins) (joined-limit (moved slots w) joins ∙ moved-limit slots w) (omega (arith, same, less))
 left-proceeds slots ids _ _ _ _ k l (scan w id copy at) e = left-walk slots w (copied w id copy) refl (copy-work-law slots w id copy k.walk at)
-left-proceeds slots ids _ _ _ _ k l (judge w condemned at) e = left-judged slots ids w condemned k l
-left-proceeds slots ids _ _ _ _ k l (cut w s slot id target strong at) e = left-next_slot slots w s slot id k.within at
-left-proceeds slots ids _ _ _ _ k l (free w s slot id at) e = left-freed slots w s slot id at
-left-proceeds slots ids _ _ _ _ k l (end w s slot at) e = omega arith
+left-proceeds slots ids _ _ _ _ k l (judge w j at) e = left-judged slots ids w j k l
+left-proceeds slots ids _ _ _ _ k l (cut w s slot id target strong g at) e = left-next_slot slots w s slot id g k.within at
+left-proceeds slots ids _ _ _ _ k l (free w s slot id g at) e = left-freed slots w (removed w id) s slot id g at
+left-proceeds slots ids _ _ _ _ k l (flip w s slot id g a) e = left-found slots w s slot g (Made id) k.greens.greening (flip-answers g k.greens.greening id (asks w s slot g (at.Flip id) a tt))
+left-proceeds slots ids _ _ _ _ k l (into w s slot «from» i to g a) e = left-found slots w s slot g (Made «from») k.greens.greening (into-answers g k.greens.greening «from» i to (asks w s slot g (at.Into «from» i to) a tt))
+left-proceeds slots ids _ _ _ _ k l (strengthen w s slot «from» i to g a) e = left-found slots w s slot g (Made to) k.greens.greening (strengthen-answers g k.greens.greening «from» i to (asks w s slot g (at.Strengthen «from» i to) a tt))
+left-proceeds slots ids _ _ _ _ k l (end w s slot g at) e = omega arith

@@ -1,5 +1,5 @@
 -- A transaction makes an object.
-use Rattle.std.proofs.Common.{◌≡◌, ◌≢◌, ℕ, ◌+◌, ◌<◌, List, [], ◌∷◌, ◌++◌, Bool, true, false, cond, refl, sym, ap, ◌∙◌, subst, Option, Some, arith, ⊎_elim, length, map, zero, suc, get_or, replicate}
+use Rattle.std.proofs.Common.{◌≡◌, ◌≢◌, ℕ, ◌+◌, ◌<◌, List, [], ◌∷◌, ◌++◌, Bool, true, false, cond, refl, sym, ap, ◌∙◌, subst, Option, Some, arith, ⊎_elim, length, map}
 use Rattle.std.specs.Prelude.{◌==◌, ◌&&◌, ◌||◌, not, nat_lt, nat_le, count_by, slice_set, unwrap_or}
 use Rattle.std.specs.List.{list_any}
 use Rattle.std.specs.Ordering.{nat_cmp}
@@ -20,7 +20,7 @@ use Rattle.core_store.proofs.LayLaws.{CanLay-later}
 use Rattle.plain_laws.proofs.Locks.{transaction_of-with_same, transaction_of-with_other, stored-insert}
 use Rattle.strict_locks.specs.Locks.{Table, holders_of, StandsInWayOfOwn, Nobody, AddsOwner}
 use Rattle.log_record.specs.declared.cell_record.CellRecord.TheVariants as logs
-use Rattle.store_model.specs.Cells.{Cell, edit, blank_cell, is_live, null, pointer_in, pointer_at}
+use Rattle.store_model.specs.Cells.{Cell, cell_at, edit, blank_cell, is_live, pointer_in}
 use Rattle.store_model.specs.Core.{Core, Made}
 use Rattle.store_model.specs.Sound.{IsSound}
 use Rattle.store_model.proofs.CallLaws.{call-granted}
@@ -40,7 +40,7 @@ use Rattle.core_store.proofs.StepLaws.{Serves, logged-granted, after-granted}
 use Rattle.core_store.proofs.MapLaws.{puts-changed}
 use Rattle.core_store.proofs.NameLaws.{named_more, named_more-same, named_by-noted}
 use Rattle.core_store.proofs.OwedSteps.{owed-changed}
-use Rattle.core_store.proofs.RestLaws.{HasRest-with, round-same, sound-untouched}
+use Rattle.core_store.proofs.RestLaws.{HasRest-with, HasSameLinks, round-same, sound-untouched}
 use Rattle.core_store.proofs.ReplacedLaws.{replaced-push, replaced_by-whole, count-push}
 
 shift : (a p q r : Bool) → (not a && ((p && q) && not r)) ≡ ((p && q) && not (a || r))
@@ -77,27 +77,26 @@ alive-made cells id slots x e =
     (λ (d : x ≢ id). ap (λ (c : Cell). c.live) (edit-other cells id x (λ _. blank_cell true slots) d) ∙ e)
     (same_or_apart x id)
 
--- the slots of a cell that is made are null, and the others stay
-null-made : (cells : List Cell) (id slots x k : ℕ) → (pointer_at cells x k).target ≡ 0 → (pointer_at (edit cells id (λ _. blank_cell true slots)) x k).target ≡ 0
-null-made cells id slots x k e =
-    ⊎_elim
-    (λ (a : x ≡ id). ⊎_elim
-    (λ (b : (id ≢ 0) × (id < length cells)). subst (λ y. (pointer_at (edit cells id (λ _. blank_cell true slots)) y k).target ≡ 0) (sym a) (ap (λ (c : Cell). (pointer_in c k).target) (edit-here cells id (λ _. blank_cell true slots) b.0 b.1) ∙ nulls slots k))
-    (λ b. ap (λ (cs : List Cell). (pointer_at cs x k).target) (edit-none cells id (λ _. blank_cell true slots) b) ∙ e)
-    (there cells id))
-    (λ (d : x ≢ id). ap (λ (c : Cell). (pointer_in c k).target) (edit-other cells id x (λ _. blank_cell true slots) d) ∙ e)
-    (same_or_apart x id)
+-- a cell that is made was free and blank: it becomes live, and all else stays
+links-made : (cells : List Cell) (id slots : ℕ) → id ≢ 0 → id < length cells → cell_at cells id ≡ blank_cell false slots → HasSameLinks cells (edit cells id (λ _. blank_cell true slots))
+links-made cells id slots some within free = record {
+  pointers = λ x k. kept (λ (c : Cell). pointer_in c k) refl x;
+  bits = kept (λ (c : Cell). c.bit) refl;
+  strong = kept (λ (c : Cell). c.strong) refl;
+}
   where
-    nulls : (n k : ℕ) → (get_or (replicate n null) k null).target ≡ 0
-    nulls zero k = refl
-    nulls (suc n) zero = refl
-    nulls (suc n) (suc k) = nulls n k
+    kept : {X : Type 0} (f : Cell → X) → f (blank_cell true slots) ≡ f (blank_cell false slots) → (x : ℕ) → f (cell_at (edit cells id (λ _. blank_cell true slots)) x) ≡ f (cell_at cells x)
+    kept f alike x =
+        ⊎_elim
+        (λ (e : x ≡ id). subst (λ y. f (cell_at (edit cells id (λ _. blank_cell true slots)) y) ≡ f (cell_at cells y)) (sym e) (ap f (edit-here cells id (λ _. blank_cell true slots) some within) ∙ (alike ∙ ap f (sym free))))
+        (λ (d : x ≢ id). ap f (edit-other cells id x (λ _. blank_cell true slots) d))
+        (same_or_apart x id)
 
 pub answers-make : (slots : ℕ) (v : TablesView) (c : Core) (held new : List (HeldFrame slots)) (h : Stands slots v c) (locks : Table) (free : List ℕ) (references : ℕ → List ℕ) (pass into id : ℕ) (kept : Running) (t : ActiveTransaction)
     → AddsOwner v.locks locks pass id → Nobody (StandsInWayOfOwn (holders_of v.locks id) pass) → Serves slots v c.moment pass (Make into) kept t → unwrap_or (free_id c.moment.state) 0 ≡ id → id ≢ 0
     → ((k : ℕ) → list_any (is_at (nat_cmp k)) free ≡ (not (k == id) && list_any (is_at (nat_cmp k)) v.free)) → ((p : ℕ) → references p ≡ named_more v.references pass id p)
     → Agree (edit c.cells id (λ _. blank_cell true slots)) new → IsSameElsewhere c.cells (edit c.cells id (λ _. blank_cell true slots)) held → v.zeros ≡ map has_no_strong (edit c.cells id (λ _. blank_cell true slots))
-    → Answers slots (record v { free = free; locks = locks; transactions = changed_at pass (loaded into (Some id)) v.transactions; references = references }) c held new pass (Make into) (Id id) (Some (logs.Make pass id))
+    → Answers slots v (record v { free = free; locks = locks; transactions = changed_at pass (loaded into (Some id)) v.transactions; references = references }) c held new pass (Make into) (Id id) (Some (logs.Make pass id))
 answers-make slots v c held new h locks free references pass into id kept t adds nobody s is some removed noted agree elsewhere marked =
     let w : TablesView = record v { free = free; locks = locks; transactions = changed_at pass (loaded into (Some id)) v.transactions; references = references } in
     let u = with_register into (Some id) (with_write id Whole 0 (with_owned id t)) in
@@ -107,6 +106,7 @@ answers-make slots v c held new h locks free references pass into id kept t adds
     let put = puts-changed pass (loaded into (Some id)) kept v.transactions s.here in
     let locked = Locked-own slots v c h pass t u s.found locks id adds nobody refl refl in
     let sound = make-call c h.sound pass t s.found into s.granted (Id id) in
+    let fits = subst (λ (k : ℕ). Rattle.store_model.specs.Records.Fits c.cells (Rattle.store_model.specs.Records.Make pass k)) is sound.0 in
     let later = edit c.cells id (λ _. blank_cell true slots) in
     let state : (next m (Call pass (Make into) (Id id))).state ≡ made m.state pass t into id =
     after-granted m pass (Make into) (Id id) t s.found s.granted ∙ ap (λ (k : ℕ). made m.state pass t into k) is in
@@ -119,7 +119,7 @@ answers-make slots v c held new h locks free references pass into id kept t adds
       machine = sym (ap (λ (y : Reply × State). y.0) (call-granted m.state pass t (Make into) s.found s.granted) ∙ ap Id is);
       record_is = ap (λ (k : ℕ). Some (logs.Make pass k)) (sym is) ∙ sym (logged-granted m.state c.cells pass (Make into) t s.found s.granted);
       moves = record {
-        fits = subst (λ (k : ℕ). Rattle.store_model.specs.Records.Fits c.cells (Rattle.store_model.specs.Records.Make pass k)) is sound.0;
+        fits = fits;
         lays = tt;
         agree = agree;
         elsewhere = elsewhere;
@@ -146,7 +146,8 @@ answers-make slots v c held new h locks free references pass into id kept t adds
           (HasRest-with slots v w c d h refl refl refl refl (round-same c.round)
           (owed-changed slots c d (made m.state pass t into id) pass (loaded into (Some id) kept) u h.sound all_sound state refl here others (λ q n. refl) runs kept t s.found s.runs v.owed v.owed h.owed refl)
           (λ p. noted p ∙ (named_more-same v.references (named_by c.refs) pass id p (h.references p) ∙ sym (named_by-noted c.refs (record { pass = pass; target = id; kind = Made }) p some)))
-          (null-made c.cells id slots));
+          (links-made c.cells id slots some fits.1 (subst (λ (n : ℕ). cell_at c.cells id ≡ blank_cell false n) h.slots_are (h.sound.empty id fits.1 fits.2))));
+      round = refl;
     }
 
 -- what std says of a key that is removed

@@ -1,34 +1,37 @@
 -- The collector looks at a slot, at which there is nothing to do, and goes on.
-use Rattle.std.proofs.Common.{◌≡◌, ℕ, ◌+◌, ◌<◌, ◌≤◌, List, length, get_or, drop, Bool, true, false, not, Some, refl, sym, ap, ◌∙◌, subst, arith, ⊎_elim}
+use Rattle.std.proofs.Common.{◌≡◌, ℕ, ◌+◌, ◌<◌, ◌≤◌, List, length, get_or, drop, Bool, true, false, not, Some, refl, sym, ap, ◌∙◌, subst, arith, IfSome, ⊎_elim}
 use Rattle.std.specs.Prelude.{◌==◌, if◌then◌else◌, slice_index}
 use Rattle.std.proofs.lemmas.Bool.{eqb-true, cases_lt}
 use Rattle.std.proofs.lemmas.List.{get_or_past, get_or-drop}
 use Rattle.store_model.specs.Cells.{Cell, Pointer, null, cell_at, pointer_at}
 use Rattle.store_model.specs.Core.{Round, Core}
 use Rattle.red_walk.specs.Walk.{Walk}
+use Rattle.green_walk.specs.declared.sweep.SweepAt.{SweepAt}
 use Rattle.green_walk.specs.declared.sweep.SweepAt.TheVariants as sweep
 use Rattle.green_walk.specs.declared.sweep.Found.TheVariants.{Nothing}
 use Rattle.green_walk.specs.Sweeping.{Sweeping as Sweep, next as next_of_sweep, found}
+use Rattle.green_walk.specs.Greening.{Greening, next as next_of_green}
 use Rattle.core_store.specs.declared.three.HeldFrame.{HeldFrame}
 use Rattle.core_store.specs.Frames.{Agree}
 use Rattle.core_store.specs.declared.round_at.RoundAt.{RoundAt}
 use Rattle.core_store.specs.declared.round_at.RoundAt.TheVariants as at
-use Rattle.core_store.specs.RoundView.{RoundView, Closed, Walking, Sweeping, round_of, asked, asked_by_sweep, is_event, IsLookAt, next_slot, passed, Passes, none, more}
+use Rattle.core_store.specs.RoundView.{RoundView, Closed, Walking, Sweeping, round_of, asked, asked_by_sweep, asked_by_green, is_event, next_slot, passed, passed_by_sweep, passed_by_green, IsInStep, IsSweeping, Passes, none, more}
 use Rattle.core_store.specs.Tables.{TablesView}
-use Rattle.core_store.specs.Stands.{IsEmptied, Stands}
-use Rattle.core_store.proofs.CollectedLaws.{Stands-collected}
-use Rattle.core_store.proofs.LeftLaws.{found-nothing, slots-drop, drop-one, slots-asked, in_step-passed}
+use Rattle.core_store.specs.Stands.{IsEmptied, IsTestedIn, IsTested, Stands}
+use Rattle.core_store.proofs.AskedGreen.{asked-by}
+use Rattle.core_store.proofs.GreenLooks.{green-looks, looks-tested}
+use Rattle.core_store.proofs.LeftLaws.{found-nothing, slots-drop, drop-one, in_step-passed}
 use Rattle.core_store.proofs.ReadyRound.{IsThere, asked-there}
 use Rattle.core_store.proofs.WeakenRound.{moved-same}
 
 -- ---- the next slot of a sweep
 
 -- nothing is freed by it
-pub round-next_slot : (slots : ℕ) (w : Walk) (s : Sweep) (slot id : ℕ) → next_of_sweep s ≡ sweep.Slots id → round_of (next_slot slots w s slot) ≡ round_of (Sweeping w s slot)
-round-next_slot slots w s slot id e = by (slot + 1 == slots)
+pub round-next_slot : (slots : ℕ) (w : Walk) (s : Sweep) (slot : ℕ) (g : Greening) (id : ℕ) → next_of_sweep s ≡ sweep.Slots id → round_of (next_slot slots w s slot g) ≡ round_of (Sweeping w s slot g)
+round-next_slot slots w s slot g id e = by (slot + 1 == slots)
   where
-    by : (b : Bool) → round_of (if b then Sweeping w (found s Nothing) 0 else Sweeping w s (slot + 1)) ≡ round_of (Sweeping w s slot)
-    by true = ap (λ (x : Sweep). round_of (Sweeping w x 0)) (found-nothing s id e)
+    by : (b : Bool) → round_of (if b then Sweeping w (found s Nothing) 0 g else Sweeping w s (slot + 1) g) ≡ round_of (Sweeping w s slot g)
+    by true = ap (λ (x : Sweep). round_of (Sweeping w x 0 g)) (found-nothing s id e)
     by false = refl
 
 -- the object in hand stands behind those that were emptied
@@ -40,7 +43,7 @@ slots-at s id e =
     )
 
 -- the slots that were passed stay null, and so is the one that was looked at
-module _ (slots : ℕ) (cells : List Cell) (w : Walk) (s : Sweep) (slot id : ℕ) (e : next_of_sweep s ≡ sweep.Slots id) (long : length (cell_at cells id).pointers ≡ slots) (none : (pointer_at cells id slot).target ≡ 0) (emptied : IsEmptied cells (Sweeping w s slot)) where
+module _ (slots : ℕ) (cells : List Cell) (w : Walk) (s : Sweep) (slot : ℕ) (g : Greening) (id : ℕ) (e : next_of_sweep s ≡ sweep.Slots id) (long : length (cell_at cells id).pointers ≡ slots) (none : (pointer_at cells id slot).target ≡ 0) (emptied : IsEmptied cells (Sweeping w s slot g)) where
   here : slice_index s.list s.emptied ≡ id
   here = (slots-at s id e).1
 
@@ -69,26 +72,24 @@ module _ (slots : ℕ) (cells : List Cell) (w : Walk) (s : Sweep) (slot id : ℕ
       subst (λ (x : ℕ). (pointer_at cells x k).target ≡ 0) (sym here ∙ ap (slice_index s.list) same) (slot-all last k))
       (cases_lt place s.emptied)
 
-  pub IsEmptied-next_slot : IsEmptied cells (next_slot slots w s slot)
+  pub IsEmptied-next_slot : IsEmptied cells (next_slot slots w s slot g)
   IsEmptied-next_slot = by (slot + 1 == slots) refl
     where
-      by : (b : Bool) → (slot + 1 == slots) ≡ b → IsEmptied cells (if b then Sweeping w (found s Nothing) 0 else Sweeping w s (slot + 1))
+      by : (b : Bool) → (slot + 1 == slots) ≡ b → IsEmptied cells (if b then Sweeping w (found s Nothing) 0 g else Sweeping w s (slot + 1) g)
       by true l =
           let last = eqb-true (slot + 1) slots l in
-          subst (λ (x : Sweep). IsEmptied cells (Sweeping w x 0)) (sym (found-nothing s id e)) (λ place k a b c. place-more last place k a b c, λ k a b. absurd (omega (arith, b)))
+          subst (λ (x : Sweep). IsEmptied cells (Sweeping w x 0 g)) (sym (found-nothing s id e)) (λ place k a b c. place-more last place k a b c, λ k a b. absurd (omega (arith, b)))
       by false l = (emptied.0, λ k a b. subst (λ (x : ℕ). (pointer_at cells x k).target ≡ 0) (sym here) (slot-more k b))
 
--- ---- a look
+-- a test is as it was
+tested-next_slot : (slots : ℕ) (cells : List Cell) (w : Walk) (s : Sweep) (slot : ℕ) (g : Greening) → IfSome g.test (IsTestedIn cells g) → IsTested cells (next_slot slots w s slot g)
+tested-next_slot slots cells w s slot g t = by (slot + 1 == slots)
+  where
+    by : (b : Bool) → IsTested cells (if b then Sweeping w (found s Nothing) 0 g else Sweeping w s (slot + 1) g)
+    by true = t
+    by false = t
 
--- where there is nothing to do, it is a look
-pub look-of : (cells : List Cell) (a : RoundAt) → is_event cells a ≡ false → IsLookAt a
-look-of cells (at.Look id slot) e = tt
-look-of cells (at.Cut id slot) e = tt
-look-of cells (at.Copy id) e = absurd (cc)
-look-of cells (at.Free id) e = absurd (cc)
-look-of cells at.Queue e = absurd (cc)
-look-of cells at.Judge e = absurd (cc)
-look-of cells at.End e = absurd (cc)
+-- ---- a look
 
 null-at : (n : ℕ) → not (n == 0) ≡ false → n ≡ 0
 null-at n e = by (n == 0) refl
@@ -97,32 +98,62 @@ null-at n e = by (n == 0) refl
     by true l = eqb-true n 0 l
     by false l = absurd (let some : not (n == 0) ≡ true = rw l refl in cc)
 
--- behind it the round is the same one
-round-passed : (slots : ℕ) (r : RoundView) → IsLookAt (asked r) → round_of (passed slots r) ≡ round_of r
-round-passed slots Closed l = refl
-round-passed slots (Walking w) l = ap (λ (r : Round). Some r) (moved-same slots w)
-round-passed slots (Sweeping w s slot) l = let a = slots-asked slot (next_of_sweep s) l in round-next_slot slots w s slot a.0 a.1
+-- what a look leaves of the round of a journal
+pub record IsLooked (cells : List Cell) (r q : RoundView) : Type 0 where
+  pub round : round_of q ≡ round_of r
+  pub emptied : IsEmptied cells q
+  pub tested : IsTested cells q
 
 module _ (slots : ℕ) (v : TablesView) (c : Core) (h : Stands slots v c) (nothing : is_event c.cells (asked v.round) ≡ false) where
-  look : IsLookAt (asked v.round)
-  look = look-of c.cells (asked v.round) nothing
-
-  emptied-passed : (r : RoundView) → v.round ≡ r → IsEmptied c.cells (passed slots r)
-  emptied-passed Closed e = tt
-  emptied-passed (Walking w) e = tt
-  emptied-passed (Sweeping w s slot) e =
-      let at_slots = slots-asked slot (next_of_sweep s) (subst (λ (r : RoundView). IsLookAt (asked r)) e look) in
-      let id = at_slots.0 in
-      let is : asked v.round ≡ at.Cut id slot = ap asked e ∙ ap (asked_by_sweep slot) at_slots.1 in
+  looked-swept : (w : Walk) (s : Sweep) (slot : ℕ) (g : Greening) → v.round ≡ Sweeping w s slot g → (a : SweepAt) → next_of_sweep s ≡ a → IsLooked c.cells (Sweeping w s slot g) (passed_by_sweep slots c.cells w s slot g a)
+  looked-swept w s slot g e (sweep.Slots id) n =
+      let is : asked v.round ≡ at.Cut id slot = ap asked e ∙ ap (asked_by_sweep slot g) n in
       let there = subst (IsThere slots c.cells) is (asked-there h) in
-      IsEmptied-next_slot slots c.cells w s slot id at_slots.1 (h.sound.slotted id there.0 ∙ h.slots_are)
-      (null-at (pointer_at c.cells id slot).target (subst (λ (a : RoundAt). is_event c.cells a ≡ false) is nothing)) (subst (IsEmptied c.cells) e h.emptied)
+      record {
+        round = round-next_slot slots w s slot g id n;
+        emptied = IsEmptied-next_slot slots c.cells w s slot g id n (h.sound.slotted id there.0 ∙ h.slots_are)
+            (null-at (pointer_at c.cells id slot).target (subst (λ (a : RoundAt). is_event c.cells a ≡ false) is nothing)) (subst (IsEmptied c.cells) e h.emptied);
+        tested = tested-next_slot slots c.cells w s slot g (subst (IsTested c.cells) e h.tested);
+      }
+  looked-swept w s slot g e (sweep.Free id) n = absurd (let is : asked v.round ≡ at.Free id = ap asked e ∙ ap (asked_by_sweep slot g) n in let no = subst (λ (a : RoundAt). is_event c.cells a ≡ false) is nothing in cc)
+  looked-swept w s slot g e sweep.End n =
+      let by_green = asked_by_green g.slots g.test (next_of_green g) in
+      let is : asked v.round ≡ by_green = ap asked e ∙ ap (asked_by_sweep slot g) n in
+      let k : IsSweeping slots v.ids w s slot g = subst (IsInStep slots v.ids) e h.in_step in
+      let looks = green-looks c.cells g k.greens.greening by_green (asked-by g.slots g.test (next_of_green g)) (subst (λ (a : RoundAt). is_event c.cells a ≡ false) is nothing) in
+      record {
+        round = refl;
+        emptied = subst (IsEmptied c.cells) e h.emptied;
+        tested = looks-tested c.cells g (passed_by_green c.cells g by_green) k.greens.greening looks (subst (IsTested c.cells) e h.tested);
+      }
+
+  looked : (r : RoundView) → v.round ≡ r → IsLooked c.cells r (passed slots c.cells r)
+  looked Closed e = record { round = refl; emptied = tt; tested = tt }
+  looked (Walking w) e = record { round = ap (λ (r : Round). Some r) (moved-same slots w); emptied = tt; tested = tt }
+  looked (Sweeping w s slot g) e = looked-swept w s slot g e (next_of_sweep s) refl
 
   -- the tables go on to stand for the journal
-  pub Stands-passed : Stands slots (record v { round = passed slots v.round }) c
-  Stands-passed =
-      subst (λ (q : List ℕ). Stands slots (record v { queue = q; round = passed slots v.round }) c) (sym h.queue)
-      (Stands-collected slots v c c.cells c.queue c.round v.zeros (passed slots v.round) h h.sound (λ x. refl) h.zeros (round-passed slots v.round look ∙ h.round) (in_step-passed slots v.ids v.round h.in_step look) (emptied-passed v.round refl))
+  pub Stands-passed : Stands slots (record v { round = passed slots c.cells v.round }) c
+  Stands-passed = record {
+    ids = h.ids;
+    few = h.few;
+    slots_are = h.slots_are;
+    counted = h.counted;
+    sound = h.sound;
+    running = h.running;
+    restorable = h.restorable;
+    owners = h.owners;
+    sharers = h.sharers;
+    free = h.free;
+    zeros = h.zeros;
+    references = h.references;
+    queue = h.queue;
+    round = (looked v.round refl).round ∙ h.round;
+    in_step = in_step-passed slots v.ids c.cells v.round h.in_step nothing;
+    emptied = (looked v.round refl).emptied;
+    tested = (looked v.round refl).tested;
+    owed = h.owed;
+  }
 
 -- ---- one look after another
 
@@ -135,10 +166,16 @@ pub record HasPassed (slots : ℕ) (v w : TablesView) (held : List (HeldFrame sl
 pub passed-none : (slots : ℕ) (v : TablesView) (held : List (HeldFrame slots)) → HasPassed slots v v held
 passed-none slots v held = record { same = refl; passes = λ c h agree. none; stands = λ c h agree. h }
 
--- the tables after one look more
-pub passed-more : (slots : ℕ) (v w : TablesView) (held : List (HeldFrame slots)) → HasPassed slots v w held → ((c : Core) → Stands slots w c → Agree c.cells held → is_event c.cells (asked w.round) ≡ false) → HasPassed slots v (record w { round = passed slots w.round }) held
-passed-more slots v w held p nothing = record {
-  same = ap (λ (x : TablesView). record x { round = passed slots w.round }) p.same;
-  passes = λ c h agree. more w.round (p.passes c h agree) (nothing c (p.stands c h agree) agree);
-  stands = λ c h agree. (let s = p.stands c h agree in Stands-passed slots w c s (nothing c s agree));
+-- one look more, from some tables to others
+pub record PassesOne (slots : ℕ) (v w : TablesView) (held : List (HeldFrame slots)) : Type 0 where
+  pub same : w ≡ record v { round = w.round }
+  pub nothing : (c : Core) → Stands slots v c → Agree c.cells held → is_event c.cells (asked v.round) ≡ false
+  pub passes : (c : Core) → Stands slots v c → Agree c.cells held → w.round ≡ passed slots c.cells v.round
+  pub stands : (c : Core) → Stands slots v c → Agree c.cells held → Stands slots w c
+
+pub passed-more : (slots : ℕ) (u v w : TablesView) (held : List (HeldFrame slots)) → HasPassed slots u v held → PassesOne slots v w held → HasPassed slots u w held
+passed-more slots u v w held p one = record {
+  same = one.same ∙ ap (λ (x : TablesView). let y : TablesView = record x { round = w.round } in y) p.same;
+  passes = λ c h agree. (let s = p.stands c h agree in subst (λ (r : RoundView). Passes slots c.cells u.round r) (sym (one.passes c s agree)) (more v.round (p.passes c h agree) (one.nothing c s agree)));
+  stands = λ c h agree. one.stands c (p.stands c h agree) agree;
 }

@@ -126,7 +126,8 @@ pub each_once-more : (entries : List TempRef) (place : ℕ) (d : TempRef) → pl
 each_once-more entries place d l =
     ap (λ es. each_once (targets_of es)) (take_more entries place d l) ∙ (ap each_once (map-append (λ e. e.target) (take place entries) (get_or entries place d ∷ [])) ∙ all_joined-push [] (targets_of (take place entries)) (get_or entries place d).target)
 
-has-targets : (entries : List TempRef) (id : ℕ) → has (targets_of entries) id ≡ list_any (λ e. e.target == id) entries
+-- an entry has the target where it is among the targets
+pub has-targets : (entries : List TempRef) (id : ℕ) → has (targets_of entries) id ≡ list_any (λ e. e.target == id) entries
 has-targets [] id = refl
 has-targets (e ∷ es) id = ap (λ b. (e.target == id) || b) (has-targets es id)
 

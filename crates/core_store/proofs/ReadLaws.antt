@@ -32,7 +32,7 @@ same_value x a b z e f = cc
 module _ (slots : ℕ) (v : TablesView) (c : Core) (held : List (HeldFrame slots)) (h : Stands slots v c) (agree : Agree c.cells held) (locks : Table) (pass r : ℕ) (kept : Running) (t : ActiveTransaction) (adds : AddsShare v.locks locks pass (register_id t r)) where
   pub answers-read : (slot into : ℕ) → Serves slots v c.moment pass (Read r slot into) kept t
       → (let value = (pointer_at c.cells (register_id t r) slot).target in
-      Answers slots (record v { locks = locks; transactions = changed_at pass (loaded into (nonzero value)) v.transactions }) c held held pass (Read r slot into) (Id value) None)
+      Answers slots v (record v { locks = locks; transactions = changed_at pass (loaded into (nonzero value)) v.transactions }) c held held pass (Read r slot into) (Id value) None)
   answers-read slot into s =
       let value = (pointer_at c.cells (register_id t r) slot).target in
       let u = with_register into (nonzero value) (with_shared (register_id t r) t) in
@@ -56,11 +56,12 @@ module _ (slots : ℕ) (v : TablesView) (c : Core) (held : List (HeldFrame slots
             sound
             (λ x e. e) (h.restorable pass kept s.here)
             (HasRest-same slots v w c d h refl refl refl refl (round-same c.round) (owed-with slots c d pass kept (loaded into (nonzero value) kept) t u h.sound sound state refl s.found s.runs runs v.owed v.owed h.owed refl) refl refl refl);
+        round = refl;
       }
 
   pub answers-get : Serves slots v c.moment pass (GetPay r) kept t
       → (let value = (cell_at c.cells (register_id t r)).payload in
-      Answers slots (record v { locks = locks }) c held held pass (GetPay r) (Pay value) None)
+      Answers slots v (record v { locks = locks }) c held held pass (GetPay r) (Pay value) None)
   answers-get s =
       let value = (cell_at c.cells (register_id t r)).payload in
       let u = with_shared (register_id t r) t in
@@ -82,4 +83,5 @@ module _ (slots : ℕ) (v : TablesView) (c : Core) (held : List (HeldFrame slots
             sound
             (λ x e. e) (h.restorable pass kept s.here)
             (HasRest-same slots v w c d h refl refl refl refl (round-same c.round) (owed-with slots c d pass kept kept t u h.sound sound state refl s.found s.runs runs v.owed v.owed h.owed refl) refl refl refl);
+        round = refl;
       }

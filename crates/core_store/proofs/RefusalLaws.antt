@@ -49,6 +49,7 @@ Stands-moment slots v c n h state undone sound = record {
   round = h.round;
   in_step = h.in_step;
   emptied = h.emptied;
+  tested = h.tested;
   owed = h.owed ∙ sym (owed-moment c.moment n state undone);
 }
 
@@ -63,4 +64,5 @@ performs-refused slots v held pass call reply refused c h agree =
       record_is = sym (refused-logs c.moment.state c.cells pass call reply r);
       moves = record { fits = tt; lays = tt; agree = agree; elsewhere = λ p e. refl };
       stands = subst (λ (x : Option Round). Stands slots v (record c { moment = n; round = x })) (sym (round-same c.round)) stands;
+      round = refl;
     }

@@ -1,19 +1,44 @@
--- How the parts of a round are read off what is seen of it.
-use Rattle.std.proofs.Common.{◌≡◌, ℕ, ◌≤◌, not, List, length, filter, refl, sym, ap, arith}
+-- How the parts of a round are read off what is seen of it, and that each change keeps them in step.
+use Rattle.std.proofs.Common.{◌≡◌, ◌≢◌, ℕ, ◌+◌, ◌-◌, ◌*◌, ◌<◌, ◌≤◌, ◌==◌, ◌&&◌, ◌||◌, if◌then◌else◌, Bool, true, false, not, List, length, drop, filter, Option, Some, None, refl, sym, ap, ◌∙◌, subst, arith, ne_eqb, ⊎_elim}
+use Rattle.std.specs.Prelude.{Contains, IfSome}
 use Rattle.std.proofs.lemmas.List.Filters.{length-filter_both}
-use Rattle.ref_tables.specs.Queue.{has}
-use Rattle.red_walk.specs.Walk.{Walk, IsWalk}
-use Rattle.green_walk.specs.Sweeping.{Sweeping as Sweep}
+use Rattle.std.proofs.lemmas.Nat.{mul-le}
+use Rattle.std.proofs.lemmas.List.{length-drop}
+use Rattle.std.proofs.Math.Arith.{lt_of_le-ne}
+use Rattle.cell_page.specs.Format.{IsSlotCount}
+use Rattle.red_walk.specs.Ids.{has}
+use Rattle.red_walk.specs.Walk.{Walk, IsWalk, removed, touched_at, is_open}
+use Rattle.red_walk.proofs.Filters.{among-filter}
+use Rattle.green_walk.specs.declared.sweep.SweepAt.TheVariants as sweep
+use Rattle.green_walk.specs.declared.sweep.Found.{Found}
+use Rattle.green_walk.specs.declared.sweep.Found.TheVariants.{Nothing, Made}
+use Rattle.green_walk.specs.declared.green_at.Test.{Test}
+use Rattle.green_walk.specs.Judged.{Judged}
+use Rattle.green_walk.specs.Sweeping.{Sweeping as Sweep, IsSweep, next as next_of_sweep, found, found_at}
+use Rattle.green_walk.specs.Greening.{Greening, GreenStage, AtSeed, AtInto, AtOut, IsGreening, IsPlace, IsAnswer, IsTestable, next as next_of_green, found as found_by_green, testing, tested, again, work_left, work_at, seed_work, walk_work}
+use Rattle.green_walk.specs.GreenLaws.{IsSameWalk}
+use Rattle.green_walk.proofs.SweepLaws.{free-law}
+use Rattle.green_walk.proofs.GreenAsked.{Contains-drop}
+use Rattle.green_walk.proofs.GreenAnswers.{found-law, testing-law, tested-law, test-law}
 use Rattle.core_store.specs.declared.round.Stage.{Stage}
 use Rattle.core_store.specs.declared.round.Stage.TheVariants as stage
-use Rattle.core_store.specs.RoundView.{Walking}
-use Rattle.core_store.specs.RoundInside.{view_of_round}
+use Rattle.core_store.specs.declared.round_at.RoundAt.TheVariants as at
+use Rattle.core_store.specs.RoundView.{Walking, Sweeping, asked, IsGreenAnswer, IsGreenTestable, IsInStep}
+use Rattle.core_store.specs.RoundInside.{view_of_round, AreInStep}
+use Rattle.core_store.proofs.AskedGreen.{IsAskedBy}
+use Rattle.core_store.proofs.AskedLaws.{asked-cut, asked-free, asked-by_green}
 
 -- the walk of a round that walks
-pub walk-of : (at : Stage) (w : Walk) (s : Sweep) (slot : ℕ) (u : Walk) → view_of_round at w s slot ≡ Walking u → w ≡ u
-walk-of stage.Closed w s slot u e = absurd (cc)
-walk-of stage.Walking w s slot u e = cc
-walk-of stage.Sweeping w s slot u e = absurd (cc)
+pub walk-of : (a : Stage) (w : Walk) (s : Sweep) (slot : ℕ) (g : Greening) (u : Walk) → view_of_round a w s slot g ≡ Walking u → w ≡ u
+walk-of stage.Closed w s slot g u e = absurd (cc)
+walk-of stage.Walking w s slot g u e = cc
+walk-of stage.Sweeping w s slot g u e = absurd (cc)
+
+-- the parts of a round that sweeps
+pub sweeping-of : (a : Stage) (w v : Walk) (s t : Sweep) (slot k : ℕ) (g h : Greening) → view_of_round a w s slot g ≡ Sweeping v t k h → (a ≡ stage.Sweeping) × (w ≡ v) × (s ≡ t) × (slot ≡ k) × (g ≡ h)
+sweeping-of stage.Closed w v s t slot k g h e = absurd (cc)
+sweeping-of stage.Walking w v s t slot k g h e = absurd (cc)
+sweeping-of stage.Sweeping w v s t slot k g h e = (refl, cc, cc, cc, cc)
 
 -- there are no more objects than ids
 pub few-left : (slots : ℕ) (w : Walk) (list : List ℕ) → IsWalk slots w → list ≡ w.list → filter (λ id. has w.left id) list ≡ w.left → length w.left ≤ w.limit
@@ -23,3 +48,236 @@ few-left slots w list k e f =
     let n : length list ≡ length w.list = ap length e in
     let most = k.ids.most in
     omega (arith, l, m, n, most)
+
+-- ---- what is asked for
+
+-- the sweep asked for an object's slots
+pub cut-asked : (a : Stage) (w : Walk) (s : Sweep) (slot id k : ℕ) (g : Greening) → asked (view_of_round a w s slot g) ≡ at.Cut id k → (a ≡ stage.Sweeping) × (next_of_sweep s ≡ sweep.Slots id)
+cut-asked a w s slot id k g e =
+    let x = asked-cut (view_of_round a w s slot g) id k e in
+    let p = sweeping-of a w x.0 s x.1 slot k g x.2 x.3 in
+    (p.0, ap next_of_sweep p.2 ∙ x.4)
+
+-- it asked for an object to be freed
+pub free-asked : (a : Stage) (w : Walk) (s : Sweep) (slot id : ℕ) (g : Greening) → asked (view_of_round a w s slot g) ≡ at.Free id → (a ≡ stage.Sweeping) × (next_of_sweep s ≡ sweep.Free id)
+free-asked a w s slot id g e =
+    let x = asked-free (view_of_round a w s slot g) id e in
+    let p = sweeping-of a w x.0 s x.1 slot x.2 g x.3 x.4 in
+    (p.0, ap next_of_sweep p.2 ∙ x.5)
+
+-- a test is in hand where the green walk asked for one of its slots
+pub test-asked : (a : Stage) (w : Walk) (s : Sweep) (slot id k : ℕ) (g : Greening) → IsGreening g → asked (view_of_round a w s slot g) ≡ at.Test id k → (next_of_sweep s ≡ sweep.End) × (t : Test) × (g.test ≡ Some t) × (t.slot < g.slots)
+test-asked a w s slot id k g sound e =
+    let x = asked-by_green (view_of_round a w s slot g) (at.Test id k) tt e in
+    let p = sweeping-of a w x.0 s x.1 slot x.2 g x.3 x.4 in
+    by (subst (λ (h : Greening). IsAskedBy h.slots h.test (next_of_green h) (at.Test id k)) (sym p.4) x.7) (ap next_of_sweep p.2 ∙ x.5)
+  where
+    by : IsAskedBy g.slots g.test (next_of_green g) (at.Test id k) → next_of_sweep s ≡ sweep.End → (next_of_sweep s ≡ sweep.End) × (t : Test) × (g.test ≡ Some t) × (t.slot < g.slots)
+    by asks end = (end, asks.0, asks.1, lt_of_le-ne (test-law g asks.0 sound asks.1).1 asks.4)
+
+-- which goes on with the next slot
+pub test-in-hand : (slots : ℕ) (a : Stage) (w : Walk) (s : Sweep) (slot id k : ℕ) (g : Greening) → IsGreening g → g.slots ≡ slots → asked (view_of_round a w s slot g) ≡ at.Test id k → IfSome g.test (λ t. t.slot < slots)
+test-in-hand slots a w s slot id k g sound same e =
+    let x = test-asked a w s slot id k g sound e in
+    subst (λ (test : Option Test). IfSome test (λ t. t.slot < slots)) (sym x.2) (subst (λ n. x.1.slot < n) same x.3)
+
+-- the answer is one to the green walk
+pub answer-of : (a : Stage) (w : Walk) (s : Sweep) (slot : ℕ) (g : Greening) (what : Found) → IsGreenAnswer (view_of_round a w s slot g) what → (next_of_sweep s ≡ sweep.End) × IsAnswer g (next_of_green g) what
+answer-of stage.Closed w s slot g what h = absurd h
+answer-of stage.Walking w s slot g what h = absurd h
+answer-of stage.Sweeping w s slot g what h = h
+
+-- the object may be tested
+pub testable-of : (a : Stage) (w : Walk) (s : Sweep) (slot : ℕ) (g : Greening) (id : ℕ) → IsGreenTestable (view_of_round a w s slot g) id → (next_of_sweep s ≡ sweep.End) × IsTestable g (next_of_green g) id
+testable-of stage.Closed w s slot g id h = absurd h
+testable-of stage.Walking w s slot g id h = absurd h
+testable-of stage.Sweeping w s slot g id h = h
+
+-- ---- the parts stay in step
+
+-- what holds of every open round
+pub open-in-step : (slots ids : ℕ) (a : Stage) (w : Walk) (locked : List Bool) (j : Judged) (s : Sweep) (slot : ℕ) (g : Greening) → AreInStep slots ids a w locked j s slot g → IsWalk slots w → IsSweep s → IsGreening g → IsInStep slots ids (view_of_round a w s slot g)
+open-in-step slots ids stage.Closed w locked j s slot g k walk swept green = tt
+open-in-step slots ids stage.Walking w locked j s slot g k walk swept green = record { walk = walk; limit = k.walk_limit; whole = k.whole refl }
+open-in-step slots ids stage.Sweeping w locked j s slot g k walk swept green =
+    record {
+      walk = walk;
+      limit = k.walk_limit;
+      sweep = swept;
+      sweep_limit = k.sweep_limit;
+      within = k.within;
+      greens = record { greening = green; green_limit = k.green_limit; green_slots = k.green_slots; left = k.left refl; spared = k.spared refl; at_rest = k.at_rest refl };
+    }
+
+-- another green walk of the same objects
+green-in-step : (slots ids : ℕ) (a : Stage) (w : Walk) (locked : List Bool) (j : Judged) (s : Sweep) (slot : ℕ) (g h : Greening) → AreInStep slots ids a w locked j s slot g → IsSameWalk g h → (next_of_sweep s ≢ sweep.End → h.test ≡ None) → AreInStep slots ids a w locked j s slot h
+green-in-step slots ids a w locked j s slot g h k same rest =
+    record {
+      walk_limit = k.walk_limit;
+      locked_limit = k.locked_limit;
+      verdict_limit = k.verdict_limit;
+      sweep_limit = k.sweep_limit;
+      few = k.few;
+      within = k.within;
+      whole = k.whole;
+      green_limit = same.limit ∙ k.green_limit;
+      green_slots = same.slots ∙ k.green_slots;
+      left = λ e id m. k.left e id (subst (λ (xs : List ℕ). Contains xs id) same.live m);
+      spared = λ e id m. k.spared e id (subst (λ (xs : List ℕ). Contains xs id) same.live m);
+      at_rest = λ e. rest;
+    }
+
+pub found-in-step : (slots ids : ℕ) (a : Stage) (w : Walk) (locked : List Bool) (j : Judged) (s : Sweep) (slot : ℕ) (g : Greening) (what : Found) → AreInStep slots ids a w locked j s slot g → IsGreening g → IsGreenAnswer (view_of_round a w s slot g) what → AreInStep slots ids a w locked j s slot (found_by_green g what)
+found-in-step slots ids a w locked j s slot g what k sound h =
+    let answer = answer-of a w s slot g what h in
+    green-in-step slots ids a w locked j s slot g (found_by_green g what) k (found-law g what sound answer.1).0 (λ other. absurd (other answer.0))
+
+pub testing-in-step : (slots ids : ℕ) (a : Stage) (w : Walk) (locked : List Bool) (j : Judged) (s : Sweep) (slot : ℕ) (g : Greening) (id : ℕ) → AreInStep slots ids a w locked j s slot g → IsGreening g → IsGreenTestable (view_of_round a w s slot g) id → AreInStep slots ids a w locked j s slot (testing g id)
+testing-in-step slots ids a w locked j s slot g id k sound h =
+    let there = testable-of a w s slot g id h in
+    green-in-step slots ids a w locked j s slot g (testing g id) k (testing-law g id sound there.1).0 (λ other. absurd (other there.0))
+
+pub tested-in-step : (slots ids : ℕ) (a : Stage) (w : Walk) (locked : List Bool) (j : Judged) (s : Sweep) (slot id n : ℕ) (g : Greening) → AreInStep slots ids a w locked j s slot g → IsGreening g → asked (view_of_round a w s slot g) ≡ at.Test id n → AreInStep slots ids a w locked j s slot (tested g)
+tested-in-step slots ids a w locked j s slot id n g k sound e =
+    let x = test-asked a w s slot id n g sound e in
+    green-in-step slots ids a w locked j s slot g (tested g) k (tested-law g x.1 sound x.2 x.3).0 (λ other. absurd (other x.0))
+
+pub again-in-step : (slots ids : ℕ) (a : Stage) (w : Walk) (locked : List Bool) (j : Judged) (s : Sweep) (slot : ℕ) (g : Greening) → AreInStep slots ids a w locked j s slot g → AreInStep slots ids a w locked j s slot (again g)
+again-in-step slots ids a w locked j s slot g k = green-in-step slots ids a w locked j s slot g (again g) k (record { live = refl; slots = refl; limit = refl }) (λ other. refl)
+
+-- an object is touched
+touched-to : (slots ids : ℕ) (a : Stage) (w : Walk) (locked : List Bool) (j : Judged) (s : Sweep) (slot : ℕ) (g : Greening) (touched : List ℕ) → AreInStep slots ids a w locked j s slot g → AreInStep slots ids a (record w { touched = touched }) locked j s slot g
+touched-to slots ids a w locked j s slot g touched k =
+    record {
+      walk_limit = k.walk_limit;
+      locked_limit = k.locked_limit;
+      verdict_limit = k.verdict_limit;
+      sweep_limit = k.sweep_limit;
+      few = k.few;
+      within = k.within;
+      whole = k.whole;
+      green_limit = k.green_limit;
+      green_slots = k.green_slots;
+      left = k.left;
+      spared = k.spared;
+      at_rest = k.at_rest;
+    }
+
+pub touched-in-step : (slots ids : ℕ) (a : Stage) (w : Walk) (locked : List Bool) (j : Judged) (s : Sweep) (slot : ℕ) (g : Greening) (id : ℕ) → AreInStep slots ids a w locked j s slot g → AreInStep slots ids a (touched_at w id) locked j s slot g
+touched-in-step slots ids a w locked j s slot g id k = by (is_open w && has w.left id)
+  where
+    by : (b : Bool) → AreInStep slots ids a (if b then record w { touched = filter (λ x. (x == id) || has w.touched x) w.list } else w) locked j s slot g
+    by true = touched-to slots ids a w locked j s slot g (filter (λ x. (x == id) || has w.touched x) w.list) k
+    by false = k
+
+-- the sweep goes on behind an object
+pub cut-in-step : (slots ids : ℕ) (a : Stage) (w : Walk) (locked : List Bool) (j : Judged) (s : Sweep) (slot id : ℕ) (g : Greening) → AreInStep slots ids a w locked j s slot g → next_of_sweep s ≡ sweep.Slots id → AreInStep slots ids a w locked j (found s Nothing) 0 g
+cut-in-step slots ids a w locked j s slot id g k e =
+    subst (λ (t : Sweep). AreInStep slots ids a w locked j t 0 g) (sym (ap (λ n. found_at s n Nothing) e)) (record {
+      walk_limit = k.walk_limit;
+      locked_limit = k.locked_limit;
+      verdict_limit = k.verdict_limit;
+      sweep_limit = k.sweep_limit;
+      few = k.few;
+      within = some;
+      whole = k.whole;
+      green_limit = k.green_limit;
+      green_slots = k.green_slots;
+      left = k.left;
+      spared = k.spared;
+      at_rest = λ sweeps other. k.at_rest sweeps (λ end. absurd (cc));
+    })
+  where
+    some : 0 < slots
+    some = let below = k.within in omega (arith, below)
+
+-- it goes on with the object's next slot
+pub slot-in-step : (slots ids : ℕ) (a : Stage) (w : Walk) (locked : List Bool) (j : Judged) (s : Sweep) (slot : ℕ) (g : Greening) → AreInStep slots ids a w locked j s slot g → slot + 1 ≢ slots → AreInStep slots ids a w locked j s (slot + 1) g
+slot-in-step slots ids a w locked j s slot g k other =
+    let below = k.within in
+    let behind : slot + 1 ≤ slots = omega (arith, below) in
+    record {
+      walk_limit = k.walk_limit;
+      locked_limit = k.locked_limit;
+      verdict_limit = k.verdict_limit;
+      sweep_limit = k.sweep_limit;
+      few = k.few;
+      within = lt_of_le-ne behind other;
+      whole = k.whole;
+      green_limit = k.green_limit;
+      green_slots = k.green_slots;
+      left = k.left;
+      spared = k.spared;
+      at_rest = k.at_rest;
+    }
+
+-- an object is freed, which is none of those that live
+pub freed-in-step : (slots ids : ℕ) (a : Stage) (w : Walk) (locked : List Bool) (j : Judged) (s : Sweep) (slot id : ℕ) (g : Greening) → AreInStep slots ids a w locked j s slot g → IsSweep s → a ≡ stage.Sweeping → next_of_sweep s ≡ sweep.Free id → AreInStep slots ids a (removed w id) locked j (found s (Made id)) slot g
+freed-in-step slots ids a w locked j s slot id g k swept sweeps e =
+    subst (λ (t : Sweep). AreInStep slots ids a (removed w id) locked j t slot g) (sym (ap (λ n. found_at s n (Made id)) e)) (record {
+      walk_limit = k.walk_limit;
+      locked_limit = k.locked_limit;
+      verdict_limit = k.verdict_limit;
+      sweep_limit = k.sweep_limit;
+      few = k.few;
+      within = k.within;
+      whole = λ walks. absurd (cc);
+      green_limit = k.green_limit;
+      green_slots = k.green_slots;
+      left = λ is x m. among-filter (λ y. not (y == id)) w.left x (k.left is x m) (ap not (ne_eqb x id (λ same. k.spared is x m (subst (λ y. Contains s.list y) (sym same) condemned))));
+      spared = k.spared;
+      at_rest = λ is other. k.at_rest is (λ end. absurd (cc));
+    })
+  where
+    condemned : Contains s.list id
+    condemned = Contains-drop s.freed s.list id (free-law s id swept e).0
+
+-- ---- how much is left
+
+-- what is left of a green walk over so few objects is a number of a machine
+pub work-few : (g : Greening) → IsGreening g → g.limit ≤ 8192 → g.slots ≤ 14 → work_left g ≤ 20000000000
+work-few g k limit slots = omega (arith, all, few)
+  where
+    live : length g.live ≤ 8192
+    live = let most = k.live_ids.most in omega (arith, most, limit)
+
+    looks : length g.live * g.slots ≤ 8192 * 14
+    looks = mul-le (length g.live) g.slots 8192 14 live slots
+
+    walks : walk_work g ≤ 1835008
+    walks = mul-le (length g.live * g.slots) (g.slots + 2) 114688 16 looks (omega (arith, slots))
+
+    copied : length g.copied ≤ 114688
+    copied = let c = k.copied_few in let m = mul-le g.limit g.slots 8192 14 limit slots in omega (arith, c, m)
+
+    each : seed_work g ≤ 1949715
+    each = omega (arith, walks, copied, slots)
+
+    seeds : length g.seeds ≤ 8192
+    seeds = let c = k.seeds_few in omega (arith, c, limit)
+
+    few : (length g.seeds + 1) * seed_work g ≤ 8193 * 1949715
+    few = mul-le (length g.seeds + 1) (seed_work g) 8193 1949715 (omega (arith, seeds)) each
+
+    rest : length (drop 1 g.seeds) * seed_work g ≤ length g.seeds * seed_work g
+    rest = let l = length-drop 1 g.seeds in mul-le (length (drop 1 g.seeds)) (seed_work g) (length g.seeds) (seed_work g) (omega (arith, l)) (omega arith)
+
+    one-more : (length g.seeds + 1) * seed_work g ≡ length g.seeds * seed_work g + seed_work g
+    one-more = grind arith
+
+    by : (s : GreenStage) → IsPlace g s → work_at g s ≤ (length g.seeds + 1) * seed_work g
+    by AtSeed p = omega (arith, one-more)
+    by (AtInto flipped ahead) p = let few = p.4 in omega (arith, one-more, rest, few)
+    by (AtOut place slot) p =
+        let less = mul-le (length g.live * g.slots - (place * g.slots + slot)) (g.slots + 2) (length g.live * g.slots) (g.slots + 2) (omega arith) (omega arith) in
+        omega (arith, one-more, rest, less)
+
+    all : work_left g ≤ (length g.seeds + 1) * seed_work g
+    all = by g.stage k.place
+
+pub slots-few : (slots : ℕ) → IsSlotCount slots → slots ≤ 14
+slots-few slots k = ⊎_elim (λ (e : slots ≡ 6). omega (arith, e)) (λ (e : slots ≡ 14). omega (arith, e)) k
+
+-- so is what is left of the sweep
+pub sweep-few : (slots unemptied slot : ℕ) → slots ≤ 14 → unemptied < 4294967296 → slots * unemptied - slot ≤ 60129542144
+sweep-few slots unemptied slot few less = let m = mul-le slots unemptied 14 4294967296 few (omega (arith, less)) in omega (arith, m)

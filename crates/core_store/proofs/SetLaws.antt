@@ -13,7 +13,7 @@ use Rattle.plain_model.specs.Machine.{State, register_id, with_write, with_owned
 use Rattle.plain_model.specs.History.{next}
 use Rattle.strict_locks.specs.Locks.{Table, holders_of, StandsInWayOfOwn, Nobody, AddsOwner}
 use Rattle.log_record.specs.declared.cell_record.CellRecord.TheVariants as logs
-use Rattle.store_model.specs.Cells.{Cell, cell_at, pointer_in, edit, pays, is_live}
+use Rattle.store_model.specs.Cells.{Cell, cell_at, edit, pays, is_live}
 use Rattle.store_model.specs.Core.{Core, payload_in}
 use Rattle.store_model.specs.Sound.{IsSound}
 use Rattle.store_model.proofs.CallLaws.{call-granted}
@@ -32,20 +32,16 @@ use Rattle.core_store.specs.Stands.{Stands, Answers}
 use Rattle.core_store.proofs.LockChanges.{Locked-own}
 use Rattle.core_store.proofs.MapLaws.{puts-changed}
 use Rattle.core_store.proofs.OwedSteps.{owed-with}
-use Rattle.core_store.proofs.RestLaws.{HasRest-kept, round-same, sound-untouched}
+use Rattle.core_store.proofs.RestLaws.{HasRest-kept, links-paid, round-same, sound-untouched}
 use Rattle.core_store.proofs.RunningLaws.{runs-writing, lays-push}
 use Rattle.core_store.proofs.StepLaws.{Serves, logged-granted, after-granted, Stands-with}
-
--- the new payload leaves the slots
-pointers-paid : (cells : List Cell) (id value x k : ℕ) → (pointer_in (cell_at (edit cells id (pays value)) x) k).target ≡ (pointer_in (cell_at cells x) k).target
-pointers-paid cells id value x k = edit-keeps (λ (c : Cell). (pointer_in c k).target) cells id x (pays value) (λ c. refl)
 
 pub answers-set : (slots : ℕ) (v : TablesView) (c : Core) (held new : List (HeldFrame slots)) (h : Stands slots v c) (locks : Table) (pass r n : ℕ) (kept : Running) (t : ActiveTransaction)
     → AddsOwner v.locks locks pass (register_id t r) → Nobody (StandsInWayOfOwn (holders_of v.locks (register_id t r)) pass) → (value : ℕ) → Serves slots v c.moment pass (SetPay r value) kept t → n ≡ v.owed + 1
     → (let id = register_id t r in
     let old = (cell_at c.cells id).payload in
     is_live c.cells id ≡ true → Agree (edit c.cells id (pays value)) new → IsSameElsewhere c.cells (edit c.cells id (pays value)) held → v.zeros ≡ map has_no_strong (edit c.cells id (pays value))
-    → Answers slots (record v { locks = locks; transactions = changed_at pass (writing (record { id = id; place = Payload; value = old })) v.transactions; owed = n }) c held new pass (SetPay r value) Done (Some (logs.Pay pass id old value)))
+    → Answers slots v (record v { locks = locks; transactions = changed_at pass (writing (record { id = id; place = Payload; value = old })) v.transactions; owed = n }) c held new pass (SetPay r value) Done (Some (logs.Pay pass id old value)))
 answers-set slots v c held new h locks pass r n kept t adds nobody value s owed live agree elsewhere marked =
     let id = register_id t r in
     let old = (cell_at c.cells id).payload in
@@ -78,5 +74,6 @@ answers-set slots v c held new h locks pass r n kept t adds nobody value s owed 
           alive
           (lays-push slots c.cells (edit c.cells id (pays value)) kept x alive (h.restorable pass kept s.here) (live, tt))
           (HasRest-kept slots v w c d h refl refl refl refl (round-same c.round)
-          (owed-with slots c d pass kept (writing x kept) t u h.sound sound state refl s.found s.runs runs v.owed n h.owed (omega (arith, owed, more))) refl refl (λ z k e. pointers-paid c.cells id value z k ∙ e));
+          (owed-with slots c d pass kept (writing x kept) t u h.sound sound state refl s.found s.runs runs v.owed n h.owed (omega (arith, owed, more))) refl refl (links-paid c.cells id value));
+      round = refl;
     }

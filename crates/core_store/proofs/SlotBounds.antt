@@ -1,10 +1,13 @@
 -- Counts are small: a store has few slots.
 use Rattle.std.proofs.Common.{◌≡◌, ℕ, ◌+◌, ◌*◌, ◌^◌, ◌<◌, ◌≤◌, List, Bool, true, false, not, cond, refl, subst, length, arith, ⊎_elim}
-use Rattle.std.specs.Prelude.{count_by}
-use Rattle.std.proofs.lemmas.List.Sums.{sum_by-le, count_by-le-length}
+use Rattle.std.specs.Prelude.{◌==◌, count_by}
+use Rattle.std.proofs.lemmas.Bool.{cond-true}
+use Rattle.std.proofs.lemmas.List.Sums.{sum_by-le, count_by-le-length, get_or-le-sum_by}
 use Rattle.std.proofs.lemmas.List.{get_or_default}
-use Rattle.store_model.specs.Cells.{Cell, blank_cell, cell_at, is_live, aims, aims_in, pointers_to}
+use Rattle.store_model.specs.Cells.{Cell, blank_cell, cell_at, is_live, aims, aims_in, hits, pointers_to, own_strong, self_pointers, IsExact}
 use Rattle.store_model.specs.SoundCells.{AreConsistent}
+use Rattle.store_model.proofs.EditLaws.{live-within}
+use Rattle.store_model.proofs.FlipLaws.{sum_by-plus, hits-both}
 use Rattle.cell_page.specs.Format.{IsSlotCount}
 
 -- a cell has no more pointers than slots
@@ -30,3 +33,38 @@ room-weak slots ids cells count k few b live =
     (λ (six : slots ≡ 6). let le6 : pointers_to cells b (not (cell_at cells b).bit) ≤ length cells * 6 = subst (λ n. pointers_to cells b (not (cell_at cells b).bit) ≤ length cells * n) six le in omega (arith, is, le6, k.sized, few))
     (λ (fourteen : slots ≡ 14). let le14 : pointers_to cells b (not (cell_at cells b).bit) ≤ length cells * 14 = subst (λ n. pointers_to cells b (not (cell_at cells b).bit) ≤ length cells * n) fourteen le in omega (arith, is, le14, k.sized, few))
     count
+
+-- what the strong count has besides pointers is 1 at most
+own-few : (b : ℕ) → own_strong b ≤ 1
+own-few b = by (b == 1)
+  where
+    by : (t : Bool) → cond t 1 0 ≤ 1
+    by true = omega arith
+    by false = omega arith
+
+-- a count of strong pointers has room for one more
+pub room-strong : (slots ids : ℕ) (cells : List Cell) → IsSlotCount slots → AreConsistent slots ids cells → ids ≤ 8192 → (b : ℕ) → is_live cells b ≡ true → (cell_at cells b).strong + 1 < 2 ^ 32
+room-strong slots ids cells count k few b live =
+    let is = (k.exact.counts b live).strong in
+    let own = own-few b in
+    let all = pointers_to cells b (cell_at cells b).bit in
+    let le = pointers_to-le slots ids cells b (cell_at cells b).bit k in
+    ⊎_elim
+    (λ (six : slots ≡ 6). let le6 : all ≤ length cells * 6 = subst (λ n. all ≤ length cells * n) six le in omega (arith, is, own, le6, k.sized, few))
+    (λ (fourteen : slots ≡ 14). let le14 : all ≤ length cells * 14 = subst (λ n. all ≤ length cells * n) fourteen le in omega (arith, is, own, le14, k.sized, few))
+    count
+
+-- an object to which no strong pointer leads counts its pointers to itself as weak
+pub self-few : (cells : List Cell) (u : ℕ) → IsExact cells → is_live cells u ≡ true → (cell_at cells u).strong ≡ 0 → self_pointers u (cell_at cells u) ≤ (cell_at cells u).weak
+self-few cells u e l zero =
+    let c = cell_at cells u in
+    let within = live-within cells u l in
+    let strong = cond-true c.live (count_by (aims u c.bit) c.pointers) 0 l in
+    let weak = cond-true c.live (count_by (aims u (not c.bit)) c.pointers) 0 l in
+    let both = sum_by-plus (hits u c.bit) (hits u (not c.bit)) (λ p. cond (p.target == u) 1 0) (hits-both u c.bit) c.pointers in
+    let few_strong = get_or-le-sum_by (aims_in u c.bit) cells u (blank_cell false 0) within in
+    let few_weak = get_or-le-sum_by (aims_in u (not c.bit)) cells u (blank_cell false 0) within in
+    let counts = e.counts u l in
+    let is_strong = counts.strong in
+    let is_weak = counts.weak in
+    omega (arith, strong, weak, both, few_strong, few_weak, is_strong, is_weak, zero)

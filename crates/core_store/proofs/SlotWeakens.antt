@@ -26,7 +26,7 @@ turn-ids : (hs : List Held) (u v : ℕ) (f g h : Cell → Cell) (i : ℕ) → is
 turn-ids hs u v f g h i = is_held-edit_held v h (edit_held v g (edit_held u f hs)) i ∙ ids-twice hs u v f g i
 
 -- the held cells after a slot's pointer got its other strength
-turn-relinks : (hs new : List Held) (id slot : ℕ) → new ≡ with_other_strength id slot hs → is_cell_held hs id ≡ true → is_cell_held hs (held_pointer hs id slot).target ≡ true
+pub turn-relinks : (hs new : List Held) (id slot : ℕ) → new ≡ with_other_strength id slot hs → is_cell_held hs id ≡ true → is_cell_held hs (held_pointer hs id slot).target ≡ true
     → AreRelinked hs new id slot (λ cells. other_strength (pointer_at cells id slot))
 turn-relinks hs new id slot is l m =
     let p = held_pointer hs id slot in

@@ -52,7 +52,7 @@ module _ {slots : ℕ} (v : TablesView) (held : List (HeldFrame slots)) (pass : 
       let cells = core.cells in
       let can = can-store v held pass core id slot target w.0 w.1 h within g in
       let done = changes v.ids cells agree can in
-      let P : TransactionCall → ℕ → ℕ → ℕ → Type 0 = λ c x y o. Answers slots (with_store v pass locks marks references x slot y o n change) core held new pass c reply.Done (Some (store_record pass x slot y change)) in
+      let P : TransactionCall → ℕ → ℕ → ℕ → Type 0 = λ c x y o. Answers slots v (with_store v pass locks marks references x slot y o n change) core held new pass c reply.Done (Some (store_record pass x slot y change)) in
       let Q : ℕ → ℕ → Type 0 = λ x y. (AddsOwner v.locks locks pass x → Nobody (StandsInWayOfOwn (holders_of v.locks x) pass) → change ≡ stored_change cells x slot y → FitsCells cells (store_record pass x slot y change) → LaysWell cells (store_record pass x slot y change) → Agree (after_change cells x slot y change) new
       → IsSameElsewhere cells (after_change cells x slot y change) held → marks ≡ map has_no_strong (after_change cells x slot y change) → ((p : ℕ) → references p ≡ named_by (core.refs ++ store_references pass change.old_target y) p) → P (call.Store w.0 slot w.1) x y (pointer_at cells x slot).target) in
       let main : Q (register_id t w.0) (stored_target t w.1) = λ a b i f l s e z r. answers-store slots v core h pass w.0 slot w.1 change g.grants.kept t (serves g.grants) held new locks marks references n a b within i f l s e z r more in

@@ -6,13 +6,14 @@ use Rattle.store_model.specs.Sound.{IsSound}
 use Rattle.store_model.specs.Steps.{IsTouched}
 use Rattle.store_model.proofs.CollectSound.{touch-sound}
 use Rattle.ref_tables.specs.Queue.{has}
-use Rattle.red_walk.specs.Walk.{Walk, IsWalk, is_open, touched_at, work_left}
+use Rattle.red_walk.specs.Walk.{Walk, IsWalk, is_open, touched_at}
 use Rattle.red_walk.specs.Rounds.{round_of as walked, Touches}
 use Rattle.red_walk.proofs.Filters.{filter-among}
 use Rattle.red_walk.proofs.RoundLaws.{touched-law}
+use Rattle.green_walk.specs.Greening.{Greening, GreenStage, AtSeed, AtInto, AtOut, IsPlace, IsGreening, again}
 use Rattle.log_record.specs.declared.cell_record.CellRecord.TheVariants.{Undo}
 use Rattle.log_record.specs.Records.{payload_place}
-use Rattle.core_store.specs.RoundView.{RoundView, Closed, Walking, Sweeping, round_of, left_of, touched_in, touched_by_record, IsInStep}
+use Rattle.core_store.specs.RoundView.{RoundView, Closed, Walking, Sweeping, round_of, touched_in, touched_by_record, IsInStep}
 use Rattle.core_store.specs.Tables.{TablesView}
 use Rattle.core_store.specs.Stands.{Stands}
 use Rattle.core_store.specs.Touched.{touch, round_after}
@@ -30,7 +31,7 @@ walked-touched w id whole = by (is_open w && has w.left id) refl
 pub round_of-touch : (slots ids : ℕ) (v : RoundView) (id : ℕ) → IsInStep slots ids v → round_of (touched_in v id) ≡ option_map (λ r. touch r id) (round_of v)
 round_of-touch slots ids Closed id k = refl
 round_of-touch slots ids (Walking w) id k = ap Some (walked-touched w id k.whole)
-round_of-touch slots ids (Sweeping w s slot) id k = refl
+round_of-touch slots ids (Sweeping w s slot g) id k = refl
 
 round_after-cons : (o : Option Round) (x : ℕ) (xs : List ℕ) → round_after (option_map (λ r. touch r x) o) xs ≡ round_after o (x ∷ xs)
 round_after-cons None x xs = refl
@@ -67,22 +68,45 @@ whole-touch w id whole = by (is_open w && has w.left id) refl
     by true e = rw e whole
     by false e = rw e whole
 
-work-touch : (slots : ℕ) (w : Walk) (id : ℕ) → work_left slots (touched_at w id) ≡ work_left slots w
-work-touch slots w id = by (is_open w && has w.left id) refl
+-- a green walk that begins its test again is one
+again-greening : (g : Greening) → IsGreening g → IsGreening (again g)
+again-greening g k = record {
+  slot_count = k.slot_count;
+  live_ids = k.live_ids;
+  green_ids = k.green_ids;
+  green_live = k.green_live;
+  seeds_live = k.seeds_live;
+  seeds_few = k.seeds_few;
+  walked_few = k.walked_few;
+  copied_few = k.copied_few;
+  copied_within = k.copied_within;
+  place = by g.stage k.place;
+  tests = tt;
+}
   where
-    by : (b : Bool) → (is_open w && has w.left id) ≡ b → work_left slots (touched_at w id) ≡ work_left slots w
-    by true e = rw e refl
-    by false e = rw e refl
+    by : (st : GreenStage) → IsPlace g st → IsPlace (again g) st
+    by AtSeed p = tt
+    by (AtInto flipped rest) p = (refl, p.1, p.2, p.3, p.4)
+    by (AtOut place slot) p = p
 
 pub in_step-touch : (slots ids : ℕ) (v : RoundView) (id : ℕ) → IsInStep slots ids v → IsInStep slots ids (touched_in v id)
 in_step-touch slots ids Closed id k = tt
 in_step-touch slots ids (Walking w) id k = record { walk = walk-touch slots w id k.walk; limit = limit-touch w id ∙ k.limit; whole = whole-touch w id k.whole }
-in_step-touch slots ids (Sweeping w s slot) id k = k
-
-pub left-touch : (slots : ℕ) (v : RoundView) (id : ℕ) → left_of slots (touched_in v id) ≡ left_of slots v
-left-touch slots Closed id = refl
-left-touch slots (Walking w) id = rw (work-touch slots w id, limit-touch w id) refl
-left-touch slots (Sweeping w s slot) id = refl
+in_step-touch slots ids (Sweeping w s slot g) id k = record {
+  walk = k.walk;
+  limit = k.limit;
+  sweep = k.sweep;
+  sweep_limit = k.sweep_limit;
+  within = k.within;
+  greens = record {
+    greening = again-greening g k.greens.greening;
+    green_limit = k.greens.green_limit;
+    green_slots = k.greens.green_slots;
+    left = k.greens.left;
+    spared = k.greens.spared;
+    at_rest = λ n. refl;
+  };
+}
 
 -- ---- after several touches
 
@@ -96,17 +120,13 @@ pub in_step-touched : (slots ids : ℕ) (v : RoundView) (xs : List ℕ) → IsIn
 in_step-touched slots ids v [] k = k
 in_step-touched slots ids v (x ∷ xs) k = in_step-touched slots ids (touched_in v x) xs (in_step-touch slots ids v x k)
 
-pub left-touched : (slots : ℕ) (v : RoundView) (xs : List ℕ) → left_of slots (fold touched_in v xs) ≡ left_of slots v
-left-touched slots v [] = refl
-left-touched slots v (x ∷ xs) = left-touched slots (touched_in v x) xs ∙ left-touch slots v x
-
 -- ---- marks
 
 -- what was touched has its mark
 pub mark-here : (slots ids : ℕ) (v : RoundView) (id : ℕ) → IsInStep slots ids v → IsTouched (round_of (touched_in v id)) id
 mark-here slots ids Closed id k = tt
 mark-here slots ids (Walking w) id k = (touched-law slots w id k.walk).marked k.whole
-mark-here slots ids (Sweeping w s slot) id k = λ early copy m. absurd (true≢false early)
+mark-here slots ids (Sweeping w s slot g) id k = λ early copy m. absurd (true≢false early)
 
 -- a mark stays where another object is touched
 pub mark-later : (slots ids : ℕ) (v : RoundView) (id x : ℕ) → IsInStep slots ids v → IsTouched (round_of v) x → IsTouched (round_of (touched_in v id)) x
@@ -115,7 +135,7 @@ mark-later slots ids (Walking w) id x k t = λ early copy m. touches.grown x (t 
   where
     touches : Touches w (touched_at w id) id
     touches = touched-law slots w id k.walk
-mark-later slots ids (Sweeping w s slot) id x k t = t
+mark-later slots ids (Sweeping w s slot g) id x k t = t
 
 pub marks-later : (slots ids : ℕ) (v : RoundView) (xs : List ℕ) (x : ℕ) → IsInStep slots ids v → IsTouched (round_of v) x → IsTouched (round_of (fold touched_in v xs)) x
 marks-later slots ids v [] x k t = t
@@ -130,7 +150,7 @@ touch_one-sound slots ids (Walking w) id c k e s =
   where
     touches : Touches w (touched_at w id) id
     touches = touched-law slots w id k.walk
-touch_one-sound slots ids (Sweeping w s slot) id c k e sound = subst (λ (o : Option Round). IsSound (record c { round = o })) (sym e) sound
+touch_one-sound slots ids (Sweeping w s slot g) id c k e sound = subst (λ (o : Option Round). IsSound (record c { round = o })) (sym e) sound
 
 pub touch_all-sound : (slots ids : ℕ) (v : RoundView) (xs : List ℕ) (c : Core) → IsInStep slots ids v → round_of v ≡ c.round → IsSound c → IsSound (record c { round = round_of (fold touched_in v xs) })
 touch_all-sound slots ids v [] c k e s = subst (λ (o : Option Round). IsSound (record c { round = o })) (sym e) s

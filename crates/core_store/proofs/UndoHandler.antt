@@ -96,13 +96,13 @@ module _ (slots : ℕ) (v : TablesView) (c : Core) (h : Stands slots v c) where
         lay-ready held agree x can (subst (λ (o : Option Write). HoldsPagesOf held (option_map_or (objects_of_undo c.cells) o [])) next pages)
 
     pub undoes-step : (held new : List (HeldFrame slots)) (n : ℕ) (marks : List Bool) (logged : CellRecord) → Agree c.cells held → Restores held new v.zeros marks pass x logged → n + 1 ≡ v.owed
-        → Undoes slots (record v { zeros = marks; transactions = changed_at pass undoing v.transactions; owed = n; round = touched_by_record v.round (Some logged) }) c held new pass logged
+        → Undoes slots v (record v { zeros = marks; transactions = changed_at pass undoing v.transactions; owed = n; round = touched_by_record v.round (Some logged) }) c held new pass logged
     undoes-step held new n marks logged agree restores owed =
         let a = active-of h pass kept here in
         let done = restores v.ids c.cells agree (lay-restores x can) in
         let f = lay-fits pass x can in
         let k = subst (λ (r : CellRecord). IsChanged c.cells (after_cell_record slots c.cells r) held new v.zeros marks) done.0 done.1 in
-        subst (λ (r : CellRecord). Undoes slots (record v { zeros = marks; transactions = changed_at pass undoing v.transactions; owed = n; round = touched_by_record v.round (Some r) }) c held new pass r) (sym done.0)
+        subst (λ (r : CellRecord). Undoes slots v (record v { zeros = marks; transactions = changed_at pass undoing v.transactions; owed = n; round = touched_by_record v.round (Some r) }) c held new pass r) (sym done.0)
         (undoes slots v c h pass kept a.transaction a.found a.runs (last-among kept.replaced x last).0 held new n marks x here last f.0 f.1 k.agree k.elsewhere (k.marks_are h.zeros) f.2 can owed)
 
 -- whatever the tables stand for, one write of the client is undone

@@ -15,12 +15,11 @@ use Rattle.plain_laws.proofs.Ids.{test_same}
 use Rattle.plain_laws.proofs.Locks.{transaction_of-undo_same, transaction_of-undo_other, marked_aborting}
 use Rattle.log_record.specs.Records.{payload_place, record_of, after_cell_record, FitsCells, LaysWell}
 use Rattle.cell_page.specs.Format.{IsSlotCount}
-use Rattle.store_model.specs.Cells.{Cell, cell_at, pointer_in, edit, pays, is_live}
+use Rattle.store_model.specs.Cells.{Pointer, cell_at, edit, pays, is_live}
 use Rattle.store_model.specs.Records.{Record, Undo as UndoRecord, UndoPay as UndoPayRecord, after_record, Fits}
 use Rattle.store_model.specs.Core.{Ref, Round, Core, slot_in, payload_in}
 use Rattle.store_model.specs.Sound.{IsSound}
 use Rattle.store_model.proofs.UndoSound.{undo-sound, undo_pay-sound}
-use Rattle.store_model.proofs.EditLaws.{edit-keeps}
 use Rattle.store_model.proofs.EndLaws.{transaction-active}
 use Rattle.core_store.specs.declared.three.HeldFrame.{HeldFrame}
 use Rattle.core_store.specs.declared.slots.SlotChange.{SlotChange}
@@ -35,14 +34,14 @@ use Rattle.core_store.specs.Touched.{objects_touched, round_after}
 use Rattle.core_store.specs.Replaced.{replaced, before_write, value_in}
 use Rattle.core_store.specs.Transactions.{Running, running_at, undoing, without_last}
 use Rattle.core_store.specs.Tables.{TablesView, changed_at}
-use Rattle.core_store.specs.Stands.{IsRunning, CanLay, IsEmptied, owns_in, shares_in, Stands, Undoes}
+use Rattle.core_store.specs.Stands.{IsRunning, CanLay, IsEmptied, IsTested, owns_in, shares_in, Stands, Undoes}
 use Rattle.core_store.proofs.ChangeLaws.{Stands-change}
 use Rattle.core_store.proofs.LayLaws.{CanLay-later, Contains-without_last}
 use Rattle.core_store.proofs.MapLaws.{puts-changed, length-without_last}
 use Rattle.core_store.proofs.UndoneLaws.{left-kept, next-kept}
-use Rattle.core_store.proofs.EmptiedLaws.{IsEmptied-relinked, IsEmptied-touched}
+use Rattle.core_store.proofs.EmptiedLaws.{IsEmptied-relinked, IsEmptied-touched, IsTested-touched}
 use Rattle.core_store.proofs.OwedSteps.{owed-changed}
-use Rattle.core_store.proofs.RestLaws.{IsEmptied-kept, sound-untouched}
+use Rattle.core_store.proofs.RestLaws.{IsEmptied-kept, IsTested-kept, links-paid, sound-untouched}
 use Rattle.core_store.proofs.TouchLaws.{round-touched, in_step-touched, touch_all-sound, touched-three, TouchesThree}
 use Rattle.core_store.proofs.WrittenCells.{written-held, written-slot, written-payload}
 use Rattle.core_store.proofs.ReplacedLaws.{HasNth, nth-undoable, last-nth}
@@ -162,13 +161,23 @@ module _ (slots : ℕ) (v : TablesView) (c : Core) (h : Stands slots v c) (pass 
       let held = written-held c h.sound pass t found nth.earlier nth.later id (Slot slot) nth.write.value refl (split id (Slot slot) value (before id (Slot slot) value e)) turn in
       subst (λ (r : Record). IsEmptied (after_record slots c.cells r) v.round) (sym is)
       (IsEmptied-relinked c h.sound (pass, t) (transaction-active c.moment.state h.sound.state pass t found) c.cells id slot (record { target = value; bit = k.new_bit }) held slots v.ids v.round h.in_step h.round h.emptied)
-  undone-emptied id Payload value e can = IsEmptied-kept c.cells (edit c.cells id (pays value)) v.round (λ x k n. edit-keeps (λ (c : Cell). (pointer_in c k).target) c.cells id x (pays value) (λ c. refl) ∙ n) h.emptied
+  undone-emptied id Payload value e can = IsEmptied-kept c.cells (edit c.cells id (pays value)) v.round (λ x k n. ap (λ (p : Pointer). p.target) ((links-paid c.cells id value).pointers x k) ∙ n) h.emptied
   undone-emptied id Whole value e can = absurd can.1
+
+  -- a slot that is laid again ends a test, and a payload leaves what it has found
+  undone-tested : (id : ℕ) (place : Place) (value : ℕ) → CanLay slots c.cells (record { id = id; place = place; value = value })
+      → IsTested (after_cell_record slots c.cells (logged_by_undo c.cells pass (record { id = id; place = place; value = value }))) (touched_by_record v.round (Some (logged_by_undo c.cells pass (record { id = id; place = place; value = value }))))
+  undone-tested id (Slot slot) value can =
+      let k = restored_change c.cells id slot value in
+      let later = after_cell_record slots c.cells (logged_by_undo c.cells pass (record { id = id; place = Slot slot; value = value })) in
+      subst (λ (xs : List ℕ). IsTested later (fold touched_in v.round xs)) (sym (slot-objects slots pass id slot value k h.counted can.1.0)) (IsTested-touched later v.round id (k.old_target ∷ value ∷ []))
+  undone-tested id Payload value can = IsTested-kept c.cells (edit c.cells id (pays value)) v.round (links-paid c.cells id value) h.tested
+  undone-tested id Whole value can = absurd can.1
 
   pub undoes : (held new : List (HeldFrame slots)) (n : ℕ) (marks : List Bool) (x : Write) → running_at v.transactions pass ≡ Some kept → last_or None kept.replaced ≡ Some x → FitsCells c.cells (logged_by_undo c.cells pass x) → LaysWell c.cells (logged_by_undo c.cells pass x)
       → Agree (after_cell_record slots c.cells (logged_by_undo c.cells pass x)) new → IsSameElsewhere c.cells (after_cell_record slots c.cells (logged_by_undo c.cells pass x)) held → marks ≡ map has_no_strong (after_cell_record slots c.cells (logged_by_undo c.cells pass x))
       → ((y : ℕ) → is_live c.cells y ≡ true → is_live (after_cell_record slots c.cells (logged_by_undo c.cells pass x)) y ≡ true) → CanLay slots c.cells x → n + 1 ≡ v.owed
-      → Undoes slots (record v { zeros = marks; transactions = changed_at pass undoing v.transactions; owed = n; round = touched_by_record v.round (Some (logged_by_undo c.cells pass x)) }) c held new pass (logged_by_undo c.cells pass x)
+      → Undoes slots v (record v { zeros = marks; transactions = changed_at pass undoing v.transactions; owed = n; round = touched_by_record v.round (Some (logged_by_undo c.cells pass x)) }) c held new pass (logged_by_undo c.cells pass x)
   undoes held new n marks x here last fits lays agree elsewhere marked alive can owed =
       let u = marked_aborting t in
       let logged = logged_by_undo c.cells pass x in
@@ -215,8 +224,10 @@ module _ (slots : ℕ) (v : TablesView) (c : Core) (h : Stands slots v c) (pass 
               round = round-touched slots v c h objects;
               in_step = in_step-touched slots v.ids v.round objects h.in_step;
               emptied = IsEmptied-touched later v.round objects (undone-emptied x.id x.place x.value last can);
+              tested = undone-tested x.id x.place x.value can;
               owed = owed-changed slots c (after x) (after_undo c.moment.state pass) pass (undoing kept) u h.sound sound refl refl (transaction_of-undo_same c.moment.state pass t found) others undone runs2 kept t found runs v.owed n h.owed (omega (arith, owed, shorter));
             });
+        round = refl;
       }
     where
       take-shorter : (xs ys : List Write) → xs ≡ take (length xs) ys → without_last xs ≡ take (length (without_last xs)) ys

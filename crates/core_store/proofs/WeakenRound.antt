@@ -129,14 +129,15 @@ module _ (slots : ℕ) (v : TablesView) (c : Core) (h : Stands slots v c) (id sl
         (λ (n : (cell_at later target).strong ≢ 0). inr n) m) (not-let_go target (cell_at later target).strong w.left kept) in
         record {
           proceeds = subst (λ (r : RoundView). Proceeds slots v.ids r act.Change (Some (logs.Weaken id slot target)) (Walking (joined_by (moved slots w) None))) (sym is) (weaken w id slot target None at);
+          begins = λ e. absurd (cc);
           moves = moves;
           core = after_collect c later c.queue c.round;
           after = refl;
-          collects = weakens c.queue c.round (sym (ap (λ (b : Bool). if b then without c.queue target else c.queue) kept)) (there ∙ sym (ap (λ (b : Bool). Some (if b then with_listed (walked w) target else walked w)) kept));
+          collects = inl (weakens c.queue c.round (sym (ap (λ (b : Bool). if b then without c.queue target else c.queue) kept)) (there ∙ sym (ap (λ (b : Bool). Some (if b then with_listed (walked w) target else walked w)) kept)));
           stands = subst (λ (q : List ℕ). Stands slots (record v { zeros = marks; queue = q; round = Walking (joined_by (moved slots w) None) }) (after_collect c later c.queue c.round)) (sym h.queue)
               (Stands-collected slots v c later c.queue c.round marks (Walking (joined_by (moved slots w) None)) h
               (weaken-sound c h.sound (walked w) there (look-law slots w id slot walking.walk at).1 id slot target fits known)
-              (relinked-live c.cells id slot (other_strength (pointer_at c.cells id slot))) (changed.marks_are h.zeros) (ap (λ (r : Round). Some r) (moved-same slots w) ∙ sym there) step tt);
+              (relinked-live c.cells id slot (other_strength (pointer_at c.cells id slot))) (changed.marks_are h.zeros) (ap (λ (r : Round). Some r) (moved-same slots w) ∙ sym there) step tt tt);
         }
 
     -- it leaves the queue and joins the round
@@ -152,14 +153,15 @@ module _ (slots : ℕ) (v : TablesView) (c : Core) (h : Stands slots v c) (id sl
         let round = Some (with_listed (walked w) target) in
         record {
           proceeds = subst (λ (r : RoundView). Proceeds slots v.ids r act.Change (Some (logs.Weaken id slot target)) (Walking (joined_by (moved slots w) (Some target)))) (sym is) (weaken w id slot target (Some target) at);
+          begins = λ e. absurd (cc);
           moves = moves;
           core = after_collect c later queue round;
           after = refl;
-          collects = weakens queue round (sym (ap (λ (b : Bool). if b then without c.queue target else c.queue) goes)) (sym (ap (λ (b : Bool). Some (if b then with_listed (walked w) target else walked w)) goes));
+          collects = inl (weakens queue round (sym (ap (λ (b : Bool). if b then without c.queue target else c.queue) goes)) (sym (ap (λ (b : Bool). Some (if b then with_listed (walked w) target else walked w)) goes)));
           stands = subst (λ (q : List ℕ). Stands slots (record v { zeros = marks; queue = without q target; round = Walking (joined_by (moved slots w) (Some target)) }) (after_collect c later queue round)) (sym h.queue)
               (Stands-collected slots v c later queue round marks (Walking (joined_by (moved slots w) (Some target))) h
               (weaken_joins-sound c h.sound (walked w) there (look-law slots w id slot walking.walk at).1 id slot target fits queue not_root not_listed removes.once removes.without)
-              (relinked-live c.cells id slot (other_strength (pointer_at c.cells id slot))) (changed.marks_are h.zeros) (ap (λ (r : Round). Some r) (moved-joined slots w target)) step tt);
+              (relinked-live c.cells id slot (other_strength (pointer_at c.cells id slot))) (changed.marks_are h.zeros) (ap (λ (r : Round). Some r) (moved-joined slots w target)) step tt tt);
         }
 
 -- ---- what the call left

@@ -1,5 +1,5 @@
 -- A transaction owns an object and writes a slot of it.
-use Rattle.std.proofs.Common.{◌≡◌, ℕ, List, ◌++◌, Bool, true, refl, sym, ap, ◌∙◌, subst, Option, Some, ◌+◌, ◌<◌, arith, map}
+use Rattle.std.proofs.Common.{◌≡◌, ℕ, List, [], ◌∷◌, ◌++◌, Bool, true, refl, sym, ap, ◌∙◌, subst, Option, Some, ◌+◌, ◌<◌, arith, map}
 use Rattle.std.specs.Prelude.{◌||◌, fold}
 use Rattle.std.proofs.lemmas.List.{length_push}
 use Rattle.plain_model.specs.declared.write.Place.TheVariants.{Slot}
@@ -40,7 +40,7 @@ use Rattle.core_store.specs.Touched.{objects_touched}
 use Rattle.core_store.specs.Transactions.{Running, writing}
 use Rattle.core_store.specs.Tables.{TablesView, changed_at}
 use Rattle.core_store.specs.Stands.{Stands, Answers}
-use Rattle.core_store.proofs.EmptiedLaws.{IsEmptied-relinked, IsEmptied-touched}
+use Rattle.core_store.proofs.EmptiedLaws.{IsEmptied-relinked, IsEmptied-touched, IsTested-touched}
 use Rattle.core_store.proofs.LockChanges.{Locked-own}
 use Rattle.core_store.proofs.MapLaws.{puts-changed}
 use Rattle.core_store.proofs.OwedSteps.{owed-with}
@@ -80,7 +80,7 @@ module _ (slots : ℕ) (v : TablesView) (c : Core) (h : Stands slots v c) (pass 
   pub answers-store : (held new : List (HeldFrame slots)) (locks : Table) (marks : List Bool) (references : ℕ → List ℕ) (n : ℕ) → AddsOwner v.locks locks pass id → Nobody (StandsInWayOfOwn (holders_of v.locks id) pass) → slot < slots
       → change ≡ stored_change c.cells id slot target → FitsCells c.cells logged → LaysWell c.cells logged → Agree (after_change c.cells id slot target change) new → IsSameElsewhere c.cells (after_change c.cells id slot target change) held
       → marks ≡ map has_no_strong (after_change c.cells id slot target change) → ((p : ℕ) → references p ≡ named_by (c.refs ++ store_references pass change.old_target target) p) → n ≡ v.owed + 1
-      → Answers slots
+      → Answers slots v
       (record v {
         zeros = marks;
         locks = locks;
@@ -127,6 +127,8 @@ module _ (slots : ℕ) (v : TablesView) (c : Core) (h : Stands slots v c) (pass 
                   (let found : transaction_of after.moment.state pass ≡ Some u = subst (λ (z : State). transaction_of z pass ≡ Some u) (sym state) (transaction_of-with_same c.moment.state pass u) in
                   IsEmptied-relinked after sound (pass, u) (transaction-active after.moment.state sound.state pass u found) c.cells id slot p held-after slots v.ids (fold touched_in v.round objects) (in_step-touched slots v.ids v.round objects h.in_step) (round-touched slots v c h objects)
                   (IsEmptied-touched c.cells v.round objects h.emptied));
+              tested = IsTested-touched after.cells v.round id (change.old_target ∷ target ∷ []);
               owed = owed-with slots c after pass kept (writing x kept) t u h.sound sound state refl s.found s.runs runs v.owed n h.owed (omega (arith, owed, more));
             });
+        round = refl;
       }

@@ -18,8 +18,8 @@ use Rattle.core_store.specs.declared.want.Want.TheVariants.{Ready}
 use Rattle.std.specs.Option.{option_map_or}
 use Rattle.core_store.specs.Work.{objects_of, pages_of_work}
 use Rattle.core_store.specs.Events.{core_after}
-use Rattle.core_store.specs.RoundView.{RoundView, asked, is_event, Proceeds}
-use Rattle.core_store.specs.Collects.{Collects, entry_of}
+use Rattle.core_store.specs.RoundView.{RoundView, asked, is_event, passed, Proceeds}
+use Rattle.core_store.specs.Collects.{Collects, BeginsGreen, entry_of}
 use Rattle.core_store.specs.Tables.{TablesView}
 use Rattle.core_store.specs.Stands.{Stands, Moves}
 
@@ -29,6 +29,11 @@ work_at (at.Look id slot) = Some (record { id = id; change = Some (slot, 0) })
 work_at (at.Copy id) = Some (record { id = id; change = None })
 work_at (at.Cut id slot) = Some (record { id = id; change = Some (slot, 0) })
 work_at (at.Free id) = Some (record { id = id; change = None })
+work_at (at.Test id slot) = Some (record { id = id; change = Some (slot, 0) })
+work_at (at.Flip id) = Some (record { id = id; change = None })
+work_at (at.Into «from» slot to) = Some (record { id = «from»; change = Some (slot, 0) })
+work_at (at.Out «from» slot) = Some (record { id = «from»; change = None })
+work_at (at.Strengthen «from» slot to) = Some (record { id = «from»; change = Some (slot, 0) })
 work_at _ = None
 
 -- the objects that it looks at or works on
@@ -51,13 +56,28 @@ pub record CanCollect {slots : ℕ} (v : TablesView) (held : List (HeldFrame slo
   pub agree : Agree core.cells held
   pub ready : IsReadyToCollect core.cells v.round held
 
+-- the tables stand for some journal, and its next look can be made with the held pages, at which there is nothing to do
+pub record CanPass {slots : ℕ} (v : TablesView) (held : List (HeldFrame slots)) : Type 0 where
+  pub core : Core
+  pub stands : Stands slots v core
+  pub agree : Agree core.cells held
+  pub pages : want_of (pages_to_collect core.cells v.round) (pages_held held) ≡ Ready
+  pub none : is_event core.cells (asked v.round) ≡ false
+
+-- the round goes on behind a look at which there was nothing to do, nothing else changes, and the tables stand for the journal as before
+pub record IsPassedBy (slots : ℕ) (c : Core) (v w : TablesView) : Type 0 where
+  pub round : w.round ≡ passed slots c.cells v.round
+  pub same : w ≡ record v { round = w.round }
+  pub stands : Stands slots w c
+
 -- the event is the one that came next, the new tables stand for the journal after it, and the round goes on behind it
-pub record Collected (slots : ℕ) (v w : TablesView) (c : Core) (held new : List (HeldFrame slots)) (act : Act) (logged : Option CellRecord) : Type 0 where
-  pub proceeds : Proceeds slots v.ids v.round act logged w.round
+pub record Collected (slots : ℕ) (v w : TablesView) (c : Core) (held new : List (HeldFrame slots)) (event : Act) (logged : Option CellRecord) : Type 0 where
+  pub proceeds : Proceeds slots v.ids v.round event logged w.round
+  pub begins : event ≡ act.Judge → BeginsGreen c w.round
   pub moves : Moves slots c.cells held new logged
   pub core : Core
   pub after : core ≡ core_after slots c (entry_of logged) logged core.queue core.round
-  pub collects : Collects slots c act logged core.queue core.round
+  pub collects : Collects slots c event logged core.queue core.round
   pub stands : Stands slots w core
 
 -- whatever the tables and the held pages stand for, the collector makes this event of it

@@ -1,5 +1,5 @@
 -- What the events of the collector make of the queue and the open round, in the words of the cells, the references and the locks before them.
-use Rattle.std.specs.Prelude.{◌≡◌, ℕ, Bool, true, false, not, ◌&&◌, ◌==◌, if◌then◌else◌, List, [], ◌∷◌, ◌++◌, map, filter, Contains, Option, Some, None}
+use Rattle.std.specs.Prelude.{◌≡◌, ℕ, Bool, true, false, not, ◌&&◌, ◌==◌, if◌then◌else◌, List, [], ◌∷◌, ◌++◌, map, filter, Contains, Option, Some, None, ◌⊎◌}
 use Rattle.plain_model.specs.declared.calls.Entry.{Entry}
 use Rattle.plain_model.specs.declared.calls.Entry.TheVariants.{Delete, Hidden}
 use Rattle.plain_model.specs.Graphs.{root}
@@ -7,13 +7,15 @@ use Rattle.store_model.specs.Cells.{cell_at}
 use Rattle.store_model.specs.Records.{HasNoPointer}
 use Rattle.store_model.specs.Core.{Round, Core, is_named}
 use Rattle.store_model.specs.Steps.{opened_round, with_listed, with_copy, with_verdict, with_left}
-use Rattle.store_model.specs.Verdict.{IsCondemned}
+use Rattle.store_model.specs.Strong.{HasNoStrongOut}
+use Rattle.store_model.specs.Verdict.{IsSeed, IsLive, IsCondemned}
 use Rattle.ref_tables.specs.Queue.{has, without, joined}
 use Rattle.green_walk.specs.Judged.{Picks}
 use Rattle.log_record.specs.declared.cell_record.CellRecord.{CellRecord}
 use Rattle.log_record.specs.declared.cell_record.CellRecord.TheVariants as logs
 use Rattle.log_record.specs.Records.{after_cell_record}
 use Rattle.core_store.specs.Changes.{has_no_strong}
+use Rattle.core_store.specs.RoundView.{RoundView, Sweeping}
 use Rattle.core_store.specs.Queued.{all_joined}
 use Rattle.core_store.specs.declared.act.Act.{Act}
 use Rattle.core_store.specs.declared.act.Act.TheVariants as act
@@ -100,15 +102,53 @@ pub record Ends (c : Core) (queue : List ℕ) (round : Option Round) : Type 0 wh
   pub queue_is : queue ≡ all_joined c.queue (filter (is_loose c) of.list)
   pub round_is : round ≡ None
 
+-- an event of the green walk, which comes behind the sweep, at an object that lives: the queue and the round stay
+pub record Greens (c : Core) (id : ℕ) (queue : List ℕ) (round : Option Round) : Type 0 where
+  pub of : Round
+  pub there : c.round ≡ Some of
+  pub behind : of.judged ≡ true
+  pub none_left : of.condemned ≡ []
+  pub listed : Contains of.list id
+  pub queue_is : queue ≡ c.queue
+  pub round_is : round ≡ Some of
+
+-- the object gets its strong pointers again from where it is: no strong pointer leads to it, and none out of it
+pub record IsWhite (c : Core) (id : ℕ) : Type 0 where
+  pub zero : has_no_strong (cell_at c.cells id) ≡ true
+  pub none_out : HasNoStrongOut c.cells id
+
+-- an object is flipped to which no strong pointer leads, and out of which none leads
+pub record Flips (c : Core) (id : ℕ) (queue : List ℕ) (round : Option Round) : Type 0 where
+  pub greens : Greens c id queue round
+  pub white : IsWhite c id
+
+-- a strong pointer between two objects of the round becomes weak again, since its target was flipped
+pub record WeakensInto (c : Core) (id target : ℕ) (queue : List ℕ) (round : Option Round) : Type 0 where
+  pub greens : Greens c id queue round
+  pub target_listed : Contains greens.of.list target
+
+-- a pointer between two objects of the round becomes strong: no strong pointer leads to its target, and none out of it
+pub record Strengthens (c : Core) (id target : ℕ) (queue : List ℕ) (round : Option Round) : Type 0 where
+  pub greens : Greens c id queue round
+  pub target_listed : Contains greens.of.list target
+  pub white : IsWhite c target
+
+-- the green walk begins with the seeds and the objects that live by the copies, in the list's order
+abbrev pub BeginsGreen : Core → RoundView → Type 0
+BeginsGreen c (Sweeping w s slot g) = (r : Round) → c.round ≡ Some r → Picks (IsSeed c r) r.list g.seeds × Picks (IsLive c r) r.list g.live
+BeginsGreen c _ = ⊥
+
 -- what an event of the collector makes of the queue and the round
 abbrev pub Collects : ℕ → Core → Act → Option CellRecord → List ℕ → Option Round → Type 0
 Collects slots c (act.Skip id) None queue round = Skips c id queue round
 Collects slots c (act.Start id) None queue round = Starts c id queue round
-Collects slots c act.Change (Some (logs.Weaken id slot target)) queue round = Weakens slots c id slot target queue round
+Collects slots c act.Change (Some (logs.Weaken id slot target)) queue round = Weakens slots c id slot target queue round ⊎ WeakensInto c id target queue round
 Collects slots c (act.Scan id) None queue round = Scans c id queue round
 Collects slots c act.Judge None queue round = Judges c queue round
 Collects slots c act.Change (Some (logs.CutDead id slot target was_strong)) queue round = Cuts slots c id slot target was_strong queue round
 Collects slots c act.Change (Some (logs.Free id)) queue round = Frees c id queue round
+Collects slots c act.Change (Some (logs.Flip id)) queue round = Flips c id queue round
+Collects slots c act.Change (Some (logs.Strengthen id slot target)) queue round = Strengthens c id target queue round
 Collects slots c act.End None queue round = Ends c queue round
 Collects slots c _ _ queue round = ⊥
 

@@ -1,21 +1,23 @@
 -- What a round is kept in.
-use Rattle.std.specs.Prelude.{◌≡◌, ℕ, ◌<◌, ◌≤◌, Bool, true, false, List, length, slice_index, slice_index_or}
+use Rattle.std.specs.Prelude.{◌≡◌, ◌≢◌, ℕ, ◌<◌, ◌≤◌, Bool, true, false, List, length, slice_index, slice_index_or, Contains, None}
 use Rattle.strict_locks.specs.Locks.{Table, holders_of, Holds}
 use Rattle.red_walk.specs.Walk.{Walk}
 use Rattle.green_walk.specs.Judged.{Judged}
-use Rattle.green_walk.specs.Sweeping.{Sweeping as Sweep}
+use Rattle.green_walk.specs.declared.sweep.SweepAt.TheVariants as sweep
+use Rattle.green_walk.specs.Sweeping.{Sweeping as Sweep, next as next_of_sweep}
+use Rattle.green_walk.specs.Greening.{Greening}
 use Rattle.core_store.specs.declared.round.Stage.{Stage}
 use Rattle.core_store.specs.declared.round.Stage.TheVariants as stage
 use Rattle.core_store.specs.RoundView.{RoundView, Closed, Walking, Sweeping}
 
 -- the round that these are
-abbrev pub view_of_round : Stage → Walk → Sweep → ℕ → RoundView
-view_of_round stage.Closed w s slot = Closed
-view_of_round stage.Walking w s slot = Walking w
-view_of_round stage.Sweeping w s slot = Sweeping w s slot
+abbrev pub view_of_round : Stage → Walk → Sweep → ℕ → Greening → RoundView
+view_of_round stage.Closed w s slot g = Closed
+view_of_round stage.Walking w s slot g = Walking w
+view_of_round stage.Sweeping w s slot g = Sweeping w s slot g
 
 -- there is room for the same ids everywhere, and nothing leaves a round before its verdict
-pub record AreInStep (slots ids : ℕ) (at : Stage) (w : Walk) (locked : List Bool) (j : Judged) (s : Sweep) (slot : ℕ) : Type 0 where
+pub record AreInStep (slots ids : ℕ) (at : Stage) (w : Walk) (locked : List Bool) (j : Judged) (s : Sweep) (slot : ℕ) (g : Greening) : Type 0 where
   pub walk_limit : w.limit ≡ ids
   pub locked_limit : length locked ≡ ids
   pub verdict_limit : j.limit ≡ ids
@@ -23,6 +25,13 @@ pub record AreInStep (slots ids : ℕ) (at : Stage) (w : Walk) (locked : List Bo
   pub few : ids ≤ 8192
   pub within : slot < slots
   pub whole : at ≡ stage.Walking → w.left ≡ w.list
+  pub green_limit : g.limit ≡ ids
+  pub green_slots : g.slots ≡ slots
+  -- behind the verdict the green walk is over objects of the round that aren't condemned
+  pub left : at ≡ stage.Sweeping → (id : ℕ) → Contains g.live id → Contains w.left id
+  pub spared : at ≡ stage.Sweeping → (id : ℕ) → Contains g.live id → Contains s.list id → ⊥
+  -- and tests begin behind the sweep
+  pub at_rest : at ≡ stage.Sweeping → next_of_sweep s ≢ sweep.End → g.test ≡ None
 
 -- the row says of each object of the list whether some client holds a lock on it
 pub record IsRowOf (locks : Table) (list : List ℕ) (row : List Bool) : Type 0 where

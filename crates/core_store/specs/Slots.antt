@@ -1,7 +1,8 @@
 -- What a change of a slot is asked for, and what it leaves.
-use Rattle.std.specs.Prelude.{◌≡◌, ◌≢◌, ℕ, ◌<◌, ◌≤◌, ◌==◌, Bool, true, List, length, map}
+use Rattle.std.specs.Prelude.{◌≡◌, ◌≢◌, ℕ, ◌<◌, ◌≤◌, ◌==◌, ◌&&◌, Bool, true, not, List, length, map}
 use Rattle.std.specs.List.{list_any, AllByRecursion}
-use Rattle.store_model.specs.Cells.{Pointer, Cell, is_live, pointer_at, other_strength, relinked}
+use Rattle.plain_model.specs.Graphs.{root}
+use Rattle.store_model.specs.Cells.{Pointer, Cell, is_live, is_strong, cell_at, pointer_at, other_strength, relinked, edit, flipped}
 use Rattle.store_model.specs.SoundCells.{AreConsistent}
 use Rattle.strength_counts.specs.Held.{Held, is_held as is_cell_held}
 use Rattle.strength_counts.specs.Laws.{ArePart}
@@ -53,6 +54,41 @@ abbrev pub WeakensSlot : {slots : ℕ} → List (HeldFrame slots) → List (Held
 WeakensSlot {slots} held new zeros marks id slot result =
     (ids : ℕ) (cells : List Cell) → Agree cells held → CanChange slots ids cells id slot 0 → is_counted_strong cells (pointer_at cells id slot) ≡ true
     → (result ≡ (pointer_at cells id slot).target) × IsChanged cells (relinked cells id slot (other_strength (pointer_at cells id slot))) held new zeros marks
+
+-- the pointer isn't null, and it is weak
+abbrev pub is_counted_weak : List Cell → Pointer → Bool
+is_counted_weak cells p = not (p.target == 0) && not (is_strong cells p)
+
+-- some store's cells are held, whose slot holds a weak pointer, with the pages of the object and of its target; and these are its marks
+pub record IsReadyToStrengthen {slots : ℕ} (held : List (HeldFrame slots)) (zeros : List Bool) (id slot : ℕ) : Type 0 where
+  pub ready : IsReadyToChange held zeros id slot 0
+  pub weak : is_counted_weak ready.cells (pointer_at ready.cells id slot) ≡ true
+
+-- whatever cells are held whose slot holds a weak pointer, it becomes strong
+abbrev pub StrengthensSlot : {slots : ℕ} → List (HeldFrame slots) → List (HeldFrame slots) → List Bool → List Bool → ℕ → ℕ → Type 0
+StrengthensSlot {slots} held new zeros marks id slot =
+    (ids : ℕ) (cells : List Cell) → Agree cells held → CanChange slots ids cells id slot 0 → is_counted_weak cells (pointer_at cells id slot) ≡ true → IsChanged cells (relinked cells id slot (other_strength (pointer_at cells id slot))) held new zeros marks
+
+-- the object can be flipped: it is a live one of consistent cells, and no strong pointer leads to it
+pub record CanFlip (slots ids : ℕ) (cells : List Cell) (id : ℕ) : Type 0 where
+  pub consistent : AreConsistent slots ids cells
+  pub few : ids ≤ 8192
+  pub live : is_live cells id ≡ true
+  pub not_root : id ≢ root
+  pub zero : (cell_at cells id).strong ≡ 0
+
+-- some store's cells are held, in which the object can be flipped, with its page; and these are its marks
+pub record IsReadyToFlip {slots : ℕ} (held : List (HeldFrame slots)) (zeros : List Bool) (id : ℕ) : Type 0 where
+  pub ids : ℕ
+  pub cells : List Cell
+  pub agree : Agree cells held
+  pub marks : zeros ≡ map has_no_strong cells
+  pub can : CanFlip slots ids cells id
+  pub page : is_held held (page_of_id id) ≡ true
+
+-- whatever cells are held in which the object can be flipped, it is
+abbrev pub FlipsCell : {slots : ℕ} → List (HeldFrame slots) → List (HeldFrame slots) → List Bool → List Bool → ℕ → Type 0
+FlipsCell {slots} held new zeros marks id = (ids : ℕ) (cells : List Cell) → Agree cells held → CanFlip slots ids cells id → IsChanged cells (edit cells id (flipped id)) held new zeros marks
 
 -- some store's cells are held, and the object is a live one of them
 pub record IsReadyToEdit {slots : ℕ} (held : List (HeldFrame slots)) (id : ℕ) : Type 0 where

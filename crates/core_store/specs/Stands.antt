@@ -18,7 +18,10 @@ use Rattle.plain_model.specs.declared.calls.Call.TheVariants.{Abort}
 use Rattle.plain_model.specs.declared.calls.Reply.TheVariants.{Done}
 use Rattle.strict_locks.specs.Locks.{holders_of, is_owner, is_sharer}
 use Rattle.cell_page.specs.Format.{IsSlotCount}
-use Rattle.store_model.specs.Cells.{Cell, is_live, pointer_at}
+use Rattle.green_walk.specs.declared.green_at.GreenAt.TheVariants.{Out}
+use Rattle.green_walk.specs.declared.green_at.Test.{Test}
+use Rattle.green_walk.specs.Greening.{Greening, next as next_of_green}
+use Rattle.store_model.specs.Cells.{Cell, cell_at, is_live, pointer_at}
 use Rattle.store_model.specs.Core.{Core}
 use Rattle.store_model.specs.Sound.{IsSound}
 use Rattle.log_record.specs.declared.cell_record.CellRecord.{CellRecord}
@@ -26,12 +29,12 @@ use Rattle.log_record.specs.declared.cell_record.CellRecord.TheVariants.{AbortEn
 use Rattle.log_record.specs.Records.{FitsCells, LaysWell}
 use Rattle.core_store.specs.declared.three.HeldFrame.{HeldFrame}
 use Rattle.core_store.specs.Frames.{Agree, IsSameElsewhere}
-use Rattle.core_store.specs.Changes.{has_no_strong}
+use Rattle.core_store.specs.Changes.{is_counted_strong, has_no_strong}
 use Rattle.core_store.specs.Replaced.{replaced, next_to_restore}
 use Rattle.core_store.specs.Logged.{logged_by, logged_by_undo, after_logged}
 use Rattle.core_store.specs.Transactions.{Running, running_at}
 use Rattle.core_store.specs.References.{named_by}
-use Rattle.core_store.specs.RoundView.{RoundView, Closed, Walking, Sweeping, round_of, IsInStep}
+use Rattle.core_store.specs.RoundView.{RoundView, Closed, Walking, Sweeping, round_of, touched_by_record, IsInStep}
 use Rattle.core_store.specs.Events.{after_event}
 use Rattle.core_store.specs.Owed.{entries_owed}
 use Rattle.core_store.specs.Tables.{TablesView}
@@ -81,9 +84,20 @@ most_ids = 8192
 abbrev pub IsEmptied : List Cell → RoundView → Type 0
 IsEmptied cells Closed = Unit {0}
 IsEmptied cells (Walking w) = Unit {0}
-IsEmptied cells (Sweeping w s slot) =
+IsEmptied cells (Sweeping w s slot g) =
     ((place k : ℕ) → s.freed ≤ place → place < s.emptied → place < length s.list → (pointer_at cells (slice_index s.list place) k).target ≡ 0)
     × ((k : ℕ) → s.emptied < length s.list → k < slot → (pointer_at cells (slice_index s.list s.emptied) k).target ≡ 0)
+
+-- a test of an object out of which no strong pointer was found to lead: none leads to it, the slots that were looked at hold none, and where it is at a slot of a green object, this names the tested one
+pub record IsTestedIn (cells : List Cell) (g : Greening) (t : Test) : Type 0 where
+  pub zero : has_no_strong (cell_at cells t.id) ≡ true
+  pub none : (k : ℕ) → k < t.slot → is_counted_strong cells (pointer_at cells t.id k) ≡ false
+  pub named : («from» slot : ℕ) → next_of_green g ≡ Out «from» slot → (pointer_at cells «from» slot).target ≡ t.id
+
+-- what a test has found so far holds of the cells
+abbrev pub IsTested : List Cell → RoundView → Type 0
+IsTested cells (Sweeping w s slot g) = IfSome g.test (IsTestedIn cells g)
+IsTested cells _ = Unit {0}
 
 -- the tables stand for the journal, in a store whose objects have so many slots
 pub record Stands (slots : ℕ) (v : TablesView) (c : Core) : Type 0 where
@@ -106,6 +120,7 @@ pub record Stands (slots : ℕ) (v : TablesView) (c : Core) : Type 0 where
   pub round : round_of v.round ≡ c.round
   pub in_step : IsInStep slots v.ids v.round
   pub emptied : IsEmptied c.cells v.round
+  pub tested : IsTested c.cells v.round
   -- what is owed is what the active transactions owe
   pub owed : v.owed ≡ entries_owed c.moment
 
@@ -121,31 +136,35 @@ pub record Moves (slots : ℕ) (cells : List Cell) (held new : List (HeldFrame s
   pub elsewhere : IsSameElsewhere cells (after_logged slots cells logged) held
 
 -- the reply and the record are those of the call, and the new tables stand for the journal after it
-pub record Answers (slots : ℕ) (w : TablesView) (c : Core) (held new : List (HeldFrame slots)) (pass : ℕ) (call : TransactionCall) (reply : Reply) (logged : Option CellRecord) : Type 0 where
+pub record Answers (slots : ℕ) (v w : TablesView) (c : Core) (held new : List (HeldFrame slots)) (pass : ℕ) (call : TransactionCall) (reply : Reply) (logged : Option CellRecord) : Type 0 where
   pub machine : reply ≡ (step c.moment.state pass call).0
   pub record_is : logged ≡ logged_by c.moment.state c.cells pass call
   pub moves : Moves slots c.cells held new logged
   pub stands : Stands slots w (after_event slots c (Call pass call reply) logged)
+  -- the objects that the record concerns are touched, and nothing else happens to the round
+  pub round : w.round ≡ touched_by_record v.round logged
 
 -- whatever the tables and the held pages stand for, the call is done as the machine does it
 abbrev pub Performs : (slots : ℕ) → TablesView → TablesView → List (HeldFrame slots) → List (HeldFrame slots) → ℕ → TransactionCall → Reply → Option CellRecord → Type 0
-Performs slots v w held new pass call reply logged = (c : Core) → Stands slots v c → Agree c.cells held → Answers slots w c held new pass call reply logged
+Performs slots v w held new pass call reply logged = (c : Core) → Stands slots v c → Agree c.cells held → Answers slots v w c held new pass call reply logged
 
 -- one write of the client is undone, with this record
-pub record Undoes (slots : ℕ) (w : TablesView) (c : Core) (held new : List (HeldFrame slots)) (pass : ℕ) (logged : CellRecord) : Type 0 where
+pub record Undoes (slots : ℕ) (v w : TablesView) (c : Core) (held new : List (HeldFrame slots)) (pass : ℕ) (logged : CellRecord) : Type 0 where
   pub some_left : 0 < left_to_undo c.moment pass
   pub record_is : Some logged ≡ option_map (logged_by_undo c.cells pass) (next_to_restore c.moment pass)
   pub moves : Moves slots c.cells held new (Some logged)
   pub stands : Stands slots w (after_event slots c (Undo pass) (Some logged))
+  pub round : w.round ≡ touched_by_record v.round (Some logged)
 
 abbrev pub UndoesOne : (slots : ℕ) → TablesView → TablesView → List (HeldFrame slots) → List (HeldFrame slots) → ℕ → CellRecord → Type 0
-UndoesOne slots v w held new pass logged = (c : Core) → Stands slots v c → Agree c.cells held → Undoes slots w c held new pass logged
+UndoesOne slots v w held new pass logged = (c : Core) → Stands slots v c → Agree c.cells held → Undoes slots v w c held new pass logged
 
 -- all writes of the client are undone, and its transaction has ended
-pub record Ended (slots : ℕ) (w : TablesView) (c : Core) (pass : ℕ) : Type 0 where
+pub record Ended (slots : ℕ) (v w : TablesView) (c : Core) (pass : ℕ) : Type 0 where
   pub all_undone : c.moment.undone pass ≡ undoable c.moment.state pass
   pub machine : Done ≡ (step c.moment.state pass Abort).0
   pub stands : Stands slots w (after_event slots c (Call pass Abort Done) (Some (AbortEnd pass)))
+  pub round : w.round ≡ v.round
 
 abbrev pub EndsAbort : ℕ → TablesView → TablesView → ℕ → Type 0
-EndsAbort slots v w pass = (c : Core) → Stands slots v c → Ended slots w c pass
+EndsAbort slots v w pass = (c : Core) → Stands slots v c → Ended slots v w c pass

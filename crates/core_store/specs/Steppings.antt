@@ -5,6 +5,7 @@ use Rattle.plain_model.specs.declared.calls.Reply.TheVariants as reply
 use Rattle.plain_model.specs.History.{with_entry}
 use Rattle.log_record.specs.declared.cell_record.CellRecord.{CellRecord}
 use Rattle.core_store.specs.declared.act.Act.{Act}
+use Rattle.core_store.specs.declared.act.Act.TheVariants as act
 use Rattle.core_store.specs.declared.collect.Collect.{Collect}
 use Rattle.core_store.specs.declared.collect.Collect.TheVariants.{Did, Deleted}
 use Rattle.core_store.specs.declared.three.HeldFrame.{HeldFrame}
@@ -15,7 +16,7 @@ use Rattle.core_store.specs.JournalView.{JournalView, cells_of, core_of, with_no
 use Rattle.core_store.specs.Limited.{is_past_limit, pages_for_collector}
 use Rattle.core_store.specs.RoundView.{asked, is_event, left_of, Proceeds}
 use Rattle.core_store.specs.Events.{core_after}
-use Rattle.core_store.specs.Collects.{Collects, entry_of}
+use Rattle.core_store.specs.Collects.{Collects, BeginsGreen, entry_of}
 use Rattle.core_store.specs.Collecting.{answer_of}
 
 -- a reply that enters the history
@@ -46,12 +47,14 @@ pub record IsReadyForCollector {slots : ℕ} (j : JournalView) (held : List (Hel
 
 -- the collector made the event that came next: it is noted with its entry, the queue and the round are what it makes of them, and the answer tells of it
 pub record MakesEvent (slots : ℕ) (old new : JournalView) (result : Collect) : Type 0 where
-  pub act : Act
+  pub event : Act
   pub logged : Option CellRecord
   pub entry : new.history ≡ with_entry old.history (entry_of logged)
-  pub noted : new.notes ≡ with_note old.notes (entry_of logged) logged (left_of slots new.round) act
+  pub noted : new.notes ≡ with_note old.notes (entry_of logged) logged (left_of slots new.round) event
   pub core : core_of new ≡ core_after slots (core_of old) (entry_of logged) logged new.queue (core_of new).round
-  pub collects : Collects slots (core_of old) act logged new.queue (core_of new).round
-  pub proceeds : Proceeds slots old.history.ids old.round act logged new.round
-  pub answer : result ≡ answer_of act logged (left_of slots new.round)
+  pub collects : Collects slots (core_of old) event logged new.queue (core_of new).round
+  pub proceeds : Proceeds slots old.history.ids old.round event logged new.round
+  -- at the verdict the green walk begins with the seeds and what lives
+  pub begins : event ≡ act.Judge → BeginsGreen (core_of old) new.round
+  pub answer : result ≡ answer_of event logged (left_of slots new.round)
   pub marks : new.marks ≡ old.marks

@@ -9,8 +9,8 @@ ghost use Rattle.core_store.specs.declared.three.HeldFrame.{HeldFrame};
 ghost use Rattle.core_store.specs.Frames.{Agree, IsNext, pages_held};
 ghost use Rattle.core_store.specs.Logged.{want_of, object_and_targets};
 ghost use Rattle.core_store.specs.Slots.{HoldsPagesOf};
-ghost use Rattle.core_store.specs.RoundView.{Closed, is_closed, asked, is_event, IsLookAt, Passes, touched_in, ids_in};
-ghost use Rattle.core_store.specs.Collecting.{work_at, objects_at, pages_to_collect, CanCollect, CollectsOne};
+ghost use Rattle.core_store.specs.RoundView.{Closed, is_closed, asked, is_event, IsLookAt, Passes, passed, touched_in, ids_in};
+ghost use Rattle.core_store.specs.Collecting.{work_at, objects_at, pages_to_collect, CanCollect, CollectsOne, CanPass, IsPassedBy};
 ghost use Rattle.core_store.specs.Work.{IsWork, HasSmallTargets};
 ghost use Rattle.core_store.specs.Views.{view_of};
 ghost use Rattle.core_store.specs.Stands.{Stands};
@@ -25,6 +25,7 @@ use crate::three::Three;
 use crate::want::{Want, Work, wanted};
 use crate::{references, slots};
 use cell_page::Cell;
+use green_walk::Found;
 use log_record::CellRecord;
 use plain_model::Memory;
 
@@ -43,9 +44,16 @@ fn work_at(at: RoundAt) -> Option<Work>
     ensures { result ≡ work_at at }
 {
     match at {
-        RoundAt::Queue | RoundAt::Judge | RoundAt::End => None,
-        RoundAt::Copy { id } | RoundAt::Free { id } => Some(Work { id, change: None }),
-        RoundAt::Look { id, slot } | RoundAt::Cut { id, slot } => Some(Work {
+        RoundAt::Queue | RoundAt::Judge | RoundAt::Seed { .. } | RoundAt::End => None,
+        RoundAt::Copy { id }
+        | RoundAt::Free { id }
+        | RoundAt::Flip { id }
+        | RoundAt::Out { from: id, .. } => Some(Work { id, change: None }),
+        RoundAt::Look { id, slot }
+        | RoundAt::Cut { id, slot }
+        | RoundAt::Test { id, slot }
+        | RoundAt::Into { from: id, slot, .. }
+        | RoundAt::Strengthen { from: id, slot, .. } => Some(Work {
             id,
             change: Some((slot, 0)),
         }),
@@ -62,10 +70,14 @@ fn is_event<const SLOTS: usize>(held: &Three<SLOTS>, at: RoundAt) -> bool
     match at {
         RoundAt::Look { id, slot } => slots::is_strong(held, id, slot),
         RoundAt::Cut { id, slot } => slots::is_pointer(held, id, slot),
+        RoundAt::Into { from, slot, to } => slots::leads_to(held, from, slot, to),
+        RoundAt::Seed { .. } | RoundAt::Test { .. } | RoundAt::Out { .. } => false,
         RoundAt::Queue
         | RoundAt::Copy { .. }
         | RoundAt::Judge
         | RoundAt::Free { .. }
+        | RoundAt::Flip { .. }
+        | RoundAt::Strengthen { .. }
         | RoundAt::End => true,
     }
 }
@@ -95,7 +107,74 @@ impl<const SLOTS: usize> Tables<SLOTS> {
             if want != Want::Ready || is_event(held, at) {
                 return want;
             }
-            self.round.passed();
+            self.pass(held, at);
+        }
+    }
+
+    /// Goes on from a look at which there was nothing to do.
+    fn pass(&mut self, held: &Three<SLOTS>, at: RoundAt)
+        requires at { at ≡ asked (view_of self.old).round }
+        requires ready { CanPass (view_of self.old) held.now }
+        ensures passes { (c : Core) → Stands SLOTS (view_of self.old) c → Agree c.cells held.now → (view_of self.new).round ≡ passed SLOTS c.cells (view_of self.old).round }
+        ensures stands { (c : Core) → Stands SLOTS (view_of self.old) c → Agree c.cells held.now → Stands SLOTS (view_of self.new) c }
+        ensures same { view_of self.new ≡ record (view_of self.old) { round = (view_of self.new).round } }
+    {
+        match at {
+            RoundAt::Look { .. } | RoundAt::Cut { .. } => self.round.passed(),
+            RoundAt::Seed { id } => self.see_seed(id),
+            RoundAt::Test { id, slot } => self.see_slot_of_test(held, id, slot),
+            RoundAt::Into { .. } => self.round.found(Found::Nothing),
+            RoundAt::Out { from, slot } => self.see_slot_of_green(held, from, slot),
+            RoundAt::Queue
+            | RoundAt::Copy { .. }
+            | RoundAt::Judge
+            | RoundAt::Free { .. }
+            | RoundAt::Flip { .. }
+            | RoundAt::Strengthen { .. }
+            | RoundAt::End => {}
+        }
+    }
+
+    /// The look at a seed: it is passed over where it is green, it becomes green where a strong pointer leads to it, and
+    /// else a test begins whether one leads out of it.
+    fn see_seed(&mut self, id: u32)
+        requires at { asked (view_of self.old).round ≡ RoundAt.Seed id }
+        requires standing { (c : Core) × Stands SLOTS (view_of self.old) c }
+        ensures seen { (c : Core) → Stands SLOTS (view_of self.old) c → IsPassedBy SLOTS c (view_of self.old) (view_of self.new) }
+    {
+        if !self.round.waits(id) {
+            self.round.found(Found::Nothing);
+        } else if self.zeros[id as usize] {
+            self.round.begin_test(id);
+        } else {
+            self.round.found(Found::Strong);
+        }
+    }
+
+    /// The look at a slot of a tested object: a strong pointer in it ends the test, and there is nothing to do.
+    fn see_slot_of_test(&mut self, held: &Three<SLOTS>, id: u32, slot: u8)
+        requires at { asked (view_of self.old).round ≡ RoundAt.Test id slot }
+        requires ready { CanPass (view_of self.old) held.now }
+        ensures seen { (c : Core) → Stands SLOTS (view_of self.old) c → Agree c.cells held.now → IsPassedBy SLOTS c (view_of self.old) (view_of self.new) }
+    {
+        if slots::is_strong(held, id, slot) {
+            self.round.found(Found::Nothing);
+        } else {
+            self.round.tested();
+        }
+    }
+
+    /// The look at a slot of a green object: its target is tested where it waits and no strong pointer leads to it.
+    fn see_slot_of_green(&mut self, held: &Three<SLOTS>, from: u32, slot: u8)
+        requires at { asked (view_of self.old).round ≡ RoundAt.Out from slot }
+        requires ready { CanPass (view_of self.old) held.now }
+        ensures seen { (c : Core) → Stands SLOTS (view_of self.old) c → Agree c.cells held.now → IsPassedBy SLOTS c (view_of self.old) (view_of self.new) }
+    {
+        let target = held.cell(from).slots[slot as usize];
+        if self.round.waits(target) && self.zeros[target as usize] {
+            self.round.begin_test(target);
+        } else {
+            self.round.found(Found::Nothing);
         }
     }
 
@@ -115,7 +194,15 @@ impl<const SLOTS: usize> Tables<SLOTS> {
             RoundAt::Judge => Ok(self.judge()),
             RoundAt::Cut { id, slot } => Ok(self.cut_dead(held, id, slot)),
             RoundAt::Free { id } => self.free_dead(held, id),
+            RoundAt::Flip { id } => Ok(self.flip(held, id)),
+            RoundAt::Into { from, slot, to } => Ok(self.weaken_into(held, from, slot, to)),
+            RoundAt::Strengthen { from, slot, to } => Ok(self.strengthen(held, from, slot, to)),
             RoundAt::End => Ok(self.end_round()),
+            // Looks are made before.
+            RoundAt::Seed { .. } | RoundAt::Test { .. } | RoundAt::Out { .. } => Ok(Event {
+                act: Act::Other,
+                logged: None,
+            }),
         }
     }
 
@@ -280,6 +367,62 @@ impl<const SLOTS: usize> Tables<SLOTS> {
             act: Act::Change,
             logged: Some(CellRecord::Free { id }),
         })
+    }
+
+    /// Flips a seed: its pointers to itself stay weak, and all others to it become strong.
+    fn flip(&mut self, held: &mut Three<SLOTS>, id: u32) -> Event
+        requires ready { CanCollect (view_of self.old) held.old }
+        requires at { asked (view_of self.old).round ≡ RoundAt.Flip id }
+        ensures collects { CollectsOne SLOTS (view_of self.old) (view_of self.new) held.old held.new result.act result.logged }
+        ensures owed { self.new.owed ≡ self.old.owed }
+        ensures pages { pages_held held.new ≡ pages_held held.old }
+    {
+        slots::flip(held, &mut self.zeros, id);
+        self.round.found(Found::Made { id });
+        Event {
+            act: Act::Change,
+            logged: Some(CellRecord::Flip { id }),
+        }
+    }
+
+    /// Makes the strong pointer in the slot weak, which leads to the object that was flipped.
+    fn weaken_into(&mut self, held: &mut Three<SLOTS>, from: u32, slot: u8, to: u32) -> Event
+        requires ready { CanCollect (view_of self.old) held.old }
+        requires at { asked (view_of self.old).round ≡ RoundAt.Into from slot to }
+        ensures collects { CollectsOne SLOTS (view_of self.old) (view_of self.new) held.old held.new result.act result.logged }
+        ensures owed { self.new.owed ≡ self.old.owed }
+        ensures pages { pages_held held.new ≡ pages_held held.old }
+    {
+        slots::weaken(held, &mut self.zeros, from, slot);
+        self.round.found(Found::Made { id: from });
+        Event {
+            act: Act::Change,
+            logged: Some(CellRecord::Weaken {
+                id: from,
+                slot,
+                target: to,
+            }),
+        }
+    }
+
+    /// Makes the weak pointer in the slot of a green object strong, which leads to the object that was tested.
+    fn strengthen(&mut self, held: &mut Three<SLOTS>, from: u32, slot: u8, to: u32) -> Event
+        requires ready { CanCollect (view_of self.old) held.old }
+        requires at { asked (view_of self.old).round ≡ RoundAt.Strengthen from slot to }
+        ensures collects { CollectsOne SLOTS (view_of self.old) (view_of self.new) held.old held.new result.act result.logged }
+        ensures owed { self.new.owed ≡ self.old.owed }
+        ensures pages { pages_held held.new ≡ pages_held held.old }
+    {
+        slots::strengthen(held, &mut self.zeros, from, slot);
+        self.round.found(Found::Made { id: to });
+        Event {
+            act: Act::Change,
+            logged: Some(CellRecord::Strengthen {
+                id: from,
+                slot,
+                target: to,
+            }),
+        }
     }
 
     /// Lets an object of the round join the queue where no strong pointer leads to it and no transaction names it.

@@ -1,19 +1,22 @@
 //! The open round of the collector.
-ghost use Rattle.std.specs.Prelude.{◌≡◌, ℕ, ◌≤◌, ◌<◌, List, Bool, false, filter, length, IfOk, IfSome};
+ghost use Rattle.std.specs.Prelude.{◌≡◌, ℕ, ◌≤◌, ◌<◌, List, Bool, false, filter, length, IfOk, IfSome, unwrap_or};
 ghost use Rattle.cell_page.specs.Format.{IsSlotCount};
 ghost use Rattle.strict_locks.specs.Locks.{Table};
 ghost use Rattle.ref_tables.specs.Queue.{has};
 ghost use Rattle.red_walk.specs.Walk.{Walk, IsWalk, opened, moved, joined_by, copied, removed};
 ghost use Rattle.red_walk.specs.Inside.{copy_of_seen};
 ghost use Rattle.green_walk.specs.declared.sweep.Found.{Found};
-ghost use Rattle.green_walk.specs.Judged.{IsSeed, IsLive, Picks};
+ghost use Rattle.green_walk.specs.Judged.{Judged, IsSeed, IsLive, Picks};
 ghost use Rattle.green_walk.specs.Sweeping.{Sweeping as Sweep, IsSweep, started, found};
-ghost use Rattle.core_store.specs.RoundView.{RoundView, Closed, Walking, Sweeping, asked, IsLookAt, passed, touched_in, next_slot, left_of, ids_in, IsInStep};
+ghost use Rattle.green_walk.specs.Greening.{Greening, IsGreening, next as next_of_green, found as found_by_green, started as green_started, IsAnswer, IsTestable, waits, testing, tested};
+ghost use Rattle.green_walk.specs.GreenLaws.{most_work};
+ghost use Rattle.store_model.specs.Cells.{Cell as StoredCell};
+ghost use Rattle.core_store.specs.RoundView.{RoundView, Closed, Walking, Sweeping, asked, asked_by_test, asked_by_green, IsSlotLook, IsGreenAnswer, IsGreenTestable, passed, touched_in, left_of, ids_in, IsInStep};
 ghost use Rattle.core_store.specs.RoundInside.{IsRowOf};
 
 use crate::round_at::RoundAt;
 use cell_page::Seen;
-use green_walk::{Found, LockView, Sweep, SweepAt, Verdict};
+use green_walk::{Found, Green, GreenAt, LockView, Sweep, SweepAt, Test, Verdict};
 use plain_model::Memory;
 use red_walk::{Red, RedAt};
 use ref_tables::TempRefs;
@@ -31,7 +34,52 @@ enum Stage {
     Sweeping,
 }
 
-/// The open round, or none: its walk, its verdict and its sweep.
+/// What a test asks for next: a slot of its object, where one is left.
+fn next_of_test<const SLOTS: usize>(test: Test) -> Option<RoundAt>
+    requires { IsSlotCount SLOTS }
+    ensures { (over : RoundAt) → unwrap_or result over ≡ asked_by_test SLOTS test over }
+{
+    if test.slot as usize == SLOTS {
+        return None;
+    }
+    Some(RoundAt::Test {
+        id: test.id,
+        slot: test.slot,
+    })
+}
+
+/// What the green walk asks for next.
+fn asked_by_green<const SLOTS: usize>(green: &Green<SLOTS>) -> RoundAt
+    requires size { IsSlotCount SLOTS }
+    requires slots { green.now.slots ≡ SLOTS }
+    ensures { result ≡ asked_by_green SLOTS green.now.test (next_of_green green.now) }
+{
+    match (green.next(), green.test()) {
+        (GreenAt::Seed { id }, None) => RoundAt::Seed { id },
+        (GreenAt::Seed { id }, Some(test)) => {
+            next_of_test::<SLOTS>(test).unwrap_or(RoundAt::Flip { id })
+        }
+        (GreenAt::Into { from, slot, to }, _) => RoundAt::Into { from, slot, to },
+        (GreenAt::Out { from, slot }, None) => RoundAt::Out { from, slot },
+        (GreenAt::Out { from, slot }, Some(test)) => {
+            let to = test.id;
+            next_of_test::<SLOTS>(test).unwrap_or(RoundAt::Strengthen { from, slot, to })
+        }
+        (GreenAt::End, _) => RoundAt::End,
+    }
+}
+
+/// What a green walk over so many objects takes at most.
+fn most_work(slots: u64, objects: u64) -> u64
+    requires slots { slots ≤ 14 }
+    requires objects { objects ≤ 8192 }
+    ensures { result ≡ most_work slots objects }
+{
+    let looks = objects * slots;
+    objects * ((slots + 3) + (looks + 2) + looks * (slots + 2))
+}
+
+/// The open round, or none: its walk, its verdict, its sweep and its green walk.
 ///
 /// Room for all ids is taken when it is made, and no later call takes memory.
 #[derive(Debug, Drop)]
@@ -41,6 +89,7 @@ pub(crate) struct Round<const SLOTS: usize> {
     locked: LockView,
     verdict: Verdict,
     sweep: Sweep,
+    green: Green<SLOTS>,
     stage: Stage,
     /// The slot of the condemned object in hand from which on references may be left.
     slot: u8,
@@ -52,9 +101,9 @@ impl<const SLOTS: usize> Model for Round<SLOTS> {
 
     ghost Value = { Rounds };
 
-    ghost view = { λ a. record { limit = a.ids; view = view_of_round a.stage a.red a.sweep a.slot } };
+    ghost view = { λ a. record { limit = a.ids; view = view_of_round a.stage a.red a.sweep a.slot a.green } };
 
-    ghost invariant = { λ a. AreInStep SLOTS a.ids a.stage a.red a.locked a.verdict a.sweep a.slot };
+    ghost invariant = { λ a. AreInStep SLOTS a.ids a.stage a.red a.locked a.verdict a.sweep a.slot a.green };
 }
 
 /// Notes which of the objects are locked, each at its place.
@@ -68,13 +117,15 @@ fn note_locked(row: &mut LockView, list: &[u32], locks: &LockTable)
     }
 }
 
-/// What holds of every walk and of every sweep is known from here on.
-fn known<const SLOTS: usize>(red: &Red<SLOTS>, sweep: &Sweep)
+/// What holds of every walk, of every sweep and of every green walk is known from here on.
+fn known<const SLOTS: usize>(red: &Red<SLOTS>, sweep: &Sweep, green: &Green<SLOTS>)
     ensures walk { IsWalk SLOTS red.now }
     ensures sweep { IsSweep sweep.now }
+    ensures green { IsGreening green.now }
 {
     let _ = red.list();
     let _ = sweep.next();
+    let _ = green.next();
 }
 
 impl<const SLOTS: usize> Round<SLOTS> {
@@ -90,6 +141,7 @@ impl<const SLOTS: usize> Round<SLOTS> {
             locked: LockView::new(alloc, ids)?,
             verdict: Verdict::new(alloc, ids)?,
             sweep: Sweep::new(alloc, ids)?,
+            green: Green::new(alloc, ids)?,
             stage: Stage::Closed,
             slot: 0,
         })
@@ -101,7 +153,7 @@ impl<const SLOTS: usize> Round<SLOTS> {
         // What holds of every round.
         ensures sound { IsInStep SLOTS self.now.limit self.now.view }
     {
-        known(&self.red, &self.sweep);
+        known(&self.red, &self.sweep, &self.green);
         match self.stage {
             Stage::Closed => RoundAt::Queue,
             Stage::Walking => match self.red.at() {
@@ -115,7 +167,7 @@ impl<const SLOTS: usize> Round<SLOTS> {
                     slot: self.slot,
                 },
                 SweepAt::Free { id } => RoundAt::Free { id },
-                SweepAt::End => RoundAt::End,
+                SweepAt::End => asked_by_green(&self.green),
             },
         }
     }
@@ -124,16 +176,18 @@ impl<const SLOTS: usize> Round<SLOTS> {
     pub(crate) fn left(&self) -> u64
         ensures { result ≡ left_of SLOTS self.now.view }
     {
-        known(&self.red, &self.sweep);
+        known(&self.red, &self.sweep, &self.green);
         match self.stage {
             Stage::Closed => 0,
             Stage::Walking => {
-                let sweeping = (SLOTS as u64 + 1) * self.ids as u64 + 1;
-                self.red.work_left() + 1 + sweeping
+                let ids = self.ids as u64;
+                let greening = most_work(SLOTS as u64, ids);
+                self.red.work_left() + 1 + ((SLOTS as u64 + 1) * ids + greening + 1)
             }
             Stage::Sweeping => {
                 let slots = SLOTS as u64 * self.sweep.unemptied() as u64;
-                slots.saturating_sub(self.slot as u64) + self.sweep.unfreed() as u64 + 1
+                let sweeping = slots.saturating_sub(self.slot as u64) + self.sweep.unfreed() as u64;
+                sweeping + self.green.work_left() + 1
             }
         }
     }
@@ -159,8 +213,8 @@ impl<const SLOTS: usize> Round<SLOTS> {
 
     /// The objects that joined the open round, the freed ones too.
     pub(crate) fn list(&self) -> &[u32]
-        ensures walk { (w : Walk) (s : Sweep) (slot : ℕ) → self.now.view ≡ Sweeping w s slot → result.now ≡ w.list }
-        ensures left { (w : Walk) (s : Sweep) (slot : ℕ) → self.now.view ≡ Sweeping w s slot → filter (has w.left) result.now ≡ w.left }
+        ensures walk { (w : Walk) (s : Sweep) (slot : ℕ) (g : Greening) → self.now.view ≡ Sweeping w s slot g → result.now ≡ w.list }
+        ensures left { (w : Walk) (s : Sweep) (slot : ℕ) (g : Greening) → self.now.view ≡ Sweeping w s slot g → filter (has w.left) result.now ≡ w.left }
     {
         self.red.list()
     }
@@ -173,20 +227,20 @@ impl<const SLOTS: usize> Round<SLOTS> {
     {
         self.red.start(id);
         self.stage = Stage::Walking;
-        known(&self.red, &self.sweep);
+        known(&self.red, &self.sweep, &self.green);
     }
 
-    /// Goes on from a slot that was looked at, at which there was nothing to do.
+    /// Goes on from a slot that was looked at before the verdict or in the sweep, at which there was nothing to do.
     pub(crate) fn passed(&mut self)
-        requires look { IsLookAt (asked self.old.view) }
-        ensures passed { self.new ≡ record self.old { view = passed SLOTS self.old.view } }
+        requires look { IsSlotLook (asked self.old.view) }
+        ensures passed { (cells : List StoredCell) → self.new ≡ record self.old { view = passed SLOTS cells self.old.view } }
         ensures sound { IsInStep SLOTS self.new.limit self.new.view }
     {
         match self.stage {
             Stage::Closed => {}
             Stage::Walking => {
                 self.red.passed();
-                known(&self.red, &self.sweep);
+                known(&self.red, &self.sweep, &self.green);
             }
             Stage::Sweeping => self.cut(),
         }
@@ -200,7 +254,7 @@ impl<const SLOTS: usize> Round<SLOTS> {
         ensures sound { IsInStep SLOTS self.new.limit self.new.view }
     {
         self.red.weakened(joins);
-        known(&self.red, &self.sweep);
+        known(&self.red, &self.sweep, &self.green);
     }
 
     /// Takes the copy of the object that was asked for.
@@ -210,59 +264,104 @@ impl<const SLOTS: usize> Round<SLOTS> {
         ensures sound { IsInStep SLOTS self.new.limit self.new.view }
     {
         self.red.scan(id, copy);
-        known(&self.red, &self.sweep);
+        known(&self.red, &self.sweep, &self.green);
     }
 
-    /// Marks the object as touched, where a verdict is to come and some object was copied.
+    /// The object changed: it is marked as touched, where a verdict is to come and some object was copied, and behind the
+    /// verdict the green walk looks again at what it knew.
     pub(crate) fn touch(&mut self, id: u32)
         ensures touched { self.new ≡ record self.old { view = touched_in self.old.view id } }
         ensures sound { IsInStep SLOTS self.new.limit self.new.view }
     {
-        if self.stage == Stage::Walking {
-            self.red.touch(id);
+        match self.stage {
+            Stage::Closed => {}
+            Stage::Walking => self.red.touch(id),
+            Stage::Sweeping => self.green.again(),
         }
-        known(&self.red, &self.sweep);
+        known(&self.red, &self.sweep, &self.green);
     }
 
-    /// The verdict: the sweep begins with what it condemns.
+    /// The verdict: the sweep begins with what it condemns, and the green walk with what lives.
     pub(crate) fn judge(&mut self, locks: &LockTable, refs: &TempRefs)
         requires at { asked self.old.view ≡ RoundAt.Judge }
-        ensures judged { (w : Walk) → self.old.view ≡ Walking w → (row : List Bool) × (condemned : List ℕ) × IsRowOf locks.now w.list row × Picks (λ id. IsLive w (IsSeed w row refs.now) id → ⊥) w.list condemned × (self.new ≡ record self.old { view = Sweeping w (started condemned self.old.limit) 0 }) }
+        ensures judged { (w : Walk) → self.old.view ≡ Walking w → (row : List Bool) × (j : Judged) × IsRowOf locks.now w.list row × Picks (IsSeed w row refs.now) w.list j.seeds × Picks (IsLive w (IsSeed w row refs.now)) w.list j.live × Picks (λ id. IsLive w (IsSeed w row refs.now) id → ⊥) w.list j.condemned × (self.new ≡ record self.old { view = Sweeping w (started j.condemned self.old.limit) 0 (green_started SLOTS j w) }) }
         ensures sound { IsInStep SLOTS self.new.limit self.new.view }
     {
         note_locked(&mut self.locked, self.red.list(), locks);
         self.verdict.decide(&self.red, &self.locked, refs);
         self.sweep.start(&self.verdict);
+        self.green.start(&self.verdict, &self.red);
         self.stage = Stage::Sweeping;
         self.slot = 0;
-        known(&self.red, &self.sweep);
+        known(&self.red, &self.sweep, &self.green);
     }
 
     /// Goes on from a slot of a condemned object, which is null now.
     pub(crate) fn cut(&mut self)
         requires at { (id : ℕ) × (slot : ℕ) × (asked self.old.view ≡ RoundAt.Cut id slot) }
-        ensures moved { self.new ≡ record self.old { view = passed SLOTS self.old.view } }
+        ensures moved { (cells : List StoredCell) → self.new ≡ record self.old { view = passed SLOTS cells self.old.view } }
         ensures sound { IsInStep SLOTS self.new.limit self.new.view }
     {
-        known(&self.red, &self.sweep);
+        known(&self.red, &self.sweep, &self.green);
         if self.slot as usize + 1 == SLOTS {
             self.sweep.found(Found::Nothing);
             self.slot = 0;
         } else {
             self.slot += 1;
         }
-        known(&self.red, &self.sweep);
+        known(&self.red, &self.sweep, &self.green);
     }
 
     /// The object that was to be freed is free.
     pub(crate) fn freed(&mut self, id: u32)
         requires at { asked self.old.view ≡ RoundAt.Free id }
-        ensures freed { (w : Walk) (s : Sweep) (slot : ℕ) → self.old.view ≡ Sweeping w s slot → self.new ≡ record self.old { view = Sweeping (removed w id) (found s (Found.Made id)) slot } }
+        ensures freed { (w : Walk) (s : Sweep) (slot : ℕ) (g : Greening) → self.old.view ≡ Sweeping w s slot g → self.new ≡ record self.old { view = Sweeping (removed w id) (found s (Found.Made id)) slot g } }
         ensures sound { IsInStep SLOTS self.new.limit self.new.view }
     {
+        known(&self.red, &self.sweep, &self.green);
         self.sweep.found(Found::Made { id });
         self.red.remove(id);
-        known(&self.red, &self.sweep);
+        known(&self.red, &self.sweep, &self.green);
+    }
+
+    /// Whether the object lives by the verdict and isn't green.
+    pub(crate) fn waits(&self, id: u32) -> bool
+        ensures { (w : Walk) (s : Sweep) (slot : ℕ) (g : Greening) → self.now.view ≡ Sweeping w s slot g → result ≡ waits g id }
+    {
+        self.green.waits(id)
+    }
+
+    /// Takes the answer to what the green walk asked for.
+    pub(crate) fn found(&mut self, what: Found)
+        requires answer { IsGreenAnswer self.old.view what }
+        ensures found { (w : Walk) (s : Sweep) (slot : ℕ) (g : Greening) → self.old.view ≡ Sweeping w s slot g → self.new ≡ record self.old { view = Sweeping w s slot (found_by_green g what) } }
+        ensures sound { IsInStep SLOTS self.new.limit self.new.view }
+    {
+        known(&self.red, &self.sweep, &self.green);
+        self.green.found(what);
+        known(&self.red, &self.sweep, &self.green);
+    }
+
+    /// A test of an object begins at what the green walk asked for: whether a strong pointer leads out of it.
+    pub(crate) fn begin_test(&mut self, id: u32)
+        requires testable { IsGreenTestable self.old.view id }
+        ensures begun { (w : Walk) (s : Sweep) (slot : ℕ) (g : Greening) → self.old.view ≡ Sweeping w s slot g → self.new ≡ record self.old { view = Sweeping w s slot (testing g id) } }
+        ensures sound { IsInStep SLOTS self.new.limit self.new.view }
+    {
+        known(&self.red, &self.sweep, &self.green);
+        self.green.begin_test(id);
+        known(&self.red, &self.sweep, &self.green);
+    }
+
+    /// The test goes on: the slot holds no strong pointer.
+    pub(crate) fn tested(&mut self)
+        requires at { (id : ℕ) × (slot : ℕ) × (asked self.old.view ≡ RoundAt.Test id slot) }
+        ensures tested { (w : Walk) (s : Sweep) (slot : ℕ) (g : Greening) → self.old.view ≡ Sweeping w s slot g → self.new ≡ record self.old { view = Sweeping w s slot (tested g) } }
+        ensures sound { IsInStep SLOTS self.new.limit self.new.view }
+    {
+        known(&self.red, &self.sweep, &self.green);
+        self.green.passed();
+        known(&self.red, &self.sweep, &self.green);
     }
 
     /// The round closes.

@@ -1,20 +1,78 @@
 //! What the collector is about to do.
 
-/// What the collector looks at or does next.
+/// What the collector looks at or does next. The clauses on its steps speak of it.
 #[derive(Clone, Copy, PartialEq, Eq, Debug)]
-pub(crate) enum RoundAt {
+pub enum RoundAt {
     /// No round is open: the first object of the queue is taken out.
     Queue,
     /// A look at this slot of an object of the round: a strong pointer there is made weak.
-    Look { id: u32, slot: u8 },
+    Look {
+        /// The object.
+        id: u32,
+        /// The slot, counted from 0.
+        slot: u8,
+    },
     /// A copy of the object's slots and counts.
-    Copy { id: u32 },
+    Copy {
+        /// The object.
+        id: u32,
+    },
     /// The verdict.
     Judge,
     /// A look at this slot of a condemned object: a pointer there is removed.
-    Cut { id: u32, slot: u8 },
+    Cut {
+        /// The object.
+        id: u32,
+        /// The slot, counted from 0.
+        slot: u8,
+    },
     /// The condemned object is freed.
-    Free { id: u32 },
+    Free {
+        /// The object.
+        id: u32,
+    },
+    /// A look at a seed: whether a strong pointer leads to it.
+    Seed {
+        /// The object.
+        id: u32,
+    },
+    /// A look at this slot of an object that is to be flipped or to get a strong pointer: whether it holds a strong one.
+    Test {
+        /// The object.
+        id: u32,
+        /// The slot, counted from 0.
+        slot: u8,
+    },
+    /// The seed is flipped.
+    Flip {
+        /// The object.
+        id: u32,
+    },
+    /// A look at this slot: a strong pointer there to the object that was flipped is made weak.
+    Into {
+        /// The object whose slot it is.
+        from: u32,
+        /// The slot, counted from 0.
+        slot: u8,
+        /// The object that was flipped.
+        to: u32,
+    },
+    /// A look at this slot of a green object: whether its target may get a strong pointer.
+    Out {
+        /// The object whose slot it is.
+        from: u32,
+        /// The slot, counted from 0.
+        slot: u8,
+    },
+    /// The weak pointer in this slot of a green object is made strong.
+    Strengthen {
+        /// The object whose slot it is.
+        from: u32,
+        /// The slot, counted from 0.
+        slot: u8,
+        /// The object to which it leads.
+        to: u32,
+    },
     /// The round closes.
     End,
 }

@@ -1,6 +1,6 @@
 //! The change of a slot, with the strengths of what it held and holds and the counts of its targets.
 
-ghost use Rattle.std.specs.Prelude.{◌≡◌, ◌≢◌, ℕ, ◌<◌, ◌==◌, List, [], ◌∷◌, ◌++◌, true, false, not, length, Some};
+ghost use Rattle.std.specs.Prelude.{◌≡◌, ◌≢◌, ℕ, ◌<◌, ◌==◌, List, [], ◌∷◌, ◌++◌, ◌&&◌, true, false, not, length, Some};
 ghost use Rattle.store_model.specs.Cells.{Cell as StoredCell, null, cell_at, pointer_at, is_live, edit, pays};
 ghost use Rattle.cell_page.specs.Format.{IsSlotCount, IsCell};
 ghost use Rattle.cell_page.specs.Stored.{cell_of};
@@ -10,7 +10,7 @@ ghost use Rattle.core_store.specs.Frames.{pages_held, Agree};
 ghost use Rattle.core_store.specs.Logged.{if_any, object_and_targets};
 ghost use Rattle.core_store.specs.Work.{IsWork, HasSmallTargets};
 ghost use Rattle.core_store.specs.Changes.{is_counted_strong, is_laid_strong, bit_for, stored_change, restored_change};
-ghost use Rattle.core_store.specs.Slots.{HoldsPagesOf, IsReadyToWeaken, WeakensSlot, IsReadyToChange, IsReadyToEdit, IsChanged, Changes, HoldsCellsOf, AreCellsOf, AreReadyToChange, AreRelinked, HasPlace};
+ghost use Rattle.core_store.specs.Slots.{HoldsPagesOf, IsReadyToWeaken, WeakensSlot, IsReadyToStrengthen, StrengthensSlot, IsReadyToFlip, FlipsCell, IsReadyToChange, IsReadyToEdit, IsChanged, Changes, HoldsCellsOf, AreCellsOf, AreReadyToChange, AreRelinked, HasPlace};
 
 use crate::three::Three;
 use cell_page::Cell;
@@ -189,6 +189,51 @@ pub(crate) fn weaken<const SLOTS: usize>(
     cells.weaken(id, slot);
     scatter(held, zeros, cells);
     target
+}
+
+/// Makes the slot's weak pointer strong.
+pub(crate) fn strengthen<const SLOTS: usize>(
+    held: &mut Three<SLOTS>,
+    zeros: &mut Vec<bool>,
+    id: u32,
+    slot: u8,
+)
+    requires size { IsSlotCount SLOTS }
+    requires ready { IsReadyToStrengthen held.old zeros.old.items id slot }
+    ensures strengthens { StrengthensSlot held.old held.new zeros.old.items zeros.new.items id slot }
+    ensures pages { pages_held held.new ≡ pages_held held.old }
+{
+    let target = held.cell(id).slots[slot as usize];
+    let mut cells = gather(held, id, target, 0);
+    cells.strengthen(id, slot);
+    scatter(held, zeros, cells);
+}
+
+/// Flips an object: its pointers to itself stay weak, and all others to it become strong.
+pub(crate) fn flip<const SLOTS: usize>(held: &mut Three<SLOTS>, zeros: &mut Vec<bool>, id: u32)
+    requires size { IsSlotCount SLOTS }
+    requires ready { IsReadyToFlip held.old zeros.old.items id }
+    ensures flips { FlipsCell held.old held.new zeros.old.items zeros.new.items id }
+    ensures pages { pages_held held.new ≡ pages_held held.old }
+{
+    let mut cells = Cells::new(*held.cell(id));
+    cells.flip(id);
+    scatter(held, zeros, cells);
+}
+
+/// Whether the slot holds a strong pointer to this object.
+pub(crate) fn leads_to<const SLOTS: usize>(
+    held: &Three<SLOTS>,
+    id: u32,
+    slot: u8,
+    target: u32,
+) -> bool
+    requires size { IsSlotCount SLOTS }
+    requires work { IsWork SLOTS (record { id = id; change = Some (slot, 0) }) }
+    requires pages { (cells : List StoredCell) × Agree cells held.now × HasSmallTargets cells × HoldsPagesOf held.now (object_and_targets cells id slot 0) }
+    ensures { (cells : List StoredCell) → Agree cells held.now → result ≡ (((pointer_at cells id slot).target == target) && is_counted_strong cells (pointer_at cells id slot)) }
+{
+    held.cell(id).slots[slot as usize] == target && is_strong(held, id, slot)
 }
 
 /// Whether the slot holds a strong pointer.

@@ -389,3 +389,48 @@ fn what_an_abort_leaves_is_deleted(rt: HostRuntime) -> Result<(), Fail> {
     assert_eq!(rt; store.journal.queue_len(), 0);
     Ok(())
 }
+
+/// Steps of the collector, more than there is work for.
+fn collect_all(store: &mut Store) {
+    for _ in 0..40 {
+        let _ = store.collect_step();
+    }
+}
+
+#[test]
+fn a_pointer_to_itself_stays_weak_over_a_flip(rt: HostRuntime) -> Result<(), Fail> {
+    let mut store = Store::fresh(rt.alloc(), 1)?;
+    let linked = store_at(0, 0, Some(1));
+    let looped = store_at(1, 0, Some(1));
+    let again = store_at(0, 1, Some(1));
+    let cleared = store_at(0, 0, None);
+    expect(&rt, &mut store, 1, Call::Begin, Reply::Done);
+    expect(&rt, &mut store, 1, Call::Make { into: 1 }, Reply::Id(2));
+    expect(&rt, &mut store, 1, linked, Reply::Done);
+    expect(&rt, &mut store, 1, looped, Reply::Done);
+    expect(&rt, &mut store, 1, again, Reply::Done);
+    expect(&rt, &mut store, 1, cleared, Reply::Done);
+    expect(&rt, &mut store, 1, Call::Commit, Reply::Done);
+    collect_all(&mut store);
+    assert_eq!(rt; store.counts(2), Some((1, 1)));
+    Ok(())
+}
+
+#[test]
+fn what_an_undo_laid_weak_becomes_strong(rt: HostRuntime) -> Result<(), Fail> {
+    let mut store = Store::fresh(rt.alloc(), 1)?;
+    let linked = store_at(0, 0, Some(1));
+    let cleared = store_at(0, 0, None);
+    expect(&rt, &mut store, 1, Call::Begin, Reply::Done);
+    expect(&rt, &mut store, 1, Call::Make { into: 1 }, Reply::Id(2));
+    expect(&rt, &mut store, 1, linked, Reply::Done);
+    expect(&rt, &mut store, 1, Call::Commit, Reply::Done);
+    expect(&rt, &mut store, 2, Call::Begin, Reply::Done);
+    expect(&rt, &mut store, 2, cleared, Reply::Done);
+    assert_eq!(rt; store.abort_step(2), Some(AbortStep::Undone));
+    assert_eq!(rt; store.abort_step(2), Some(AbortStep::Ended));
+    assert_eq!(rt; store.counts(2), Some((0, 1)));
+    collect_all(&mut store);
+    assert_eq!(rt; store.counts(2), Some((1, 0)));
+    Ok(())
+}

@@ -16,7 +16,7 @@ use Rattle.core_store.specs.Logged.{logged_by_undo}
 use Rattle.core_store.specs.Replaced.{next_to_restore}
 use Rattle.core_store.specs.Views.{view_of as tables_of}
 use Rattle.core_store.proofs.AskLaws.{ready-undo}
-use Rattle.core_store.proofs.AbortLaws.{has-undone, undone-left, undone-record, has-ended, ended-left}
+use Rattle.core_store.proofs.AbortLaws.{has-undone, undone-left, undone-record, undone-round, has-ended, ended-left, ended-round}
 use Rattle.core_store.proofs.HappensLaws.{client_note}
 use Rattle.core_store.proofs.JournalLaws.{active-running}
 use Rattle.core_store.proofs.JournalSteps.{Grows, HasGrown}
@@ -69,6 +69,11 @@ returns-in-Undone-clause-noted_undo g c = λ _.
 pub returns-in-Undone-clause-collector_undo : goal.returns-in-Undone-clause-collector_undo
 returns-in-Undone-clause-collector_undo g c = λ _. (undone g c).core_is ∙ ap (λ (r : Option CellRecord). after_event g.row.SLOTS (core_of c.args.self.now) (Undo c.args.pass) r) (logged g c)
 
+pub returns-in-Undone-clause-cursor_undo : goal.returns-in-Undone-clause-cursor_undo
+returns-in-Undone-clause-cursor_undo g c = λ _.
+    undone-round c.self.inside (after_undo g c) c.args.self.now c.args.held.now c.abort_step-outcome.new.held c.args.pass c.left-left.result c.self.invariant c.self.view_is c.requires.agree c.abort_step-outcome.ensures.owed
+    c.abort_step-outcome.result.logged (grows g c) (c.abort_step-outcome.ensures.undone c.in-Undone.is)
+
 pub returns-in-Undone-clause-agree : goal.returns-in-Undone-clause-agree
 returns-in-Undone-clause-agree g c = (undone g c).agree
 
@@ -112,6 +117,11 @@ returns-in-Ended-clause-noted_end g c = λ _. ap (λ (j : JournalView). j.notes)
 
 pub returns-in-Ended-clause-collector_end : goal.returns-in-Ended-clause-collector_end
 returns-in-Ended-clause-collector_end g c = λ _. (it g c).core_is
+
+pub returns-in-Ended-clause-cursor_end : goal.returns-in-Ended-clause-cursor_end
+returns-in-Ended-clause-cursor_end g c = λ _.
+    let end = c.abort_step-outcome.ensures.ended c.in-Ended.is in
+    ended-round c.self.inside (after_end g c) c.args.self.now c.args.held.now c.abort_step-outcome.new.held c.args.pass c.left-left.result c.self.invariant c.self.view_is c.requires.agree c.abort_step-outcome.ensures.owed (ended g c) end.0 end.2
 
 pub returns-in-Ended-clause-agree : goal.returns-in-Ended-clause-agree
 returns-in-Ended-clause-agree g c = (it g c).agree

@@ -26,7 +26,7 @@ cut-requires g c = (search rules, (c.args.id, c.args.slot, ap (λ (w : TablesVie
 pub invariant_of-self-2 : goal.invariant_of-self-2
 invariant_of-self-2 g c =
     let t = c.queue_cut.new.self in
-    record { owes = t.owes; queue_sized = t.queue_sized; named_sized = t.named_sized; round_sized = ap (λ (r : Rounds). r.limit) c.cut.ensures.moved ∙ t.round_sized }
+    record { owes = t.owes; queue_sized = t.queue_sized; named_sized = t.named_sized; round_sized = ap (λ (r : Rounds). r.limit) (c.cut.ensures.moved c.requires.ready.core.cells) ∙ t.round_sized }
 
 pub returns-clause-collects : goal.returns-clause-collects
 returns-clause-collects g c d h agree ready =
@@ -34,4 +34,4 @@ returns-clause-collects g c d h agree ready =
     let t = c.queue_cut.new.self in
     let k = cut-of g.row.SLOTS v d c.args.held.now c.args.id c.args.slot h agree ready c.requires.at c.restore-change.new.held c.restore-change.new.zeros.items c.restore-change.result c.restore-change.ensures.changes in
     let at = asked-cut v.round c.args.id c.args.slot c.requires.at in
-    cut-collected h k at.0 at.1 at.2 at.3 (view_of {slots = g.row.SLOTS} t) t.round.limit c.cut.new.self c.queue_cut.ensures.joins t.round_sized c.cut.ensures.moved c.cut.ensures.sound
+    cut-collected h k at.0 at.1 at.2 at.3 at.4 (view_of {slots = g.row.SLOTS} t) t.round.limit c.cut.new.self c.queue_cut.ensures.joins t.round_sized (c.cut.ensures.moved d.cells) c.cut.ensures.sound

@@ -41,18 +41,18 @@ pub invariant_of-self-2 : goal.invariant_of-self-2
 invariant_of-self-2 g c =
     let t = c.args.self.now in
     let w = asked-free t.round.view c.args.id c.requires.at in
-    record { owes = t.owes; queue_sized = t.queue_sized; named_sized = t.named_sized; round_sized = ap (λ (r : Rounds). r.limit) (c.freed.ensures.freed w.0 w.1 w.2 w.3) ∙ t.round_sized }
+    record { owes = t.owes; queue_sized = t.queue_sized; named_sized = t.named_sized; round_sized = ap (λ (r : Rounds). r.limit) (c.freed.ensures.freed w.0 w.1 w.2 w.3 w.4) ∙ t.round_sized }
 
 pub returns-clause-ok : goal.returns-clause-ok
 returns-clause-ok g c d h agree ready =
     let v = view_of c.args.self.now in
     let id = c.args.id in
     let w = asked-free v.round id c.requires.at in
-    let is = c.freed.ensures.freed w.0 w.1 w.2 w.3 in
+    let is = c.freed.ensures.freed w.0 w.1 w.2 w.3 w.4 in
     let step = subst (λ (r : Rounds). IsInStep g.row.SLOTS r.limit r.view) is c.freed.ensures.sound in
-    let step_of = subst (λ (n : ℕ). IsInStep g.row.SLOTS n (Sweeping (removed w.0 id) (found w.1 (Made id)) w.2)) c.args.self.now.round_sized step in
+    let step_of = subst (λ (n : ℕ). IsInStep g.row.SLOTS n (Sweeping (removed w.0 id) (found w.1 (Made id)) w.2 w.3)) c.args.self.now.round_sized step in
     subst (λ (r : Rounds). Collected g.row.SLOTS v (record v { free = c.insert.new.self.keys; round = r.view }) d c.args.held.now c.put_cell.new.self act.Change (Some (logs.Free id))) (sym is)
-    (free-collected g.row.SLOTS v d h w.0 w.1 w.2 id w.3 w.4 c.insert.new.self.keys (joined-updates id v.free c.insert.new.self.keys c.in_ok-insert.ensures.updates.0) step_of
+    (free-collected g.row.SLOTS v d h w.0 w.1 w.2 w.3 id w.4 w.5 c.insert.new.self.keys (joined-updates id v.free c.insert.new.self.keys c.in_ok-insert.ensures.updates.0) step_of
     c.args.held.now c.put_cell.new.self (can-pages v c.requires.ready (at.Free id) c.requires.at).0 (freed d.cells agree))
   where
     freed : (cells : List StoredCell) → Agree cells c.args.held.now → Agree (edit cells c.args.id (λ _. blank_cell false g.row.SLOTS)) c.put_cell.new.self

@@ -7,7 +7,7 @@ use Rattle.core_store.specs.Frames.{pages_held, IsNext}
 use Rattle.core_store.specs.Logged.{want_of}
 use Rattle.core_store.specs.Slots.{HoldsPagesOf}
 use Rattle.core_store.specs.Work.{IsWork, pages_of_work}
-use Rattle.core_store.specs.RoundView.{Rounds, asked, left_of, is_event}
+use Rattle.core_store.specs.RoundView.{RoundView, asked, left_of, is_event}
 use Rattle.core_store.specs.Collecting.{work_at, objects_at}
 use Rattle.core_store.specs.Tables.{TablesView}
 use Rattle.core_store.specs.Views.{view_of}
@@ -15,7 +15,7 @@ use Rattle.core_store.proofs.LeftLaws.{left-passed}
 use Rattle.core_store.proofs.NextLaws.{next-of}
 use Rattle.core_store.proofs.PlanWork.{small-targets}
 use Rattle.core_store.proofs.ReadyRound.{asked-work, asked-few, ready-pages}
-use Rattle.core_store.proofs.PassLaws.{HasPassed, passed-none, passed-more, look-of}
+use Rattle.core_store.proofs.PassLaws.{passed-none, passed-more}
 use Rattle.core_store.proofs.tables.Tables.wants_collect_step.Goals as goal
 use Rattle.core_store.proofs.tables.Tables.wants_collect_step.Goals.{then-ne-via-then-ne, then-ne-via-else-ne+then-is_event}
 
@@ -43,25 +43,34 @@ is_event-requires g c =
     let pages = subst (λ (a : RoundAt). HoldsPagesOf held (objects_at r.core.cells a)) (sym c.at-at.ensures.next) (ready-pages r.core.cells view held wants) in
     (search rules, (r.stands.counted, (work, λ look. (r.core.cells, r.agree, small-targets h, pages))))
 
-pub passed-requires : goal.passed-requires
-passed-requires g c =
+pub pass-requires : goal.pass-requires
+pass-requires g c =
     let r = c.requires.standing in
-    (search rules, look-of r.core.cells (asked c.looks.self.round.view) (ap (is_event r.core.cells) (sym c.at-at.ensures.next) ∙ (sym (c.is_event.ensures r.core.cells r.agree) ∙ c.if-is_event.false)))
+    let small : g.row.SLOTS ≤ 14 = ⊎_elim (λ six. omega arith) (λ fourteen. omega arith) r.stands.counted in
+    let held = c.args.held.now in
+    let h = c.looks.invariant.stands r.core r.stands r.agree in
+    let ready : c.wanted-want.result ≡ Ready = search rules in
+    let wants = ap (λ (o : Option Work). want_of (pages_of_work r.core.cells o) (pages_held held)) (sym (c.work_at.ensures ∙ ap work_at c.at-at.ensures.next)) ∙ (sym (c.wanted-want.ensures.exact r.core.cells r.agree) ∙ ready) in
+    let nothing = ap (is_event r.core.cells) (sym c.at-at.ensures.next) ∙ (sym (c.is_event.ensures r.core.cells r.agree) ∙ c.if-is_event.false) in
+    (search rules, (search rules, (c.at-at.ensures.next, record { core = r.core; stands = h; agree = r.agree; pages = wants; none = nothing })))
 
 pub looks-smaller : goal.looks-smaller
 looks-smaller g c =
     let r = c.requires.standing in
+    let view = c.looks.self.round.view in
     let h = c.looks.invariant.stands r.core r.stands r.agree in
-    let look = look-of r.core.cells (asked c.looks.self.round.view) (ap (is_event r.core.cells) (sym c.at-at.ensures.next) ∙ (sym (c.is_event.ensures r.core.cells r.agree) ∙ c.if-is_event.false)) in
-    subst (λ (x : Rounds). left_of g.row.SLOTS x.view < left_of g.row.SLOTS c.looks.self.round.view) (sym c.passed.ensures.passed) (left-passed g.row.SLOTS c.looks.self.ids c.looks.self.round.view h.in_step look)
+    let nothing = ap (is_event r.core.cells) (sym c.at-at.ensures.next) ∙ (sym (c.is_event.ensures r.core.cells r.agree) ∙ c.if-is_event.false) in
+    subst (λ (x : RoundView). left_of g.row.SLOTS x < left_of g.row.SLOTS view) (sym (c.pass.ensures.passes r.core h r.agree)) (left-passed g.row.SLOTS c.looks.self.ids r.core.cells view h.in_step nothing)
 
 pub looks-preserved : goal.looks-preserved
 looks-preserved g c =
-    let held = c.args.held.now in
-    let v = view_of c.args.self.now in
-    let w = view_of {slots = g.row.SLOTS} c.looks.self in
-    subst (λ (x : Rounds). HasPassed g.row.SLOTS v (record w { round = x.view }) held) (sym c.passed.ensures.passed)
-    (passed-more g.row.SLOTS v w held c.looks.invariant (λ d h agree. ap (is_event d.cells) (sym c.at-at.ensures.next) ∙ (sym (c.is_event.ensures d.cells agree) ∙ c.if-is_event.false)))
+    passed-more g.row.SLOTS (view_of c.args.self.now) (view_of {slots = g.row.SLOTS} c.looks.self) (view_of {slots = g.row.SLOTS} c.pass.new.self) c.args.held.now c.looks.invariant
+    (record {
+      same = c.pass.ensures.same;
+      nothing = λ d h agree. ap (is_event d.cells) (sym c.at-at.ensures.next) ∙ (sym (c.is_event.ensures d.cells agree) ∙ c.if-is_event.false);
+      passes = c.pass.ensures.passes;
+      stands = c.pass.ensures.stands;
+    })
 
 pub returns-then-ne-clause-next : goal.returns-then-ne-clause-next
 returns-then-ne-clause-next g c page e =

@@ -1,0 +1,33 @@
+use Rattle.std.proofs.Common.{rules, ◌≤◌, ap, ◌∙◌, ⊎_elim, arith}
+use Rattle.core_store.specs.RoundView.{Rounds}
+use Rattle.core_store.specs.declared.round_at.RoundAt.TheVariants as at
+use Rattle.core_store.specs.Views.{view_of}
+use Rattle.core_store.proofs.GreenCalls.{asks-green, into-ready, into-answers, into-done}
+use Rattle.core_store.proofs.tables.Tables.weaken_into.Goals as goal
+
+pub weaken-requires : goal.weaken-requires
+weaken-requires g c =
+    let r = c.requires.ready in
+    let v = view_of c.args.self.now in
+    let small : g.row.SLOTS ≤ 14 = ⊎_elim (λ six. omega arith) (λ fourteen. omega arith) r.stands.counted in
+    let b = asks-green v (at.Into c.args.«from» c.args.slot c.args.to) tt c.requires.at in
+    (search rules, (r.stands.counted, into-ready g.row.SLOTS v c.args.«from» c.args.slot c.args.to b c.requires.at r))
+
+pub found-requires : goal.found-requires
+found-requires g c =
+    let v = view_of c.args.self.now in
+    let b = asks-green v (at.Into c.args.«from» c.args.slot c.args.to) tt c.requires.at in
+    (search rules, into-answers g.row.SLOTS v c.args.«from» c.args.slot c.args.to b c.requires.at c.requires.ready)
+
+pub invariant_of-self : goal.invariant_of-self
+invariant_of-self g c =
+    let t = c.args.self.now in
+    let b = asks-green (view_of t) (at.Into c.args.«from» c.args.slot c.args.to) tt c.requires.at in
+    record { owes = t.owes; queue_sized = t.queue_sized; named_sized = t.named_sized; round_sized = ap (λ (r : Rounds). r.limit) (c.found.ensures.found b.walk b.swept b.slot b.greening b.is) ∙ t.round_sized }
+
+pub returns-clause-collects : goal.returns-clause-collects
+returns-clause-collects g c d h agree ready =
+    let t = c.args.self.now in
+    let v = view_of t in
+    let b = asks-green v (at.Into c.args.«from» c.args.slot c.args.to) tt c.requires.at in
+    into-done g.row.SLOTS v c.args.«from» c.args.slot c.args.to b c.requires.at c.args.held.now c.weaken.new.held c.weaken.new.zeros.items t.round c.found.new.self t.round_sized (c.found.ensures.found b.walk b.swept b.slot b.greening b.is) c.found.ensures.sound c.weaken.result c.weaken.ensures.weakens d h agree ready
