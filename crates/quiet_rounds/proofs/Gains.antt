@@ -1,0 +1,203 @@
+-- What a green walk gains at each event and look: the pointers that were looked at, and the objects that became green.
+use Rattle.std.proofs.Common.{◌≡◌, ℕ, ◌+◌, ◌≤◌, ◌==◌, nat_lt, if◌then◌else◌, Bool, true, false, not, ◌||◌, List, [], ◌∷◌, ◌++◌, length, Option, Some, None, refl, sym, ap, ◌∙◌, subst, arith, true≢false}
+use Rattle.std.specs.Prelude.{Contains}
+use Rattle.std.proofs.lemmas.List.{length_push}
+use Rattle.std.proofs.lemmas.List.Elements.{Contains-append_left, Contains-push}
+use Rattle.std.proofs.lemmas.Bool.Decides.{nat_tests}
+use Rattle.std.proofs.lemmas.Bool.{eqb-true, and_parts}
+use Rattle.red_walk.specs.Ids.{has}
+use Rattle.red_walk.proofs.Members.{Contains-has, has-Contains}
+use Rattle.green_walk.specs.declared.copied_slots.CopiedSlot.{CopiedSlot}
+use Rattle.green_walk.specs.declared.sweep.Found.TheVariants.{Nothing, Made, Strong}
+use Rattle.green_walk.specs.Greening.{GreenStage, AtSeed, AtInto, AtOut, Greening, waits, may_lead_to, first_with, behind_first, walking, settled_out, settled, greened, moved, first_seed, found_at_seed, found_in, found, testing, tested}
+use Rattle.green_walk.proofs.GreenSteps.{waits-parts, into-none, into-some, out-there, out-done}
+use Rattle.quiet_rounds.proofs.GreenAt.{IsAtFlip, IsAtInto, IsAtStrengthen}
+
+-- ---- how many slots have a property
+
+-- 1 where it is true, else 0
+abbrev pub one_if : Bool → ℕ
+one_if true = 1
+one_if false = 0
+
+-- how many of the slots have the property
+abbrev pub count : (CopiedSlot → Bool) → List CopiedSlot → ℕ
+count P [] = 0
+count P (s ∷ rest) = one_if (P s) + count P rest
+
+one-most : (b : Bool) → one_if b ≤ 1
+one-most true = omega arith
+one-most false = omega arith
+
+-- no more than all
+pub count-most : (P : CopiedSlot → Bool) (xs : List CopiedSlot) → count P xs ≤ length xs
+count-most P [] = omega arith
+count-most P (s ∷ rest) = let one = one-most (P s) in let more = count-most P rest in omega (arith, one, more)
+
+one-more : (a b : Bool) → (a ≡ true → b ≡ true) → one_if a ≤ one_if b
+one-more true true f = omega arith
+one-more true false f = absurd (true≢false (sym (f refl)))
+one-more false b f = omega arith
+
+-- a wider property has more
+count-more : (P Q : CopiedSlot → Bool) (xs : List CopiedSlot) → ((s : CopiedSlot) → P s ≡ true → Q s ≡ true) → count P xs ≤ count Q xs
+count-more P Q [] f = omega arith
+count-more P Q (s ∷ rest) f = let one = one-more (P s) (Q s) (f s) in let more = count-more P Q rest f in omega (arith, one, more)
+
+one-both : (a b e : Bool) → (a ≡ true → b ≡ true) → (e ≡ true → b ≡ true) → (e ≡ true → a ≡ false) → one_if a + one_if e ≤ one_if b
+one-both true b true f g h = absurd (true≢false (h refl))
+one-both true true false f g h = omega arith
+one-both true false false f g h = absurd (true≢false (sym (f refl)))
+one-both false true e f g h = let one = one-most e in omega (arith, one)
+one-both false false true f g h = absurd (true≢false (sym (g refl)))
+one-both false false false f g h = omega arith
+
+-- one that has two properties apart has those of both
+count-both : (P Q R : CopiedSlot → Bool) (xs : List CopiedSlot) → ((s : CopiedSlot) → P s ≡ true → R s ≡ true) → ((s : CopiedSlot) → Q s ≡ true → R s ≡ true) → ((s : CopiedSlot) → Q s ≡ true → P s ≡ false) → count P xs + count Q xs ≤ count R xs
+count-both P Q R [] f g h = omega arith
+count-both P Q R (s ∷ rest) f g h = let one = one-both (P s) (R s) (Q s) (f s) (g s) (h s) in let more = count-both P Q R rest f g h in omega (arith, one, more)
+
+-- behind the first one there are no more
+count-behind : (P Q : CopiedSlot → Bool) (xs : List CopiedSlot) → count Q (behind_first P xs) ≤ count Q xs
+count-behind P Q [] = omega arith
+count-behind P Q (s ∷ rest) = by (P s) (count-behind P Q rest)
+  where
+    by : (b : Bool) → count Q (behind_first P rest) ≤ count Q rest → count Q (if b then rest else behind_first P rest) ≤ count Q (s ∷ rest)
+    by true less = omega arith
+    by false less = omega (arith, less)
+
+-- and where it has the property itself, there is one less
+count-first : (P Q : CopiedSlot → Bool) (xs : List CopiedSlot) (first : CopiedSlot) → ((s : CopiedSlot) → P s ≡ true → Q s ≡ true) → first_with P xs ≡ Some first → count Q (behind_first P xs) + 1 ≤ count Q xs
+count-first P Q [] first f e = absurd (cc)
+count-first P Q (s ∷ rest) first f e = by (P s) refl e (λ k. count-first P Q rest first f k)
+  where
+    by : (b : Bool) → P s ≡ b → (if b then Some s else first_with P rest) ≡ Some first → (first_with P rest ≡ Some first → count Q (behind_first P rest) + 1 ≤ count Q rest)
+        → count Q (if b then rest else behind_first P rest) + 1 ≤ count Q (s ∷ rest)
+    by true p k less = let one : one_if (Q s) ≡ 1 = ap one_if (f s p) in omega (arith, one)
+    by false p k less = let more = less k in omega (arith, more)
+
+-- ---- the score
+
+-- how many slots are still to be looked at for the flipped object
+abbrev pub rest_count : GreenStage → ℕ
+rest_count (AtInto flipped rest) = count (λ s. s.target == flipped) rest
+rest_count AtSeed = 0
+rest_count (AtOut place slot) = 0
+
+-- how many copied slots lead to these
+abbrev pub leading : List ℕ → List CopiedSlot → ℕ
+leading green copied = count (λ s. has green s.target) copied
+
+abbrev pub score : Greening → ℕ
+score g = length g.green + leading g.green g.copied
+
+-- so many events raise the score
+pub record Gains (n : ℕ) (g h : Greening) : Type 0 where
+  pub copied : h.copied ≡ g.copied
+  pub gain : rest_count h.stage + n + score g ≤ rest_count g.stage + score h
+
+pub gains-on : {n : ℕ} {g h k : Greening} → Gains 0 g h → Gains n h k → Gains n g k
+gains-on a b = record { copied = b.copied ∙ a.copied; gain = (let x = a.gain in let y = b.gain in omega (arith, x, y)) }
+
+gains-none : (g : Greening) → Gains 0 g g
+gains-none g = record { copied = refl; gain = omega arith }
+
+-- ---- where something is to be looked at
+
+settled-out-gains : (g : Greening) (st : GreenStage) → Gains 0 (record g { stage = st }) (settled_out (record g { stage = st }))
+settled-out-gains g AtSeed = gains-none (record g { stage = AtSeed })
+settled-out-gains g (AtInto flipped rest) = gains-none (record g { stage = AtInto flipped rest })
+settled-out-gains g (AtOut place slot) = by (nat_lt place (length g.green)) refl
+  where
+    by : (b : Bool) → nat_lt place (length g.green) ≡ b → Gains 0 (record g { stage = AtOut place slot }) (settled_out (record g { stage = AtOut place slot }))
+    by true e = subst (Gains 0 (record g { stage = AtOut place slot })) (sym (out-there g place slot (grind (arith, nat_tests, e)))) (gains-none (record g { stage = AtOut place slot }))
+    by false e = subst (Gains 0 (record g { stage = AtOut place slot })) (sym (out-done g place slot e)) (record { copied = refl; gain = omega arith })
+
+settled-gains-at : (g : Greening) (st : GreenStage) → Gains 0 (record g { stage = st }) (settled (record g { stage = st }))
+settled-gains-at g AtSeed = gains-none (record g { stage = AtSeed })
+settled-gains-at g (AtInto flipped rest) = by (first_with (may_lead_to g flipped) rest) refl
+  where
+    walks : Gains 0 (record g { stage = AtInto flipped rest }) (walking g)
+    walks = record { copied = refl; gain = omega arith }
+
+    by : (o : Option CopiedSlot) → first_with (may_lead_to g flipped) rest ≡ o → Gains 0 (record g { stage = AtInto flipped rest }) (settled (record g { stage = AtInto flipped rest }))
+    by None e = subst (λ (h : Greening). Gains 0 (record g { stage = AtInto flipped rest }) (settled_out h)) (sym (into-none g flipped rest e))
+        (gains-on walks (settled-out-gains (record g { test = None; changed = false }) (AtOut (if g.changed then 0 else g.walked) 0)))
+    by (Some s) e = subst (λ (h : Greening). Gains 0 (record g { stage = AtInto flipped rest }) (settled_out h)) (sym (into-some g flipped rest s e)) (gains-none (record g { stage = AtInto flipped rest }))
+settled-gains-at g (AtOut place slot) = settled-out-gains g (AtOut place slot)
+
+settled-gains : (g : Greening) → Gains 0 g (settled g)
+settled-gains g = settled-gains-at g g.stage
+
+-- ---- an object becomes green
+
+has-more : (green : List ℕ) (id t : ℕ) → has green t ≡ true → has (green ++ id ∷ []) t ≡ true
+has-more green id t e = has-Contains (green ++ id ∷ []) t (Contains-append_left green (id ∷ []) t (Contains-has green t e))
+
+has-new : (green : List ℕ) (id t : ℕ) → (t == id) ≡ true → has (green ++ id ∷ []) t ≡ true
+has-new green id t e = has-Contains (green ++ id ∷ []) t (subst (λ y. Contains (green ++ id ∷ []) y) (sym (eqb-true t id e)) (Contains-push green id))
+
+leading-more : (green : List ℕ) (id : ℕ) (copied : List CopiedSlot) → leading green copied ≤ leading (green ++ id ∷ []) copied
+leading-more green id copied = count-more (λ s. has green s.target) (λ s. has (green ++ id ∷ []) s.target) copied (λ s e. has-more green id s.target e)
+
+leading-new : (green : List ℕ) (id : ℕ) (copied : List CopiedSlot) → has green id ≡ false → leading green copied + count (λ s. s.target == id) copied ≤ leading (green ++ id ∷ []) copied
+leading-new green id copied n =
+    count-both (λ s. has green s.target) (λ s. s.target == id) (λ s. has (green ++ id ∷ []) s.target) copied (λ s e. has-more green id s.target e) (λ s e. has-new green id s.target e)
+    (λ s e. ap (has green) (eqb-true s.target id e) ∙ n)
+
+-- ---- looks
+
+moved-gains : (g h : Greening) (place slot n : ℕ) → rest_count g.stage ≡ 0 → h.copied ≡ g.copied → n + score g ≤ score h → Gains n g (moved h place slot)
+moved-gains g h place slot n z same more = by (slot + 1 == h.slots)
+  where
+    by : (b : Bool) → Gains n g (record h { stage = if b then AtOut (place + 1) 0 else AtOut place (slot + 1); test = None })
+    by true = record { copied = same; gain = omega (arith, z, more) }
+    by false = record { copied = same; gain = omega (arith, z, more) }
+
+seed-gains : (g : Greening) (seeds : List ℕ) (strong : Bool) → rest_count g.stage ≡ 0 → Gains 0 g (found_at_seed g (first_seed seeds) (if strong then Strong else Nothing))
+seed-gains g [] true z = gains-none g
+seed-gains g [] false z = gains-none g
+seed-gains g (id ∷ ids) true z = record { copied = refl; gain = (let n = length_push g.green id in let more = leading-more g.green id g.copied in omega (arith, z, n, more)) }
+seed-gains g (id ∷ ids) false z = record { copied = refl; gain = omega (arith, z) }
+
+found-gains-at : (g : Greening) (st : GreenStage) (strong : Bool) → Gains 0 (record g { stage = st }) (found_in (record g { stage = st }) st (if strong then Strong else Nothing))
+found-gains-at g AtSeed strong = seed-gains (record g { stage = AtSeed }) g.seeds strong refl
+found-gains-at g (AtInto flipped rest) strong = record { copied = refl; gain = (let less = count-behind (may_lead_to g flipped) (λ s. s.target == flipped) rest in omega (arith, less)) }
+found-gains-at g (AtOut place slot) true = moved-gains (record g { stage = AtOut place slot }) (record g { stage = AtOut place slot }) place slot 0 refl refl (omega arith)
+found-gains-at g (AtOut place slot) false = moved-gains (record g { stage = AtOut place slot }) (record g { stage = AtOut place slot }) place slot 0 refl refl (omega arith)
+
+-- there was nothing to do, or a strong pointer to a seed
+pub found-gains : (g : Greening) (strong : Bool) → Gains 0 g (found g (if strong then Strong else Nothing))
+found-gains g strong = gains-on (settled-gains g) (found-gains-at (settled g) (settled g).stage strong)
+
+pub testing-gains : (g : Greening) (id : ℕ) → Gains 0 g (testing g id)
+testing-gains g id = let s = settled-gains g in record { copied = s.copied; gain = s.gain }
+
+pub tested-gains : (g : Greening) → Gains 0 g (tested g)
+tested-gains g = record { copied = refl; gain = omega arith }
+
+-- ---- events
+
+pub flip-gains : (g : Greening) (id : ℕ) → IsAtFlip g id → Gains 1 g (found g (Made id))
+flip-gains g id a =
+    let n = length_push g.green id in
+    let more = leading-new g.green id g.copied (waits-parts g id a.waiting).1 in
+    let z : rest_count g.stage ≡ 0 = ap rest_count a.stage in
+    subst (Gains 1 g) (sym a.found) (record { copied = refl; gain = omega (arith, n, more, z) })
+
+leads-there : (g : Greening) (to : ℕ) → g.current ≡ true → (s : CopiedSlot) → may_lead_to g to s ≡ true → (s.target == to) ≡ true
+leads-there g to current s e =
+    let parts = and_parts (waits g s.id) (not g.current || (s.target == to)) e in
+    sym (ap (λ b. not b || (s.target == to)) current) ∙ parts.1
+
+pub into-gains : (g : Greening) («from» slot to : ℕ) → g.current ≡ true → IsAtInto g «from» slot to → Gains 1 g (found g (Made «from»))
+into-gains g «from» slot to current a =
+    let less = count-first (may_lead_to g to) (λ s. s.target == to) a.rest a.first (leads-there g to current) a.leads in
+    let now : rest_count g.stage ≡ count (λ s. s.target == to) a.rest = ap rest_count a.stage in
+    subst (Gains 1 g) (sym a.found) (record { copied = refl; gain = omega (arith, less, now) })
+
+pub strengthen-gains : (g : Greening) («from» slot to : ℕ) → IsAtStrengthen g «from» slot to → Gains 1 g (found g (Made to))
+strengthen-gains g «from» slot to a =
+    let n = length_push g.green to in
+    let more = leading-more g.green to g.copied in
+    subst (Gains 1 g) (sym a.found) (moved-gains g (greened g to) a.place slot 1 (ap rest_count a.stage) refl (omega (arith, n, more)))
