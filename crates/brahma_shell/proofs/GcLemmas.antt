@@ -17,16 +17,18 @@ use Rattle.brahma_shell.specs.declared.grammar.Line.{Line}
 use Rattle.brahma_shell.specs.declared.grammar.Line.TheVariants.{CollectStep, CollectAll}
 use Rattle.brahma_shell.specs.declared.replay.Stop.{Stop}
 use Rattle.brahma_shell.specs.declared.replay.Stop.TheVariants as stop
-use Rattle.brahma_shell.specs.Points.{Point, after_notes, point_of, entries_in, MayRest}
+use Rattle.brahma_shell.specs.Points.{Point, after_notes, point_of, entries_in, MayRest, IsExactAt}
 use Rattle.brahma_shell.specs.Growth.{Grows, GrowsByEvent}
 use Rattle.brahma_shell.specs.Follows.{IsOfCollector, AreOfCollector, GivesStep}
 use Rattle.brahma_shell.specs.Output.{AppendsFront}
 use Rattle.brahma_shell.specs.Replay.{Performs, CutsOff, StepsOnce, StopsPerform}
+use Rattle.brahma_shell.specs.Rest.{StaysQuiet}
 use Rattle.brahma_shell.specs.Top.{store_ids}
 use Rattle.brahma_shell.proofs.FollowLemmas.{text_of-append}
 use Rattle.brahma_shell.proofs.GrowthLemmas.{Grows-none, Grows-trans, Grows-by_none, Grows-then_none, Grows-point, entries_in-append}
 use Rattle.brahma_shell.proofs.OutputLemmas.{Appends-none, Appends-trans, AppendsFront-after}
 use Rattle.brahma_shell.proofs.PointLemmas.{left_of_point}
+use Rattle.brahma_shell.proofs.QuietLemmas.{IsQuietSoFar, quiet-below}
 
 -- ---- one step
 
@@ -51,8 +53,8 @@ steps-performs None old new text h = record {
 steps-performs (Some s) old new text h = subst (Performs old new CollectStep) (sym h.3) (step-performs old new s.popped s.left h.0 h.1 h.2)
 
 -- a step that was made, with its text
-pub steps-event : (old new : JournalView) (s : Stepped) (e : Entry) (text : List ℕ) (before written : Option (List ℕ)) → IsOfCollector e → GrowsByEvent old new s.popped s.left e → text ≡ line_of e → Appends before written text → (t : List ℕ) × StepsOnce (Some s) old new t × Appends before written t
-steps-event old new s e text before written of g is p = (text, (e, of, g, is), p)
+pub steps-event : (old new : JournalView) (s : Stepped) (e : Entry) (text : List ℕ) (before written : Option (List ℕ)) → IsOfCollector e → GrowsByEvent old new s.popped s.left e → text ≡ line_of e → ((point_of old).moment.state.active ≡ [] → StaysQuiet old new s.popped) → Appends before written text → (t : List ℕ) × StepsOnce (Some s) old new t × Appends before written t
+steps-event old new s e text before written of g is quiet p = (text, (e, of, g, is, quiet), p)
 
 -- its deletion isn't written as a whole
 pub step-write : (s : Stop) (old new : JournalView) (left : ℕ) (e : Entry) (text : List ℕ) (before written : Option (List ℕ)) → s ≡ stop.Write → IsOfCollector e → GrowsByEvent old new false left e → text ≡ line_of e → AppendsFront before written text → StopsPerform s CollectStep old new before written
@@ -132,29 +134,33 @@ left-more b d s text h =
 -- ---- the ends of `gc all`
 
 -- there is nothing to do
-pub all-rest : (a b d : JournalView) (popped : ℕ) (text : List ℕ) (w x y : Option (List ℕ)) → Collected a b popped w x → StepsOnce None b d text → Appends x y text → (all : List ℕ) × Performs a d CollectAll all × Appends w y all
-all-rest a b d popped text w x y c h p = (
+pub all-rest : (a b d : JournalView) (popped : ℕ) (text : List ℕ) (w x y : Option (List ℕ)) → Collected a b popped w x → ((point_of a).moment.state.active ≡ [] → IsQuietSoFar b popped) → StepsOnce None b d text → Appends x y text → (all : List ℕ) × Performs a d CollectAll all × Appends w y all
+all-rest a b d popped text w x y c quiet h p = (
   text_of (entries_in c.notes),
   record {
     notes = c.notes;
     grows = Grows-then_none a b d c.notes c.grows (Grows-by_none b d h.0);
     unmarked = h.0.unmarked ∙ c.unmarked;
-    gives = record { each = c.each; ends = inl (subst MayRest (Grows-point a b c.notes c.grows) h.1) };
+    gives =
+        let points = Grows-point a b c.notes c.grows in
+        let may = subst MayRest points h.1 in
+        record { each = c.each; ends = inl may; rests = λ _. may; exact = λ idle. subst IsExactAt points (h.3 (quiet idle).active) };
     printed = refl;
   },
   subst (Appends w y) (append-nil (text_of (entries_in c.notes))) (Appends-trans w x y (text_of (entries_in c.notes)) [] c.printed (subst (Appends x y) h.2 p)),
 )
 
 -- no round is open, and enough objects were looked at
-pub all-popped : (a d : JournalView) (popped : ℕ) (w y : Option (List ℕ)) → Collected a d popped w y → last_left d.notes ≡ 0 → store_ids ≤ popped → (all : List ℕ) × Performs a d CollectAll all × Appends w y all
-all-popped a d popped w y c closed enough =
+pub all-popped : (a d : JournalView) (popped : ℕ) (w y : Option (List ℕ)) → Collected a d popped w y → ((point_of a).moment.state.active ≡ [] → IsQuietSoFar d popped) → last_left d.notes ≡ 0 → store_ids ≤ popped → (all : List ℕ) × Performs a d CollectAll all × Appends w y all
+all-popped a d popped w y c quiet closed enough =
+    let never : (point_of a).moment.state.active ≡ [] → ⊥ = λ idle. let below = quiet-below d popped (quiet idle) in omega (arith, below, enough) in
     let left : (after_notes (point_of a) c.notes).left ≡ 0 = sym (ap (λ (p : Point). p.left) (Grows-point a d c.notes c.grows)) ∙ left_of_point d ∙ closed in (
       text_of (entries_in c.notes),
       record {
         notes = c.notes;
         grows = c.grows;
         unmarked = c.unmarked;
-        gives = record { each = c.each; ends = inr (left, omega (arith, enough, c.pops)) };
+        gives = record { each = c.each; ends = inr (left, omega (arith, enough, c.pops)); rests = λ idle. absurd (never idle); exact = λ idle. absurd (never idle) };
         printed = refl;
       },
       c.printed,

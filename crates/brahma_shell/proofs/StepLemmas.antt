@@ -21,7 +21,7 @@ use Rattle.brahma_shell.specs.Points.{point_of, MayRest}
 use Rattle.brahma_shell.specs.Growth.{Grows, GrowsBy, GrowsByEvent, BecomesFull}
 use Rattle.brahma_shell.proofs.GrowthLemmas.{Grows-trans, Grows-point}
 use Rattle.brahma_shell.proofs.PointLemmas.{may_rest, none_left, left_of_point}
-use Rattle.brahma_shell.proofs.StoreLemmas.{looked, marked-full}
+use Rattle.brahma_shell.proofs.StoreLemmas.{IsSameSize, size-kept, size-marked, size-more, looked, marked-full}
 
 -- ---- what the answer tells
 
@@ -53,17 +53,17 @@ pop-closed slots c _ logged queue round h e = absurd (cc)
 
 -- an event
 pub grows-event : (i j k : JournalView) (r : Collect) (popped : Bool) (left : ℕ) (e : Entry) → j ≡ record i { round = j.round } → (m : MakesEvent 6 j k r) → k.opening ≡ j.opening → k.limits ≡ j.limits
-    → AreLed 6 (opening_of j) j.notes (core_of j) → entry_of m.logged ≡ e → is_pop m.act ≡ popped → left_of 6 k.round ≡ left → (popped ≡ false → left < last_left j.notes) → GrowsByEvent i k popped left e
+    → AreLed 6 (opening_of j) j.notes (core_of j) → entry_of m.logged ≡ e → is_pop m.event ≡ popped → left_of 6 k.round ≡ left → (popped ≡ false → left < last_left j.notes) → GrowsByEvent i k popped left e
 grows-event i j k r popped left e same m opening limits led entry pop told lower =
     let notes : last_left j.notes ≡ last_left i.notes = ap (λ (x : JournalView). last_left x.notes) same in
     record {
-      note = record { entry = entry_of m.logged; logged = m.logged; left = left_of 6 k.round; act = m.act };
+      note = record { entry = entry_of m.logged; logged = m.logged; left = left_of 6 k.round; act = m.event };
       entry = entry;
       pop = pop;
       told = told;
-      grows = Grows-trans i j k [] (record { entry = entry_of m.logged; logged = m.logged; left = left_of 6 k.round; act = m.act } ∷ []) (looked i j same) (record { notes = m.noted; history = m.entry; opening = opening; limits = limits });
+      grows = Grows-trans i j k [] (record { entry = entry_of m.logged; logged = m.logged; left = left_of 6 k.round; act = m.event } ∷ []) (looked i j same) (record { notes = m.noted; history = m.entry; opening = opening; limits = limits });
       unmarked = m.marks ∙ ap (λ (x : JournalView). x.marks) same;
-      opens = λ p. sym notes ∙ sym (left_of_point j) ∙ none_left 6 j led (pop-closed 6 (core_of j) m.act m.logged k.queue (core_of k).round m.collects (pop ∙ p));
+      opens = λ p. sym notes ∙ sym (left_of_point j) ∙ none_left 6 j led (pop-closed 6 (core_of j) m.event m.logged k.queue (core_of k).round m.collects (pop ∙ p));
       lower = λ p. subst (λ (n : ℕ). left < n) notes (lower p);
     }
 
@@ -81,10 +81,10 @@ full i j k same marked =
     let then = marked-full j k marked in
     record { grows = Grows-trans i j k [] [] (looked i j same) then.grows; marked = then.marked }
 
--- the store has its ids as before
-pub ids-after_collect : (j k : JournalView) (r : Collect) → (r ≡ TraceFull → k ≡ record j { marks = record j.marks { trace = true } }) → (r ≡ Idle → k ≡ j) → (r ≡ Memory → k ≡ j) → (IsEvent r → MakesEvent 6 j k r) → k.history.ids ≡ j.history.ids
-ids-after_collect j k Idle full idle memory event = ap (λ (x : JournalView). x.history.ids) (idle refl)
-ids-after_collect j k (Did popped left) full idle memory event = ap (λ (h : History). h.ids) (event tt).entry
-ids-after_collect j k (Deleted id left) full idle memory event = ap (λ (h : History). h.ids) (event tt).entry
-ids-after_collect j k TraceFull full idle memory event = ap (λ (x : JournalView). x.history.ids) (full refl)
-ids-after_collect j k Memory full idle memory event = ap (λ (x : JournalView). x.history.ids) (memory refl)
+-- the store has its size as before
+pub size-after_collect : (j k : JournalView) (r : Collect) → (r ≡ TraceFull → k ≡ record j { marks = record j.marks { trace = true } }) → (r ≡ Idle → k ≡ j) → (r ≡ Memory → k ≡ j) → (IsEvent r → MakesEvent 6 j k r) → IsSameSize j k
+size-after_collect j k Idle full idle memory event = size-kept j k (idle refl)
+size-after_collect j k (Did popped left) full idle memory event = let m = event tt in size-more j k (entry_of m.logged) m.entry
+size-after_collect j k (Deleted id left) full idle memory event = let m = event tt in size-more j k (entry_of m.logged) m.entry
+size-after_collect j k TraceFull full idle memory event = size-marked j k (full refl)
+size-after_collect j k Memory full idle memory event = size-kept j k (memory refl)

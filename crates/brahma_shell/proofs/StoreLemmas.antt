@@ -114,24 +114,38 @@ places-within j frames held changed all some same = each held changed same some.
         let e : k.page ≡ h.page = cc in
         (rw e (page_within j frames h.page all within.0), each hs ks (let rest : pages_held ks ≡ pages_held hs = cc in rest) within.1)
 
+-- the store has its size as before
+abbrev pub IsSameSize : JournalView → JournalView → Type 0
+IsSameSize j k = (k.history.slots ≡ j.history.slots) × (k.history.ids ≡ j.history.ids)
+
+pub size-kept : (j k : JournalView) → k ≡ j → IsSameSize j k
+size-kept j k e = (ap (λ (x : JournalView). x.history.slots) e, ap (λ (x : JournalView). x.history.ids) e)
+
+pub size-marked : (j k : JournalView) → k ≡ record j { marks = record j.marks { trace = true } } → IsSameSize j k
+size-marked j k e = (ap (λ (x : JournalView). x.history.slots) e, ap (λ (x : JournalView). x.history.ids) e)
+
+pub size-more : (j k : JournalView) (e : Entry) → k.history ≡ with_entry j.history e → IsSameSize j k
+size-more j k e more = (ap (λ (h : History). h.slots) more, ap (λ (h : History). h.ids) more)
+
 -- the frames are the pages after the change
-pub AreFramesOf-changed : (j k : JournalView) (frames new : List (Frame 6)) (held changed : List (HeldFrame 6)) → AreFramesOf j frames → k.history.ids ≡ j.history.ids → Agree (cells_of k) changed
+pub AreFramesOf-changed : (j k : JournalView) (frames new : List (Frame 6)) (held changed : List (HeldFrame 6)) → AreFramesOf j frames → IsSameSize j k → Agree (cells_of k) changed
     → pages_held changed ≡ pages_held held → IsSameElsewhere (cells_of j) (cells_of k) held → FollowsChange frames new changed → length new ≡ length frames → AreFramesOf k new
-AreFramesOf-changed j k frames new held changed all ids agree same elsewhere follows count = record {
-  pages = rw (count, ids) all.pages;
+AreFramesOf-changed j k frames new held changed all size agree same elsewhere follows count = record {
+  pages = rw (count, size.1) all.pages;
   agree = follows (cells_of j) (cells_of k) all.agree agree (elsewhere-pages (cells_of j) (cells_of k) held changed (sym same) elsewhere);
+  size = (size.0 ∙ all.size.0, size.1 ∙ all.size.1);
 }
 
--- a call that is answered adds one entry, and else no entry: the store has its ids as before
-pub ids-after_call : (j k : JournalView) (reply : Reply) (entry : Entry) → (reply ≡ Memory → k ≡ j) → (reply ≡ TraceFull → k ≡ record j { marks = record j.marks { trace = true } }) → (IsEntered reply → k.history ≡ with_entry j.history entry) → k.history.ids ≡ j.history.ids
-ids-after_call j k Memory entry same full more = ap (λ (x : JournalView). x.history.ids) (same refl)
-ids-after_call j k TraceFull entry same full more = ap (λ (x : JournalView). x.history.ids) (full refl)
-ids-after_call j k other entry same full more = ap (λ (h : History). h.ids) (more (λ e. absurd cc, λ e. absurd cc))
+-- a call that is answered adds one entry, and else no entry
+pub size-after_call : (j k : JournalView) (reply : Reply) (entry : Entry) → (reply ≡ Memory → k ≡ j) → (reply ≡ TraceFull → k ≡ record j { marks = record j.marks { trace = true } }) → (IsEntered reply → k.history ≡ with_entry j.history entry) → IsSameSize j k
+size-after_call j k Memory entry same full more = size-kept j k (same refl)
+size-after_call j k TraceFull entry same full more = size-marked j k (full refl)
+size-after_call j k other entry same full more = size-more j k entry (more (λ e. absurd cc, λ e. absurd cc))
 
 -- a step of an abort adds one entry
-pub ids-after_step : (j k : JournalView) (step : AbortStep) (undo end : Entry) → (step ≡ Undone → k.history ≡ with_entry j.history undo) → (step ≡ Ended → k.history ≡ with_entry j.history end) → k.history.ids ≡ j.history.ids
-ids-after_step j k Undone undo end undone ended = ap (λ (h : History). h.ids) (undone refl)
-ids-after_step j k Ended undo end undone ended = ap (λ (h : History). h.ids) (ended refl)
+pub size-after_step : (j k : JournalView) (step : AbortStep) (undo end : Entry) → (step ≡ Undone → k.history ≡ with_entry j.history undo) → (step ≡ Ended → k.history ≡ with_entry j.history end) → IsSameSize j k
+size-after_step j k Undone undo end undone ended = size-more j k undo (undone refl)
+size-after_step j k Ended undo end undone ended = size-more j k end (ended refl)
 
 -- ---- what a call is to the journal
 
@@ -161,7 +175,7 @@ pub looked-held : (j k : JournalView) (held : List (HeldFrame 6)) → k ≡ reco
 looked-held j k held e h = subst (λ (x : JournalView). AreHeldOf x held) (sym e) (record { agree = h.agree; within = h.within })
 
 pub looked-frames : (j k : JournalView) (frames : List (Frame 6)) → k ≡ record j { round = k.round } → AreFramesOf j frames → AreFramesOf k frames
-looked-frames j k frames e h = subst (λ (x : JournalView). AreFramesOf x frames) (sym e) (record { pages = h.pages; agree = h.agree })
+looked-frames j k frames e h = subst (λ (x : JournalView). AreFramesOf x frames) (sym e) (record { pages = h.pages; agree = h.agree; size = h.size })
 
 looked_nothing : (j k : JournalView) → k ≡ record j { round = k.round } → k.round ≡ j.round → k ≡ j
 looked_nothing j k e same = e ∙ ap (λ (r : RoundView). let x : JournalView = record j { round = r } in x) same

@@ -1,6 +1,6 @@
 -- How the program ends, by how its replay ended.
 use Rattle.std.proofs.Common.{◌≡◌, ◌⊎◌, ◌≤◌, ◌↔◌, ℕ, true, false, List, [], Option, Some, None, refl, sym, ap, subst, ◌∙◌, ⊎_elim, inl, inr, arith}
-use Rattle.std.specs.Prelude.{IfSome}
+use Rattle.std.specs.Prelude.{IfSome, IsNone}
 use Rattle.std.proofs.lemmas.Bool.{false≢true}
 use Rattle.std.proofs.lemmas.List.{append-nil}
 use Rattle.std.specs.Io.KnownBytes.{Appends}
@@ -9,9 +9,10 @@ use Rattle.core_store.specs.JournalView.{JournalView}
 use Rattle.plain_model.specs.History.{History}
 use Rattle.brahma_shell.specs.Lines.{lines_of}
 use Rattle.brahma_shell.specs.Growth.{IsSameStart}
-use Rattle.brahma_shell.specs.Follows.{FollowsAll, FollowsPart}
+use Rattle.brahma_shell.specs.Grammar.{IsRefused}
+use Rattle.brahma_shell.specs.Follows.{FollowsAll, FollowsUpTo, FollowsPart}
 use Rattle.core_store.specs.Fresh.{fresh_history, graph_of}
-use Rattle.brahma_shell.specs.Top.{EndsWith, IsOfFreshStore, store_ids}
+use Rattle.brahma_shell.specs.Top.{EndsWith, HasOnlyLines, IsOfFreshStore, store_ids}
 use Rattle.brahma_shell.proofs.OutputLemmas.{Appends-trans}
 
 -- ---- what is written
@@ -64,3 +65,17 @@ unmarked j k status e same other =
 -- one of the statuses of the end of a script
 pub end-status : (status : ℕ) → (status ≡ 0) ⊎ ((status ≡ 5) ⊎ (status ≡ 8)) → status ≡ 9 → ⊥
 end-status status is e = ⊎_elim (λ h. omega (arith, h, e)) (λ h. ⊎_elim (λ i. omega (arith, i, e)) (λ i. omega (arith, i, e)) h) is
+
+-- a journal is handed back at this status
+pub handed-at : (n : ℕ) → (n ≡ 2 → ⊥) → (n ≡ 8 → ⊥) → (true ≡ false → (n ≡ 2) ⊎ (n ≡ 8)) × ((n ≡ 2) ⊎ (n ≡ 8) → true ≡ false)
+handed-at n a b = (λ e. absurd (cc), λ s. absurd (⊎_elim a b s))
+
+pub handed-end : (o : Option JournalView) (n : ℕ) → (n ≡ 0) ⊎ ((n ≡ 5) ⊎ (n ≡ 8)) → IsNone o ↔ (n ≡ 8) → IsNone o ↔ ((n ≡ 2) ⊎ (n ≡ 8))
+handed-end o n is h =
+    let other : n ≡ 2 → ⊥ = λ two. ⊎_elim (λ e. omega (arith, e, two)) (λ m. ⊎_elim (λ e. omega (arith, e, two)) (λ e. omega (arith, e, two)) m) is in
+    (λ e. inr (h.0 e), λ s. ⊎_elim (λ two. absurd (other two)) h.1 s)
+
+-- a script that has only lines has none that is refused
+pub none-refused : (left : Option (List ℕ)) (number : ℕ) (j : JournalView) → FollowsUpTo left number j → HasOnlyLines left → ⊥
+none-refused None number j f only = only
+none-refused (Some bytes) number j f only = only f.before f.behind f.line f.parts (subst (λ n. IsRefused n f.line) f.place f.refused)

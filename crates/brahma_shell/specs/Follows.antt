@@ -14,7 +14,7 @@ use Rattle.brahma_shell.specs.declared.grammar.Line.{Line}
 use Rattle.brahma_shell.specs.declared.grammar.Line.TheVariants.{Nothing, Ask, Abort, Undo, CollectStep, CollectAll}
 use Rattle.brahma_shell.specs.Lines.{lines_of, whole_lines_of}
 use Rattle.brahma_shell.specs.Grammar.{meaning_of, IsAccepted, IsRefused}
-use Rattle.brahma_shell.specs.Points.{Point, after_notes, start_point, entries_in, MayRest}
+use Rattle.brahma_shell.specs.Points.{Point, after_notes, start_point, entries_in, MayRest, IsExactAt}
 use Rattle.brahma_shell.specs.Top.{store_ids}
 
 -- ---- the entries of a line
@@ -41,6 +41,9 @@ GivesStep p notes = ((n : Note) × (notes ≡ n ∷ []) × IsOfCollector n.entry
 pub record GivesSteps (p : Point) (notes : List Note) : Type 0 where
   pub each : AreOfCollector notes
   pub ends : MayRest (after_notes p notes) ⊎ (((after_notes p notes).left ≡ 0) × (store_ids ≤ count_by (λ n. is_pop n.act) notes))
+  -- where no transaction is active it may rest then, and just the reachable objects are stored
+  pub rests : p.moment.state.active ≡ [] → MayRest (after_notes p notes)
+  pub exact : p.moment.state.active ≡ [] → IsExactAt (after_notes p notes)
 
 -- the notes that a line gives at a point. An abort undoes each write that isn't undone yet, and ends the transaction;
 -- `undo` does one of these steps. Where the client has no transaction nothing is left to undo, and the abort alone is asked

@@ -1,7 +1,9 @@
 -- What is known between two notes of a journal.
-use Rattle.std.specs.Prelude.{◌≡◌, ◌≢◌, ℕ, true, List, [], map, fold}
+use Rattle.std.specs.Prelude.{◌≡◌, ◌≢◌, ◌↔◌, ℕ, true, List, [], ◌∷◌, map, fold}
 use Rattle.plain_model.specs.declared.calls.Entry.{Entry}
 use Rattle.plain_model.specs.Graphs.{root}
+use Rattle.plain_model.specs.Reachable.{Reachable}
+use Rattle.plain_model.specs.Machine.{is_stored}
 use Rattle.plain_model.specs.History.{Moment, start_of, next}
 use Rattle.store_model.specs.Cells.{Cell, cell_at, is_live}
 use Rattle.store_model.specs.Core.{Ref, is_named}
@@ -44,3 +46,7 @@ entries_in notes = map (λ n. n.entry) notes
 pub record MayRest (p : Point) : Type 0 where
   pub closed : p.left ≡ 0
   pub named : (id : ℕ) → is_live p.cells id ≡ true → id ≢ root → (cell_at p.cells id).strong ≡ 0 → is_named p.refs id ≡ true
+
+-- just the objects are stored that are reachable from the root in the committed graph
+abbrev pub IsExactAt : Point → Type 0
+IsExactAt p = (id : ℕ) → (is_stored p.moment.state.stored id ≡ true) ↔ Reachable p.moment.state.committed (root ∷ []) id

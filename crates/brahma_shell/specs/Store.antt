@@ -7,11 +7,13 @@ use Rattle.core_store.specs.declared.frame.Frame.{Frame}
 use Rattle.core_store.specs.declared.three.HeldFrame.{HeldFrame}
 use Rattle.core_store.specs.JournalView.{JournalView, cells_of}
 use Rattle.core_store.specs.Frames.{is_held, Agree, AllAgree, IsSameElsewhere}
+use Rattle.brahma_shell.specs.Top.{store_ids}
 
--- the frames, in order, are the pages of the journal's store
+-- the frames, in order, are the pages of the journal's store, which has the size of a replay's
 pub record AreFramesOf (j : JournalView) (frames : List (Frame 6)) : Type 0 where
   pub pages : 8 * length frames ≡ j.history.ids
   pub agree : AllAgree (cells_of j) frames
+  pub size : (j.history.slots ≡ 6) × (j.history.ids ≡ store_ids)
 
 -- the held frames are pages of the journal's store
 pub record AreHeldOf (j : JournalView) (held : List (HeldFrame 6)) : Type 0 where

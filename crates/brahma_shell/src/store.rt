@@ -13,9 +13,11 @@ ghost use Rattle.core_store.specs.Frames.{pages_held};
 ghost use Rattle.core_store.specs.Limited.{WasFull, pages_for_call};
 ghost use Rattle.core_store.specs.Logged.{want_of, pages_for_undo};
 ghost use Rattle.core_store.specs.Replaced.{next_to_restore};
-ghost use Rattle.core_store.specs.Steppings.{IsEntered, IsReadyForCollector};
-ghost use Rattle.brahma_shell.specs.Points.{point_of, entries_in, MayRest};
+ghost use Rattle.core_store.specs.RoundView.{Passes};
+ghost use Rattle.core_store.specs.Steppings.{IsEntered, IsEvent, IsReadyForCollector, pops};
+ghost use Rattle.brahma_shell.specs.Points.{point_of, entries_in, MayRest, IsExactAt};
 ghost use Rattle.brahma_shell.specs.Growth.{GrowsBy, GrowsByEvent, BecomesFull};
+ghost use Rattle.brahma_shell.specs.Rest.{StaysQuiet};
 ghost use Rattle.brahma_shell.specs.Store.{AreFramesOf, AreHeldOf, FollowsChange};
 
 use core_store::{AbortStep, Collect, Frame, Journal, Limits, Note, Three, Want};
@@ -69,6 +71,7 @@ fn frames_to_collect(journal: &mut Journal<SLOTS>, frames: &[Frame<SLOTS>]) -> T
     ensures ready { IsReadyForCollector journal.new result }
     ensures same { journal.new ≡ record journal.old { round = journal.new.round } }
     ensures core { core_of journal.new ≡ core_of journal.old }
+    ensures passes { Passes 6 (cells_of journal.old) journal.old.round journal.new.round }
 {
     let mut held = Three::new();
     'pages: loop {
@@ -166,11 +169,15 @@ impl Store {
         ensures memory { result ≡ Collect.Memory → GrowsBy self.old self.new [] }
         ensures did { (popped : Bool) (left : ℕ) → result ≡ Collect.Did popped left → GrowsByEvent self.old self.new popped left Entry.Hidden }
         ensures deleted { (id left : ℕ) → result ≡ Collect.Deleted id left → GrowsByEvent self.old self.new false left (Entry.Delete id) }
+        ensures exact { result ≡ Collect.Idle → (point_of self.old).moment.state.active ≡ [] → IsExactAt (point_of self.old) }
+        ensures quiet { IsEvent result → (point_of self.old).moment.state.active ≡ [] → StaysQuiet self.old self.new (pops result) }
     {
+        // The journal is sound, and what its notes say: these calls hand the facts out.
+        let _ = self.journal.history();
         let mut held = frames_to_collect(&mut self.journal, self.frames.as_slice());
-        // The journal is sound, and what its notes say: this call hands the facts out.
         let _ = self.journal.history();
         let step = self.journal.collect_step(&mut held);
+        let _ = self.journal.history();
         put_back(&mut self.frames, held);
         step
     }

@@ -120,6 +120,30 @@ fn collector(rt: HostRuntime) -> Result<(), Fail> {
         ),
         (
             "1 begin\n1 make 1\n1 make 2\n1 make 3\n1 store 0 0 1\n1 store 1 0 2\n1 store 1 1 3\n1 store 2 0 1\n1 store 0 1 2\n1 commit\n1 begin\n1 store 0 0 -\n1 commit\ngc step\ngc step\ngc step\ngc step\n1 begin\n1 read 0 1 1\n1 read 1 0 2\n1 read 2 1 3\n1 store 0 2 3\n1 store 2 1 -\n1 store 0 1 -\n1 commit\ngc all\n",
+            "1 begin: ok\n1 make: 2\n1 make: 3\n1 make: 4\n1 store: ok\n1 store: ok\n1 store: ok\n1 store: ok\n1 store: ok\n1 commit: ok\n1 begin: ok\n1 store: ok\n1 commit: ok\n1 begin: ok\n1 read: 3\n1 read: 2\n1 read: 4\n1 store: ok\n1 store: ok\n1 store: ok\n1 commit: ok\ndelete 2\ndelete 3\nstored 1 4\n",
+        ),
+        (
+            "1 begin\n1 make 1\n1 store 0 0 1\n1 store 1 0 1\n1 store 0 1 1\n1 commit\n1 begin\n1 store 0 0 -\n1 commit\ngc all\n1 begin\n1 store 0 1 -\n1 commit\ngc all\n",
+            "1 begin: ok\n1 make: 2\n1 store: ok\n1 store: ok\n1 store: ok\n1 commit: ok\n1 begin: ok\n1 store: ok\n1 commit: ok\n1 begin: ok\n1 store: ok\n1 commit: ok\ndelete 2\nstored 1\n",
+        ),
+        (
+            "1 begin\n1 make 1\n1 store 0 0 1\n1 commit\n2 begin\n2 store 0 0 -\ngc all\n2 abort\ngc all\n",
+            "1 begin: ok\n1 make: 2\n1 store: ok\n1 commit: ok\n2 begin: ok\n2 store: ok\n2 abort: ok\nstored 1 2\n",
+        ),
+        (
+            "1 begin\n1 make 1\n1 make 2\n1 store 0 0 1\n1 store 1 0 2\n1 store 2 0 1\n1 store 0 1 2\n1 commit\n1 begin\n1 store 0 0 -\n1 commit\ngc all\n1 begin\n1 store 0 1 -\n1 commit\ngc all\n",
+            "1 begin: ok\n1 make: 2\n1 make: 3\n1 store: ok\n1 store: ok\n1 store: ok\n1 store: ok\n1 commit: ok\n1 begin: ok\n1 store: ok\n1 commit: ok\n1 begin: ok\n1 store: ok\n1 commit: ok\ndelete 3\ndelete 2\nstored 1\n",
+        ),
+        (
+            "1 begin\n1 make 1\n1 make 2\n1 store 0 0 1\n1 store 0 2 2\n1 store 2 0 1\n1 store 0 1 1\n1 store 0 0 -\n1 commit\ngc all\n1 begin\n1 read 0 1 1\n1 read 0 2 2\n1 make 3\n1 store 1 0 3\n1 store 3 0 2\n1 store 0 2 -\n1 commit\ngc all\n1 begin\n1 store 0 1 -\n1 commit\ngc all\n",
+            "1 begin: ok\n1 make: 2\n1 make: 3\n1 store: ok\n1 store: ok\n1 store: ok\n1 store: ok\n1 store: ok\n1 commit: ok\n1 begin: ok\n1 read: 2\n1 read: 3\n1 make: 4\n1 store: ok\n1 store: ok\n1 store: ok\n1 commit: ok\n1 begin: ok\n1 store: ok\n1 commit: ok\ndelete 2\ndelete 4\ndelete 3\nstored 1\n",
+        ),
+        (
+            "1 begin\n1 make 1\n1 make 2\n1 store 0 0 1\n1 store 1 0 2\n1 store 0 1 1\n1 commit\n1 begin\n1 store 0 0 -\n1 commit\ngc step\ngc step\ngc step\n1 begin\n1 read 0 1 1\n1 read 1 0 2\n1 make 3\n1 store 2 0 3\n1 store 3 0 1\n1 commit\ngc all\n",
+            "1 begin: ok\n1 make: 2\n1 make: 3\n1 store: ok\n1 store: ok\n1 store: ok\n1 commit: ok\n1 begin: ok\n1 store: ok\n1 commit: ok\n1 begin: ok\n1 read: 2\n1 read: 3\n1 make: 4\n1 store: ok\n1 store: ok\n1 commit: ok\nstored 1 2 3 4\n",
+        ),
+        (
+            "1 begin\n1 make 1\n1 make 2\n1 make 3\n1 store 0 0 1\n1 store 1 0 2\n1 store 1 1 3\n1 store 2 0 1\n1 store 0 1 2\n1 commit\n1 begin\n1 store 0 0 -\n1 commit\ngc step\ngc step\ngc step\ngc step\n1 begin\n1 read 0 1 1\n1 read 1 0 2\n1 read 2 1 3\n1 store 0 2 3\n1 store 2 1 -\n1 store 0 1 -\n1 commit\ngc step\ngc step\ngc step\ngc step\ngc step\ngc step\ngc step\n",
             "1 begin: ok\n1 make: 2\n1 make: 3\n1 make: 4\n1 store: ok\n1 store: ok\n1 store: ok\n1 store: ok\n1 store: ok\n1 commit: ok\n1 begin: ok\n1 store: ok\n1 commit: ok\n1 begin: ok\n1 read: 3\n1 read: 2\n1 read: 4\n1 store: ok\n1 store: ok\n1 store: ok\n1 commit: ok\nstored 1 2 3 4\n",
         ),
         ("gc step\n", "stored 1\n"),

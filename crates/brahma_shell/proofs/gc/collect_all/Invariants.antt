@@ -1,6 +1,8 @@
-use Rattle.std.proofs.Common.{◌≡◌, ◌+◌, ◌-◌, ◌*◌, ◌^◌, ◌<◌, ◌≤◌}
+use Rattle.std.proofs.Common.{◌≡◌, [], ◌+◌, ◌-◌, ◌*◌, ◌^◌, ◌<◌, ◌≤◌}
 use Rattle.core_store.specs.JournalView.{last_left}
+use Rattle.brahma_shell.specs.Points.{point_of}
 use Rattle.brahma_shell.proofs.GcLemmas.{Collected}
+use Rattle.brahma_shell.proofs.QuietLemmas.{IsQuietSoFar}
 use Rattle.brahma_shell.proofs.gc.collect_all.Given as goal
 
 -- where as many objects were looked at as the store has ids, a round is open
@@ -9,6 +11,7 @@ invariant-steps g l = record {
   so_far : Collected l.fn.store l.store l.popped (g.W.Sink.written l.fn.out) (g.W.Sink.written l.out);
   within : l.popped ≤ 8;
   in_round : l.popped ≡ 8 → 0 < last_left l.store.notes;
+  quiet : (point_of l.fn.store).moment.state.active ≡ [] → IsQuietSoFar l.store l.popped;
   later : g.W.Sink.faults l.fn.out ≤ g.W.Sink.faults l.out;
 }
 

@@ -10,12 +10,12 @@ use Rattle.brahma_shell.proofs.gc.collect_step.Goals as goal
 
 pub returns-in-Did-clause-ok : goal.returns-in-Did-clause-ok
 returns-in-Did-clause-ok g c =
-    steps-event c.args.store.now c.collect_step.new.self (record { popped = c.in-Did.popped; left = c.in-Did.left }) Hidden [] _ _ tt (c.in-Did.ensures.did c.in-Did.popped c.in-Did.left refl) refl (Appends-none (g.W.Sink.written c.args.out.now))
+    steps-event c.args.store.now c.collect_step.new.self (record { popped = c.in-Did.popped; left = c.in-Did.left }) Hidden [] _ _ tt (c.in-Did.ensures.did c.in-Did.popped c.in-Did.left refl) refl (c.in-Did.ensures.quiet tt) (Appends-none (g.W.Sink.written c.args.out.now))
 
 pub returns-in_ok-print-in-Deleted-clause-ok : goal.returns-in_ok-print-in-Deleted-clause-ok
 returns-in_ok-print-in-Deleted-clause-ok g c =
     let text = c.as_bytes.ensures.value ∙ c.as_str.ensures.value ∙ c.delete_line.ensures in
-    steps-event c.args.store.now c.collect_step.new.self (record { popped = false; left = c.in-Deleted.left }) (Delete c.in-Deleted.id) c.as_bytes.result.now _ _ tt (c.in-Deleted.ensures.deleted c.in-Deleted.id c.in-Deleted.left refl) text c.in_ok-print-in-Deleted.ensures.ok
+    steps-event c.args.store.now c.collect_step.new.self (record { popped = false; left = c.in-Deleted.left }) (Delete c.in-Deleted.id) c.as_bytes.result.now _ _ tt (c.in-Deleted.ensures.deleted c.in-Deleted.id c.in-Deleted.left refl) text (c.in-Deleted.ensures.quiet tt) c.in_ok-print-in-Deleted.ensures.ok
 
 pub returns-in_err-print-in-Deleted-clause-stopped : goal.returns-in_err-print-in-Deleted-clause-stopped
 returns-in_err-print-in-Deleted-clause-stopped g c =

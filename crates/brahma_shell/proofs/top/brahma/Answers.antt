@@ -7,7 +7,7 @@ use Rattle.brahma_shell.specs.Follows.{FollowsAll, FollowsPart}
 use Rattle.brahma_shell.specs.Output.{AppendsFront}
 use Rattle.brahma_shell.specs.Top.{IsOfReplay, whole_text}
 use Rattle.brahma_shell.proofs.OutputLemmas.{Appends-trans, AppendsFront-longer, AppendsFront-after}
-use Rattle.brahma_shell.proofs.TopLemmas.{EndsWith-after, FollowsPart-all, of_journal, of_fresh, unmarked, end-status}
+use Rattle.brahma_shell.proofs.TopLemmas.{EndsWith-after, FollowsPart-all, of_journal, of_fresh, unmarked, end-status, handed-at, handed-end, none-refused}
 use Rattle.brahma_shell.proofs.top.brahma.Goals as goal
 
 pub returns-in_default-clause-memory : goal.returns-in_default-clause-memory
@@ -72,3 +72,23 @@ returns-in-Memory-clause-memory g c = λ _.
     let fresh = of_fresh c.in-Ok.store j c.in-Ok.ensures.history.0 c.in-Ok.ensures.limits c.in-Err.ensures.same_start c.history.ensures.opening in
     let of : IsOfReplay j = record { legal = c.history.ensures.legal; fresh = fresh; entries = c.history.ensures.entries; sound = c.history.ensures.sound; led = c.history.ensures.led } in
     inr (j, of, stopped.0, EndsWith-after _ _ _ _ _ _ _ _ c.in-Err.ensures.out_later stopped.1 c.finish-in-Memory.ensures.ends)
+
+pub returns-in-Line-clause-complete : goal.returns-in-Line-clause-complete
+returns-in-Line-clause-complete g c = λ words only source sink.
+    let stopped = rw c.in-Line.is at c.in-Err.ensures.stopped in
+    absurd (none-refused _ _ _ stopped.0 only)
+
+pub returns-in_default-replayed-clause-handed : goal.returns-in_default-replayed-clause-handed
+returns-in_default-replayed-clause-handed g c = handed-end c.end.result.1 c.end.result.0 c.end.ensures.statuses c.end.ensures.handed
+
+pub returns-in-Line-clause-handed : goal.returns-in-Line-clause-handed
+returns-in-Line-clause-handed g c = handed-at 3 (λ e. omega (arith, e)) (λ e. omega (arith, e))
+
+pub returns-in-Read-clause-handed : goal.returns-in-Read-clause-handed
+returns-in-Read-clause-handed g c = handed-at 4 (λ e. omega (arith, e)) (λ e. omega (arith, e))
+
+pub returns-in-Write-clause-handed : goal.returns-in-Write-clause-handed
+returns-in-Write-clause-handed g c = handed-at 5 (λ e. omega (arith, e)) (λ e. omega (arith, e))
+
+pub returns-in-Full-clause-handed : goal.returns-in-Full-clause-handed
+returns-in-Full-clause-handed g c = handed-at 9 (λ e. omega (arith, e)) (λ e. omega (arith, e))

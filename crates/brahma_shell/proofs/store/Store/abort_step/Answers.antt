@@ -10,7 +10,7 @@ use Rattle.core_store.specs.JournalView.{JournalView, cells_of}
 use Rattle.core_store.specs.Frames.{Agree, pages_held}
 use Rattle.core_store.specs.Logged.{want_of, pages_for_undo}
 use Rattle.core_store.specs.Replaced.{next_to_restore}
-use Rattle.brahma_shell.proofs.StoreLemmas.{places-within, AreFramesOf-changed, ids-after_step}
+use Rattle.brahma_shell.proofs.StoreLemmas.{places-within, AreFramesOf-changed, size-after_step}
 use Rattle.brahma_shell.proofs.store.Store.abort_step.Goals as goal
 
 -- what is known of the store's journal is known of its field
@@ -40,5 +40,5 @@ invariant_of-self c =
     let done = c.abort_step-step.ensures in
     let j = c.self.inside.journal in
     let k = c.abort_step-step.new.self in
-    let ids = ids-after_step j k c.abort_step-step.result (Undo c.args.client) (Call c.args.client Abort Done) (λ e. (done.undone e).1) (λ e. (done.ended e).1) in
-    AreFramesOf-changed j k c.self.inside.frames.items c.put_back.new.frames.items c.frames_for_abort-held.result c.abort_step-step.new.held c.self.invariant ids done.agree done.pages done.elsewhere c.put_back.ensures.follows c.put_back.ensures.count
+    let size = size-after_step j k c.abort_step-step.result (Undo c.args.client) (Call c.args.client Abort Done) (λ e. (done.undone e).1) (λ e. (done.ended e).1) in
+    AreFramesOf-changed j k c.self.inside.frames.items c.put_back.new.frames.items c.frames_for_abort-held.result c.abort_step-step.new.held c.self.invariant size done.agree done.pages done.elsewhere c.put_back.ensures.follows c.put_back.ensures.count

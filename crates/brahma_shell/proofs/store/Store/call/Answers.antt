@@ -9,7 +9,7 @@ use Rattle.core_store.specs.JournalView.{JournalView, cells_of}
 use Rattle.core_store.specs.Frames.{Agree, pages_held}
 use Rattle.core_store.specs.Limited.{pages_for_call}
 use Rattle.core_store.specs.Logged.{want_of}
-use Rattle.brahma_shell.proofs.StoreLemmas.{places-within, AreFramesOf-changed, ids-after_call}
+use Rattle.brahma_shell.proofs.StoreLemmas.{places-within, AreFramesOf-changed, size-after_call}
 use Rattle.brahma_shell.proofs.store.Store.call.Goals as goal
 
 -- what is known of the store's journal is known of its field
@@ -42,5 +42,5 @@ invariant_of-self c =
     let done = c.apply-reply.ensures in
     let j = c.self.inside.journal in
     let k = c.apply-reply.new.self in
-    let ids = ids-after_call j k c.apply-reply.result (Call c.args.client c.args.call.now c.apply-reply.result) (λ e. (done.memory e).0) (λ e. (done.marked e).0) done.entry in
-    AreFramesOf-changed j k c.self.inside.frames.items c.put_back.new.frames.items c.frames_for-held.result c.apply-reply.new.held c.self.invariant ids done.agree done.pages done.elsewhere c.put_back.ensures.follows c.put_back.ensures.count
+    let size = size-after_call j k c.apply-reply.result (Call c.args.client c.args.call.now c.apply-reply.result) (λ e. (done.memory e).0) (λ e. (done.marked e).0) done.entry in
+    AreFramesOf-changed j k c.self.inside.frames.items c.put_back.new.frames.items c.frames_for-held.result c.apply-reply.new.held c.self.invariant size done.agree done.pages done.elsewhere c.put_back.ensures.follows c.put_back.ensures.count
