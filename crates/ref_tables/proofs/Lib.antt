@@ -1,3 +1,5 @@
 pub mod Forgetting
+pub mod MemberLaws
 pub mod QueueLaws
 pub mod RefsLaws
+pub mod RingLaws

@@ -1,6 +1,8 @@
 -- The queue of objects without strong references.
 use Rattle.std.specs.Prelude.{◌≡◌, ℕ, ◌+◌, ◌^◌, ◌≤◌, ◌<◌, Bool, true, false, not, ◌==◌, List, [], ◌∷◌, ◌++◌, if◌then◌else◌, filter, length, eqb, get_or, cond}
 use Rattle.std.specs.List.{list_any, IsDistinct, sum_by}
+use Rattle.ref_tables.specs.declared.ring.Link.{Link}
+use Rattle.ref_tables.specs.Ring.{IsRing}
 
 -- the ids in the order in which they joined, and the greatest id that may join
 pub record Queue : Type 0 where
@@ -31,12 +33,14 @@ AreWithin ids limit = (id : ℕ) → has ids id ≡ true → (1 ≤ id) × (id �
 abbrev pub bit : Bool → ℕ
 bit mark = cond mark 1 0
 
--- the marks say which ids are in the queue, each once, and there is room for all ids
-pub record IsKept (ids : List ℕ) (capacity : ℕ) (marks : List Bool) (limit : ℕ) : Type 0 where
+-- the marks say which ids are in the queue, each once, the links have them in their order, and there is room for all ids
+pub record IsKept (ids : List ℕ) (count : ℕ) (links : List Link) (marks : List Bool) (limit : ℕ) : Type 0 where
   pub distinct : IsQueue ids
   pub marked : (id : ℕ) → has ids id ≡ get_or marks id false
   pub counted : sum_by bit marks ≡ length ids
   pub nothing : get_or marks 0 false ≡ false
   pub all : length marks ≡ limit + 1
-  pub room : limit < capacity
+  pub ring : IsRing links ids
+  pub number : count ≡ length ids
+  pub linked : length links ≡ limit + 1
   pub small : limit < 2 ^ 32

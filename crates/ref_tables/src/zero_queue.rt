@@ -1,68 +1,40 @@
 //! The queue of objects without strong references.
-ghost use Rattle.std.specs.Prelude.{◌≡◌, ℕ, ◌≤◌, ◌<◌, ◌++◌, ◌∷◌, [], length, position, ◌==◌, ◌+◌, if◌then◌else◌, IfOk, MatchOption};
-ghost use Rattle.std.specs.VecDeque.{deque_len, deque_capacity};
+ghost use Rattle.std.specs.Prelude.{◌≡◌, ◌≤◌, ◌∷◌, [], length, IfOk, MatchOption};
 ghost use Rattle.ref_tables.specs.Queue.{has, without, IsQueue};
 
 use crate::Memory;
+use crate::ring::{Link, link_last, unlink};
 use std::alloc::Global;
-use std::collections::VecDeque;
 use std::marker::Model;
 
 /// The objects that no strong reference leads to, by their ids, in the order in which they joined.
 /// No id stands in it twice.
 ///
 /// The ids run from 1 to the limit that the queue was made with. Room for all of them is taken at
-/// the beginning, so that no later call takes memory. `push` and `pop` cost the same however long
-/// the queue is; `drop_id` goes over the queue once.
+/// the beginning, so that no later call takes memory. `push`, `pop` and `drop_id` cost the same
+/// however long the queue is: each id that is in it knows the one before it and the one behind it,
+/// and a mark for each id tells whether it is in it.
 #[derive(Debug, Drop)]
 pub struct ZeroQueue {
+    /// The greatest id that may join.
     limit: u32,
-    order: VecDeque<u32>,
+    /// How many ids are in the queue.
+    count: u32,
+    /// By the id. At 0 stand the last and the first id.
+    links: Vec<Link>,
+    /// By the id, whether it is in the queue.
     present: Vec<bool>,
 }
 
 impl Model for ZeroQueue {
-    ghost use Rattle.std.specs.VecDeque.{deque_capacity};
     ghost use Rattle.ref_tables.specs.Queue.{Queue, IsKept};
+    ghost use Rattle.ref_tables.specs.Ring.{along, next_of};
 
     ghost Value = { Queue };
 
-    ghost view = { λ a. record { ids = a.order.items; limit = a.limit } };
+    ghost view = { λ a. record { ids = along (next_of a.links.items) a.count 0; limit = a.limit } };
 
-    ghost invariant = { λ a. IsKept a.order.items (deque_capacity a.order) a.present.items a.limit };
-}
-
-/// Where the id stands in the queue, counted from 0.
-fn place_of(order: &VecDeque<u32>, id: u32) -> Option<usize>
-    ensures { result ≡ position (λ member. member == id) order.now.items }
-{
-    order.iter().position(|member| *member == id)
-}
-
-/// Takes the id out of the queue, and tells whether it was there.
-fn take_out(order: &mut VecDeque<u32>, id: u32) -> bool
-    requires { IsQueue order.old.items }
-    ensures found { result ≡ has order.old.items id }
-    ensures others { order.new.items ≡ without order.old.items id }
-    ensures len { deque_len order.new + (if result then 1 else 0) ≡ deque_len order.old }
-    ensures capacity { deque_capacity order.new ≡ deque_capacity order.old }
-{
-    match place_of(order, id) {
-        Some(place) => {
-            order.remove(place);
-            true
-        }
-        None => false,
-    }
-}
-
-/// Appends the id, for which there is room.
-fn push_into_room(order: &mut VecDeque<u32>, id: u32)
-    requires { deque_len order.old < deque_capacity order.old }
-    ensures ids { order.new.items ≡ order.old.items ++ id ∷ [] }
-    ensures capacity { deque_capacity order.old ≤ deque_capacity order.new }
-{
-    let _ = order.push_back(id);
+    ghost invariant = { λ a. IsKept (along (next_of a.links.items) a.count 0) a.count a.links.items a.present.items a.limit };
 }
 
 impl ZeroQueue {
@@ -72,11 +44,16 @@ impl ZeroQueue {
     pub fn new(alloc: Global, ids: u32) -> Result<ZeroQueue, Memory>
         ensures { IfOk result (λ queue. queue ≡ record { ids = []; limit = ids }) }
     {
-        let order = VecDeque::with_capacity(alloc, ids as usize + 1)?;
+        let alone = Link {
+            previous: 0,
+            next: 0,
+        };
+        let links = vec![in alloc; alone; ids as usize + 1]?;
         let present = vec![in alloc; false; ids as usize + 1]?;
         Ok(ZeroQueue {
             limit: ids,
-            order,
+            count: 0,
+            links,
             present,
         })
     }
@@ -89,8 +66,9 @@ impl ZeroQueue {
         if self.present[id as usize] {
             return;
         }
-        push_into_room(&mut self.order, id);
+        link_last(&mut self.links, id);
         self.present[id as usize] = true;
+        self.count += 1;
     }
 
     /// Takes the first id out, and gives `None` exactly where the queue is empty.
@@ -98,18 +76,34 @@ impl ZeroQueue {
         ensures first { MatchOption result ((self.old.ids ≡ []) × (self.new.ids ≡ [])) (λ id. self.old.ids ≡ id ∷ self.new.ids) }
         ensures limit { self.new.limit ≡ self.old.limit }
     {
-        let id = self.order.pop_front()?;
-        self.present[id as usize] = false;
+        let id = self.links[0].next;
+        if id == 0 {
+            return None;
+        }
+        self.drop_id(id);
         Some(id)
+    }
+
+    /// Whether the id is present.
+    fn holds(&self, id: u32) -> bool
+        ensures { result ≡ has self.now.ids id }
+    {
+        match self.present.get(id as usize) {
+            Some(present) => *present,
+            None => false,
+        }
     }
 
     /// Takes the id out where it is present. The others keep their order.
     pub fn drop_id(&mut self, id: u32)
         ensures { self.new ≡ record self.old { ids = without self.old.ids id } }
     {
-        if take_out(&mut self.order, id) {
-            self.present[id as usize] = false;
+        if !self.holds(id) {
+            return;
         }
+        unlink(&mut self.links, id);
+        self.present[id as usize] = false;
+        self.count -= 1;
     }
 
     /// How many ids the queue has. No id is in it twice, each is within the limits, and so there are no more of them than
@@ -120,7 +114,7 @@ impl ZeroQueue {
         ensures within { AreWithin self.now.ids self.now.limit }
         ensures few { result ≤ self.now.limit }
     {
-        self.order.len() as u32
+        self.count
     }
 }
 
@@ -150,5 +144,26 @@ mod tests {
         assert_eq!(rt; queue.pop(), Some(5));
         assert_eq!(rt; queue.pop(), Some(1));
         assert_eq!(rt; queue.pop(), None);
+    }
+
+    #[test]
+    fn ids_leave_from_any_place_and_join_again(rt: HostRuntime) {
+        let mut queue = ZeroQueue::new(rt.alloc(), 5).expect(&rt, "room for five ids");
+        queue.push(4);
+        queue.push(2);
+        queue.push(5);
+        queue.push(1);
+        queue.drop_id(4);
+        queue.drop_id(5);
+        queue.drop_id(1);
+        assert_eq!(rt; queue.len(), 1);
+        queue.push(5);
+        queue.push(4);
+        assert_eq!(rt; queue.pop(), Some(2));
+        assert_eq!(rt; queue.pop(), Some(5));
+        assert_eq!(rt; queue.pop(), Some(4));
+        assert_eq!(rt; queue.pop(), None);
+        queue.push(4);
+        assert_eq!(rt; queue.pop(), Some(4));
     }
 }

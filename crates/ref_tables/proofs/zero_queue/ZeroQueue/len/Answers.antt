@@ -3,8 +3,5 @@ use Rattle.ref_tables.specs.Queue.{Queue}
 use Rattle.ref_tables.proofs.QueueLaws.{IsKept-length}
 use Rattle.ref_tables.proofs.zero_queue.ZeroQueue.len.Goals as goal
 
-pub overflow_cast-result : goal.overflow_cast-result
-overflow_cast-result c = let le = IsKept-length _ _ _ _ c.self.invariant in grind (arith, le, c.len.ensures)
-
 pub returns-clause-few : goal.returns-clause-few
-returns-clause-few c = subst (λ (q : Queue). c.len.result ≤ q.limit) c.self.view_is (let le = IsKept-length _ _ _ _ c.self.invariant in grind (arith, le, c.len.ensures))
+returns-clause-few c = subst (λ (q : Queue). c.self.inside.count ≤ q.limit) c.self.view_is (let le = IsKept-length _ _ _ _ _ c.self.invariant in omega (arith, le, c.self.invariant.number))
