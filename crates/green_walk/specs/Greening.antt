@@ -60,6 +60,23 @@ abbrev pub are_none : List ℕ → Bool
 are_none [] = true
 are_none (id ∷ ids) = false
 
+-- there is nothing to walk
+abbrev pub idle : ℕ → ℕ → Greening
+idle slots limit =
+    record {
+      seeds = [];
+      live = [];
+      green = [];
+      stage = AtSeed;
+      test = None;
+      walked = 0;
+      changed = false;
+      current = false;
+      copied = [];
+      slots = slots;
+      limit = limit;
+    }
+
 -- the walk begins behind the verdict
 abbrev pub started : ℕ → Judged → Walk → Greening
 started slots j w =

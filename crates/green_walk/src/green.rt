@@ -3,7 +3,7 @@ ghost use Rattle.std.specs.Prelude.{◌≡◌, ℕ, ◌+◌, ◌<◌, ◌≤◌,
 ghost use Rattle.cell_page.specs.Format.{IsSlotCount};
 ghost use Rattle.red_walk.specs.Ids.{IsIdList};
 ghost use Rattle.red_walk.specs.Walk.{next as next_of_red};
-ghost use Rattle.green_walk.specs.Greening.{GreenStage, AtSeed, AtInto, AtOut, IsGreening, IsAnswer, IsTestable, next, found, found_in, settled, settled_into, settled_out, started, waits, walking, testing, tested, again, work_left, are_none, first_seed, asked_at, seed_done};
+ghost use Rattle.green_walk.specs.Greening.{GreenStage, AtSeed, AtInto, AtOut, IsGreening, IsAnswer, IsTestable, next, found, found_in, settled, settled_into, settled_out, idle, started, waits, walking, testing, tested, again, are_none, first_seed, asked_at, seed_done};
 ghost use Rattle.green_walk.specs.GreenInside.{IsHead, IsFirstWaiting, IsFirstWaitingTo};
 ghost use Rattle.green_walk.specs.Linked.{IsNextNaming, target_at};
 
@@ -17,6 +17,7 @@ use std::alloc::Global;
 use std::marker::Model;
 
 mod search;
+mod work;
 
 /// Where the walk stands.
 #[derive(Clone, Copy, PartialEq, Eq, Debug)]
@@ -111,8 +112,7 @@ impl<const SLOTS: usize> Green<SLOTS> {
     pub fn new(alloc: Global, ids: u32) -> Result<Green<SLOTS>, Memory>
         requires size { IsSlotCount SLOTS }
         requires few { ids < 65536 }
-        ensures limit { IfOk result (λ green. green.limit ≡ ids) }
-        ensures done { IfOk result (λ green. next green ≡ GreenAt.End) }
+        ensures { IfOk result (λ green. green ≡ idle SLOTS ids) }
     {
         Ok(Green {
             limit: ids,
@@ -385,32 +385,6 @@ impl<const SLOTS: usize> Green<SLOTS> {
                 named,
             } => self.found_into(flipped, rest, named),
             Stage::Out { place, slot } => self.found_out(place, slot, what),
-        }
-    }
-
-    /// How much work is left at most. Each look and each event lowers it.
-    pub fn work_left(&self) -> u64
-        ensures { result ≡ work_left self.now }
-    {
-        let slots = SLOTS as u64;
-        let live = self.live.ids().len() as u64;
-        let seeds = (self.seeds.ids().len() - self.done) as u64;
-        let walk = live * slots * (slots + 2);
-        let seed = slots + 3 + (self.copied.len() as u64 + 2) + walk;
-        let tested = match self.test {
-            Some(test) => test.slot as u64 + 1,
-            None => 0,
-        };
-        match self.stage {
-            Stage::Seed => (seeds * seed).saturating_sub(tested),
-            Stage::Into { rest, .. } => {
-                seeds.saturating_sub(1) * seed + ((self.copied.len() - rest) as u64 + 2 + walk)
-            }
-            Stage::Out { place, slot } => {
-                let looks = (live * slots).saturating_sub(place as u64 * slots + slot as u64);
-                let walk_left = (1 + looks * (slots + 2)).saturating_sub(tested);
-                seeds.saturating_sub(1) * seed + walk_left
-            }
         }
     }
 }
