@@ -1,5 +1,5 @@
 -- Lines with too many fields.
-use Rattle.std.proofs.Common.{◌≡◌, ℕ, ◌<◌, List, [], ◌∷◌, Option, None, length, refl, arith}
+use Rattle.std.proofs.Common.{◌≡◌, ℕ, ◌<◌, List, [], ◌∷◌, None, length, refl, arith}
 use Rattle.brahma_shell.specs.declared.verb.Verb.{Verb}
 use Rattle.brahma_shell.specs.declared.verb.Verb.TheVariants.{Begin, Read, Make, Store, Get, Set, Commit, Abort, Undo}
 use Rattle.brahma_shell.specs.Grammar.{request_of}

@@ -1,5 +1,5 @@
 -- The collector takes fewer objects out of its queue than the store has ids, where no transaction is active.
-use Rattle.std.proofs.Common.{◌≡◌, ◌⊎◌, ⊎_elim, inl, inr, ℕ, ◌+◌, ◌<◌, ◌≤◌, cond, Bool, true, false, List, [], length, Some, refl, sym, ap, subst, ◌∙◌, arith}
+use Rattle.std.proofs.Common.{◌≡◌, ◌⊎◌, ⊎_elim, inl, inr, ℕ, ◌+◌, ◌<◌, cond, Bool, true, false, List, [], length, Some, refl, sym, subst, arith}
 use Rattle.store_model.specs.Cells.{Cell}
 use Rattle.core_store.specs.JournalView.{JournalView, cells_of}
 use Rattle.core_store.specs.RoundView.{RoundView, Closed}

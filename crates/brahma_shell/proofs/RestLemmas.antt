@@ -1,9 +1,8 @@
 -- What a step of the collector is to the journal where no transaction is active.
-use Rattle.std.proofs.Common.{◌≡◌, ℕ, ◌+◌, ◌<◌, ◌≤◌, cond, Bool, true, false, List, [], ◌∷◌, ◌++◌, length, fold, Option, Some, None, refl, sym, ap, subst, ◌∙◌, arith}
+use Rattle.std.proofs.Common.{◌≡◌, ℕ, ◌+◌, ◌<◌, ◌≤◌, Bool, true, List, [], ◌∷◌, ◌++◌, length, Option, Some, None, refl, sym, ap, subst, ◌∙◌}
 use Rattle.std.specs.Prelude.{IfSome, option_map, if◌then◌else◌, ◌↔◌}
 use Rattle.std.specs.Option.{option_map_or}
 use Rattle.std.proofs.lemmas.List.{map-append}
-use Rattle.plain_model.specs.declared.calls.Entry.{Entry}
 use Rattle.plain_model.specs.Graphs.{root}
 use Rattle.plain_model.specs.History.{History, Moment, end_of, next}
 use Rattle.plain_model.specs.Machine.{is_stored}
@@ -23,7 +22,7 @@ use Rattle.core_store.specs.declared.note.Note.{Note}
 use Rattle.core_store.specs.Collects.{Collects, entry_of}
 use Rattle.core_store.specs.Collecting.{is_pop, answer_of}
 use Rattle.core_store.specs.JournalView.{JournalView, cells_of, core_of, logged_in}
-use Rattle.core_store.specs.RoundView.{RoundView, Closed, Walking, Sweeping, round_of, Passes, none, more, IsInStep, Proceeds, is_event, asked, passed}
+use Rattle.core_store.specs.RoundView.{RoundView, Closed, Walking, Sweeping, round_of, Passes, none, more, IsInStep, Proceeds}
 use Rattle.core_store.specs.Steppings.{MakesEvent, pops}
 use Rattle.quiet_rounds.specs.Quiet.{IsQuiet, IsQuietRound}
 use Rattle.quiet_rounds.specs.Laws.{QuietEventLaw, QuietLooksLaw, IsQuietEvent}

@@ -2,7 +2,6 @@
 use Rattle.std.proofs.Common.{◌≡◌, ℕ, ◌<◌, Bool, true, false, List, [], ◌∷◌, Option, Some, None, refl, sym, ap, subst, ◌∙◌}
 use Rattle.plain_model.specs.declared.calls.Entry.{Entry}
 use Rattle.plain_model.specs.declared.calls.Entry.TheVariants.{Hidden}
-use Rattle.plain_model.specs.History.{History}
 use Rattle.store_model.specs.Core.{Round, Core}
 use Rattle.store_model.specs.Sound.{IsSound}
 use Rattle.log_record.specs.declared.cell_record.CellRecord.{CellRecord}

@@ -1,5 +1,5 @@
 -- The collector beside no active transaction: its rounds take nothing into the queue.
-use Rattle.std.specs.Prelude.{◌≡◌, ℕ, ◌+◌, ◌<◌, ◌≤◌, Bool, true, if◌then◌else◌, List, [], length}
+use Rattle.std.specs.Prelude.{◌≡◌, ◌+◌, ◌<◌, ◌≤◌, Bool, true, if◌then◌else◌, [], length}
 use Rattle.core_store.specs.JournalView.{JournalView, cells_of}
 use Rattle.core_store.specs.RoundView.{Closed}
 use Rattle.quiet_rounds.specs.Quiet.{IsQuietRound}

@@ -1,4 +1,4 @@
-use Rattle.std.proofs.Common.{◌≡◌, ℕ, ◌+◌, List, [], ◌∷◌, length, true, sym, subst, arith}
+use Rattle.std.proofs.Common.{◌≡◌, ℕ, ◌+◌, [], ◌∷◌, length, true, sym, subst, arith}
 use Rattle.std.specs.Prelude.{◌↔◌}
 use Rattle.plain_model.specs.Graphs.{root}
 use Rattle.plain_model.specs.History.{end_of}
