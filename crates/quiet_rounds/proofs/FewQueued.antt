@@ -1,5 +1,5 @@
 -- There are fewer queued objects than ids, since the root isn't among them.
-use Rattle.std.proofs.Common.{◌≡◌, ℕ, suc, ◌+◌, ◌<◌, true, List, ◌∷◌, [], length, get_or, eqb, refl, sym, ap, ◌∙◌, subst, arith, ne_eqb, ⊎_elim}
+use Rattle.std.proofs.Common.{◌≡◌, ℕ, suc, ◌+◌, ◌<◌, true, List, ◌∷◌, [], length, get_or, eqb, refl, sym, ◌∙◌, subst, arith, ne_eqb, ⊎_elim}
 use Rattle.std.specs.Prelude.{Contains}
 use Rattle.std.specs.List.{IsDistinct}
 use Rattle.std.proofs.lemmas.Bool.{eqb-true}
@@ -15,13 +15,13 @@ use Rattle.store_model.proofs.EditLaws.{live-within, live-there}
 use Rattle.store_model.proofs.OnceLaws.{once-one, once-append, only-one}
 use Rattle.store_model.proofs.StepLaws.{Contains-cons}
 
-once-distinct : (xs : List ℕ) → IsOnce xs → IsDistinct eqb xs
+pub once-distinct : (xs : List ℕ) → IsOnce xs → IsDistinct eqb xs
 once-distinct xs once = IsDistinct-from_apart eqb xs (λ i j d less l. ne_eqb (get_or xs i d) (get_or xs j d) (λ e.
     let same : i ≡ j = once i j (omega (arith, less, l)) l (get_or_default xs i 0 d (omega (arith, less, l)) ∙ e ∙ get_or_default xs j d 0 l) in
     omega (arith, same, less)))
 
 -- an id before others
-once-cons : (x : ℕ) (xs : List ℕ) → IsOnce xs → (Contains xs x → ⊥) → IsOnce (x ∷ xs)
+pub once-cons : (x : ℕ) (xs : List ℕ) → IsOnce xs → (Contains xs x → ⊥) → IsOnce (x ∷ xs)
 once-cons x xs once none = once-append (x ∷ []) xs (once-one x) once (λ y m n. none (subst (λ z. Contains xs z) (sym (only-one x y m)) n))
 
 -- ids that stand once in a list, each below n, are at most n

@@ -30,7 +30,7 @@ use Rattle.core_store.specs.Collects.{Weakens, WeakensInto, Flips, Strengthens}
 use Rattle.core_store.specs.RoundView.{RoundView, Closed, Walking, Sweeping, IsSweeping, asked, Passes, none as no_look, more, passed, passed_by_sweep, next_slot, is_closed, Proceeds, skip, start, weaken, scan, judge, cut, free, flip, into, strengthen, end}
 use Rattle.quiet_rounds.specs.Quiet.{IsQuietSweep, IsQuietRound}
 use Rattle.quiet_rounds.specs.Laws.{IsQuietEvent}
-use Rattle.quiet_rounds.specs.WholeRounds.{IsDominated, itself, joins, Runs, none, looks, event, IsWholeRound, IsUnheld, FewerLaw}
+use Rattle.quiet_rounds.specs.WholeRounds.{IsDominated, itself, joins, Runs, none, looks, event, IsWholeRound, IsWithoutStrong, FewerLaw}
 use Rattle.quiet_rounds.proofs.Dominated.{dominated}
 use Rattle.quiet_rounds.proofs.Ends.{held-counts, left-green}
 use Rattle.quiet_rounds.proofs.FromStart.{IsFrom, from-start, weaken-from, weakened-count}
@@ -46,15 +46,15 @@ record IsLike (cells new : List Cell) (y : ℕ) : Type 0 where
   live : is_live new y ≡ is_live cells y
   strong : is_live cells y ≡ true → (cell_at new y).strong ≡ (cell_at cells y).strong
 
-unheld-like : (cells new : List Cell) (y : ℕ) → IsLike cells new y → IsUnheld new y ↔ IsUnheld cells y
-unheld-like cells new y k = (
+without_strong-like : (cells new : List Cell) (y : ℕ) → IsLike cells new y → IsWithoutStrong new y ↔ IsWithoutStrong cells y
+without_strong-like cells new y k = (
   λ u. let l : is_live cells y ≡ true = sym k.live ∙ u.live in record { live = l; not_root = u.not_root; zero = sym (k.strong l) ∙ u.zero },
   λ u. record { live = k.live ∙ u.live; not_root = u.not_root; zero = k.strong u.live ∙ u.zero },
 )
 
 -- behind the verdict the other objects are without strong pointers exactly where they were at the start, and those of the round that are no more in it were freed
 record IsBehind (began cells : List Cell) (w : Walk) : Type 0 where
-  others : (y : ℕ) → (Contains w.list y → ⊥) → IsUnheld cells y ↔ IsUnheld began y
+  others : (y : ℕ) → (Contains w.list y → ⊥) → IsWithoutStrong cells y ↔ IsWithoutStrong began y
   gone : (y : ℕ) → Contains w.list y → (Contains w.left y → ⊥) → is_live cells y ≡ false
 
 abbrev IsAlong : List Cell → ℕ → List Cell → RoundView → Type 0
@@ -65,7 +65,7 @@ IsAlong began x cells (Sweeping w s slot g) = IsBehind began cells w
 -- the other objects are as before, and all are as live
 behind-like : (began cells new : List Cell) (w : Walk) → ((y : ℕ) → is_live new y ≡ is_live cells y) → ((y : ℕ) → (Contains w.list y → ⊥) → is_live cells y ≡ true → (cell_at new y).strong ≡ (cell_at cells y).strong) → IsBehind began cells w → IsBehind began new w
 behind-like began cells new w live strong k = record {
-  others = λ y n. let same = unheld-like cells new y (record { live = live y; strong = strong y n }) in let was = k.others y n in (λ u. was.0 (same.0 u), λ u. same.1 (was.1 u));
+  others = λ y n. let same = without_strong-like cells new y (record { live = live y; strong = strong y n }) in let was = k.others y n in (λ u. was.0 (same.0 u), λ u. same.1 (was.1 u));
   gone = λ y m n. live y ∙ k.gone y m n;
 }
 
@@ -187,7 +187,7 @@ module _ (began : List Cell) (x slots : ℕ) (c d : Core) (w : Walk) (s : Sweep)
       record {
         others = λ y n.
             let other = apart y (λ t. n (subst (λ v. Contains w.list v) (sym t) m)) in
-            let same = unheld-like c.cells new y (record { live = ap (λ (a : Cell). a.live) other; strong = λ l. ap (λ (a : Cell). a.strong) other }) in
+            let same = without_strong-like c.cells new y (record { live = ap (λ (a : Cell). a.live) other; strong = λ l. ap (λ (a : Cell). a.strong) other }) in
             let was = k.others y n in (λ u. was.0 (same.0 u), λ u. same.1 (was.1 u));
         gone = λ y l n. ⊎_elim
             (λ t. ap (λ v. is_live new v) t ∙ ap (λ (a : Cell). a.live) (edit-here c.cells id (λ _. blank_cell false slots) (live-there c.cells id e.sound.exact.none live) (live-within c.cells id live)))
@@ -262,7 +262,7 @@ module _ (slots : ℕ) (c d : Core) (x events : ℕ) (r : IsWholeRound slots c d
       omega (arith, some, z)
 
   -- an object of the round has a strong pointer to it at the end, or is no more
-  not-listed : (id : ℕ) → IsUnheld r.last.cells id → Contains r.walk.list id → ⊥
+  not-listed : (id : ℕ) → IsWithoutStrong r.last.cells id → Contains r.walk.list id → ⊥
   not-listed id u m = by (has r.walk.left id) refl
     where
       by : (b : Bool) → has r.walk.left id ≡ b → ⊥
@@ -270,7 +270,7 @@ module _ (slots : ℕ) (c d : Core) (x events : ℕ) (r : IsWholeRound slots c d
       by false e = true≢false (sym u.live ∙ behind.gone id m (λ l. true≢false (sym (has-Contains r.walk.left id l) ∙ e)))
 
   -- one but the first had one at the start
-  dominated-held : (id : ℕ) → IsDominated c.cells x id → IsUnheld c.cells id → id ≢ x → ⊥
+  dominated-held : (id : ℕ) → IsDominated c.cells x id → IsWithoutStrong c.cells id → id ≢ x → ⊥
   dominated-held _ itself u n = n refl
   dominated-held _ (joins id live not_root held all) u n =
       let some = held-counts c.cells r.starts.sound.exact held.0 held.1 id held.2 in
@@ -283,8 +283,8 @@ fewer slots c d x events r id =
     let same = ended slots c d x events r in
     let whole = dominated slots c d x events r in (
       λ u.
-          let last : IsUnheld r.last.cells id = subst (λ cells. IsUnheld cells id) same u in
+          let last : IsWithoutStrong r.last.cells id = subst (λ cells. IsWithoutStrong cells id) same u in
           let out = not-listed slots c d x events r id last in
           ((b.others id out).0 last, λ t. out (subst (λ v. Contains r.walk.list v) (sym t) ((whole x).1 itself))),
-      λ p. subst (λ cells. IsUnheld cells id) (sym same) ((b.others id (λ m. dominated-held slots c d x events r id ((whole id).0 m) p.0 p.1)).1 p.0),
+      λ p. subst (λ cells. IsWithoutStrong cells id) (sym same) ((b.others id (λ m. dominated-held slots c d x events r id ((whole id).0 m) p.0 p.1)).1 p.0),
     )

@@ -1,14 +1,13 @@
 -- The verdict of a quiet round.
-use Rattle.std.proofs.Common.{◌≡◌, ◌≢◌, ℕ, zero, ◌+◌, ◌<◌, ◌≤◌, Bool, true, false, List, [], ◌∷◌, length, map, get_or, slice_index_or, refl, sym, ap, ◌∙◌, subst, Option, Some, None, arith, ◌⊎◌, inl, inr, ⊎_elim, true≢false, eq-eqb}
+use Rattle.std.proofs.Common.{◌≡◌, ◌≢◌, ℕ, ◌+◌, ◌<◌, true, false, List, [], ◌∷◌, length, map, get_or, refl, sym, ap, ◌∙◌, subst, Option, Some, None, arith, ◌⊎◌, inl, inr, ⊎_elim, true≢false}
 use Rattle.std.specs.Prelude.{Contains}
 use Rattle.std.specs.Option.{option_map_or, unwrap_or}
 use Rattle.std.proofs.lemmas.Bool.{cases_lt}
 use Rattle.std.proofs.lemmas.List.{get_or_default, get_or_past, length-map}
 use Rattle.plain_model.specs.Graphs.{root}
-use Rattle.store_model.specs.Cells.{Pointer, null, Cell, cell_at, pointer_at, pointer_in, is_live, is_strong}
+use Rattle.store_model.specs.Cells.{Pointer, null, cell_at, pointer_at, is_live}
 use Rattle.store_model.specs.Core.{Copy, Ref, Round, Core, is_named}
-use Rattle.store_model.specs.Sound.{IsSound, in_round, copy_of}
-use Rattle.store_model.specs.Steps.{with_verdict}
+use Rattle.store_model.specs.Sound.{IsSound, in_round}
 use Rattle.store_model.specs.Verdict.{IsSeed, was_touched, is_locked, has_name, has_other, IsLive, seed, from_live, IsCondemned}
 use Rattle.store_model.proofs.Lists.{Contains-here}
 use Rattle.store_model.proofs.DeletionLaws.{target-map}
@@ -17,17 +16,16 @@ use Rattle.store_model.proofs.StepLaws.{Contains-cons}
 use Rattle.store_model.proofs.VerdictLaws.{distinct_from}
 use Rattle.red_walk.specs.Walk.{Walk}
 use Rattle.red_walk.specs.Rounds.{round_of as walked}
-use Rattle.green_walk.specs.declared.copied_slots.CopiedSlot.{CopiedSlot}
 use Rattle.green_walk.specs.Judged.{Judged, Picks, none, takes, passes}
-use Rattle.green_walk.specs.Sweeping.{started, unfreed}
-use Rattle.green_walk.specs.Greening.{Greening, AtSeed, are_none, copied_slots, started as green_started}
+use Rattle.green_walk.specs.Sweeping.{started}
+use Rattle.green_walk.specs.Greening.{are_none, started as green_started}
 use Rattle.green_walk.proofs.PicksLaws.{picks-from, picks-all}
 use Rattle.green_walk.proofs.ReachLaws.{copied-in}
 use Rattle.core_store.specs.declared.act.Act.TheVariants as act
 use Rattle.core_store.specs.Changes.{is_counted_strong}
 use Rattle.core_store.specs.Collects.{Judges}
-use Rattle.core_store.specs.RoundView.{RoundView, Walking, Sweeping, round_of, IsWalking}
-use Rattle.quiet_rounds.specs.Quiet.{IsQuiet, HasNoStrongIn, IsQuietWalk, HasOther, IsLedTo, from_seed, over, AreCopied, IsQuietSweep, IsQuietRound}
+use Rattle.core_store.specs.RoundView.{Walking, Sweeping, IsWalking}
+use Rattle.quiet_rounds.specs.Quiet.{IsQuiet, IsQuietWalk, HasOther, IsLedTo, from_seed, over, AreCopied, IsQuietSweep, IsQuietRound}
 use Rattle.quiet_rounds.specs.Laws.{IsQuietEvent, NoneJoins}
 use Rattle.quiet_rounds.proofs.Pointers.{other-pointer}
 use Rattle.quiet_rounds.proofs.Copies.{copy-of, copied-tells, copied-has}
@@ -41,7 +39,7 @@ decided {P} (takes id ids chosen p k) x m = ⊎_elim (λ (e : id ≡ x). inl (su
 decided {P} (passes id ids chosen n k) x m = ⊎_elim (λ (e : id ≡ x). inr (λ p. n (subst P (sym e) p))) (λ (l : Contains ids x). decided k x l) (Contains-cons id ids x m)
 
 -- a name is one of the references
-named-by : (refs : List Ref) (id : ℕ) → is_named refs id ≡ true → (r : Ref) × Contains refs r
+pub named-by : (refs : List Ref) (id : ℕ) → is_named refs id ≡ true → (r : Ref) × Contains refs r
 named-by [] id h = absurd (cc)
 named-by (r ∷ rs) id h = (r, Contains-here r rs)
 

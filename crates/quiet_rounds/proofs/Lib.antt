@@ -23,3 +23,4 @@ pub mod Fewer
 pub mod Stayed
 pub mod StayedEvents
 pub mod Deleted
+pub mod Collections

@@ -1,16 +1,15 @@
 -- What keeps a walk quiet: the cells after a pointer became weak, a slot that was looked at, and an object that joins.
-use Rattle.std.proofs.Common.{◌≡◌, ◌≢◌, ℕ, ◌+◌, ◌-◌, ◌<◌, ◌≤◌, Bool, true, false, not, cond, if◌then◌else◌, ◌==◌, List, [], ◌∷◌, ◌++◌, length, get_or, slice_index_or, refl, sym, ap, ◌∙◌, subst, arith, inl, inr, ⊎_elim, ne_eqb}
+use Rattle.std.proofs.Common.{◌≡◌, ◌≢◌, ℕ, ◌+◌, ◌<◌, ◌≤◌, Bool, true, false, not, cond, if◌then◌else◌, ◌==◌, List, [], ◌∷◌, length, slice_index_or, refl, sym, ap, ◌∙◌, subst, arith, ⊎_elim, ne_eqb}
 use Rattle.std.specs.Prelude.{Contains, ◌&&◌}
 use Rattle.std.proofs.Math.Bool.{and-false}
 use Rattle.std.proofs.lemmas.Bool.{cases_eq, cases_lt, eqb-true}
-use Rattle.std.proofs.lemmas.List.{get_or_append_left, get_or_push, length_push}
+use Rattle.std.proofs.lemmas.List.{get_or_append_left}
 use Rattle.std.proofs.lemmas.List.Elements.{Contains-append_cases}
 use Rattle.store_model.specs.Cells.{Pointer, Cell, cell_at, pointer_at, is_live, is_strong, same, relinked, other_strength, hits, counted, IsExact}
 use Rattle.store_model.specs.Records.{HasPointer}
 use Rattle.store_model.proofs.EditLaws.{live-within, live-there}
 use Rattle.store_model.proofs.CountLaws.{relinked-bit, relinked-which, relinked-slot, relinked-counted}
 use Rattle.store_model.proofs.OnceLaws.{nothing-in, only-one}
-use Rattle.red_walk.specs.declared.red_at.RedAt.{RedAt}
 use Rattle.red_walk.specs.declared.red_at.RedAt.TheVariants as red
 use Rattle.red_walk.specs.Walk.{Walk, first_of, moved, joined}
 use Rattle.core_store.specs.Changes.{is_counted_strong}

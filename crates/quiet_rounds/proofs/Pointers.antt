@@ -5,7 +5,7 @@ use Rattle.std.specs.List.{AllByRecursion}
 use Rattle.std.proofs.lemmas.Bool.{cases_eq, eqb-true, cond-true}
 use Rattle.std.proofs.lemmas.List.Sums.{sum_by-cons, sum_by-set}
 use Rattle.plain_model.specs.Graphs.{root}
-use Rattle.store_model.specs.Cells.{Pointer, null, Cell, blank_cell, cell_at, pointer_in, pointer_at, is_live, hits, aims_in, self_pointers, own_strong, IsExact}
+use Rattle.store_model.specs.Cells.{Pointer, null, Cell, blank_cell, cell_at, pointer_in, is_live, hits, aims_in, self_pointers, own_strong, IsExact}
 use Rattle.store_model.specs.Core.{Copy}
 use Rattle.store_model.specs.Sound.{copy_of}
 use Rattle.store_model.specs.Verdict.{copied_names}

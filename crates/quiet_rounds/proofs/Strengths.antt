@@ -1,5 +1,5 @@
 -- What a flip and the change of one pointer's strength leave as it was.
-use Rattle.std.proofs.Common.{◌≡◌, ◌≢◌, ℕ, ◌-◌, ◌<◌, Bool, true, false, not, cond, List, length, refl, sym, ap, ◌∙◌, subst, arith, ◌⊎◌, inl, inr, ⊎_elim, ne_eqb}
+use Rattle.std.proofs.Common.{◌≡◌, ◌≢◌, ℕ, ◌<◌, Bool, true, false, not, cond, List, length, refl, sym, ap, ◌∙◌, subst, arith, ◌⊎◌, inl, inr, ⊎_elim, ne_eqb}
 use Rattle.std.specs.Prelude.{◌==◌, ◌&&◌}
 use Rattle.std.proofs.lemmas.Bool.{and_parts, and_from, not-true, eqb-false, not_from_false, false_from_ne_true}
 use Rattle.store_model.specs.Cells.{Pointer, Cell, cell_at, pointer_at, is_live, is_strong, same, edit, relinked, other_strength, flipped, hits, counted, IsExact}

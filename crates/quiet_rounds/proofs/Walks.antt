@@ -1,6 +1,6 @@
 -- Events and looks of a quiet round before its verdict.
-use Rattle.std.proofs.Common.{◌≡◌, ◌≢◌, ℕ, ◌+◌, ◌<◌, ◌≤◌, Bool, true, false, not, if◌then◌else◌, ◌==◌, List, [], ◌∷◌, ◌++◌, length, filter, get_or, slice_index_or, refl, sym, ap, ◌∙◌, subst, Option, Some, None, arith, inl, inr, ⊎_elim}
-use Rattle.std.specs.Prelude.{Contains, count_by, ◌⊎◌, ◌&&◌}
+use Rattle.std.proofs.Common.{◌≡◌, ℕ, ◌+◌, ◌≤◌, Bool, true, false, not, if◌then◌else◌, ◌==◌, List, [], ◌∷◌, ◌++◌, length, get_or, refl, sym, ap, ◌∙◌, subst, Option, Some, None, arith, ⊎_elim}
+use Rattle.std.specs.Prelude.{Contains, ◌&&◌}
 use Rattle.std.specs.Option.{option_map_or, unwrap_or}
 use Rattle.std.proofs.lemmas.Bool.{and_parts, eqb-true}
 use Rattle.std.proofs.lemmas.List.{get_or_push, length_push}
@@ -8,26 +8,23 @@ use Rattle.std.proofs.lemmas.List.Elements.{Contains-append_cases}
 use Rattle.std.proofs.lemmas.List.Sums.{count_by-le-length, length-filter}
 use Rattle.plain_model.specs.Graphs.{root}
 use Rattle.store_model.specs.Cells.{Cell, cell_at, pointer_at, is_live}
-use Rattle.store_model.specs.Records.{HasPointer}
 use Rattle.store_model.specs.Core.{Copy, Round, Core, is_named}
 use Rattle.store_model.specs.Sound.{in_round, copy_of}
 use Rattle.store_model.specs.Steps.{with_listed, with_copy}
 use Rattle.store_model.proofs.Lists.{Contains-later}
 use Rattle.store_model.proofs.OnceLaws.{nothing-in, only-one}
 use Rattle.ref_tables.specs.Queue.{has, without}
-use Rattle.red_walk.specs.declared.red_at.RedAt.{RedAt}
 use Rattle.red_walk.specs.declared.red_at.RedAt.TheVariants as red
 use Rattle.red_walk.specs.Walk.{Walk, next, opened, moved, joined_by, copied}
 use Rattle.red_walk.specs.Rounds.{round_of as walked}
 use Rattle.red_walk.proofs.WalkLaws.{look-at}
 use Rattle.red_walk.proofs.Filters.{filter-among}
-use Rattle.log_record.specs.declared.cell_record.CellRecord.{CellRecord}
 use Rattle.log_record.specs.declared.cell_record.CellRecord.TheVariants as logs
 use Rattle.core_store.specs.declared.act.Act.{Act}
 use Rattle.core_store.specs.declared.act.Act.TheVariants as act
 use Rattle.core_store.specs.Changes.{is_counted_strong, has_no_strong}
-use Rattle.core_store.specs.Collects.{is_loose, is_let_go, Skips, Starts, Weakens, WeakensInto, Scans}
-use Rattle.core_store.specs.RoundView.{RoundView, Closed, Walking, asked, asked_by_walk, is_event, passed, Proceeds, weaken}
+use Rattle.core_store.specs.Collects.{is_let_go, Skips, Starts, Weakens, Scans}
+use Rattle.core_store.specs.RoundView.{RoundView, Closed, Walking, Proceeds, weaken}
 use Rattle.quiet_rounds.specs.Quiet.{IsQuietWalk, IsQuietRound}
 use Rattle.quiet_rounds.specs.Laws.{IsQuietEvent, NoneJoins}
 use Rattle.quiet_rounds.proofs.Moves.{weakened, weakened-quiet, weakened-here, look-slot, moved-quiet, moved-at, joined-quiet}
@@ -186,17 +183,3 @@ quiet-weaken slots c d w id slot target joins h q = (
   subst (λ cells. IsQuietWalk slots cells (joined_by (moved slots w) joins)) (ap (λ (x : Core). x.cells) (sym h.after)) (joined-weakened slots c d w id slot target joins h q joins refl),
   none-joins slots c d w id slot target joins h q,
 )
-
--- ---- a look
-
--- a slot was looked at that holds no strong pointer
-pub quiet-walk-look : (slots : ℕ) (cells : List Cell) (w : Walk) → is_event cells (asked (Walking w)) ≡ false → IsQuietRound slots cells (Walking w) → IsQuietRound slots cells (passed slots cells (Walking w))
-quiet-walk-look slots cells w none q = by (next w) refl none
-  where
-    by : (a : RedAt) → next w ≡ a → is_event cells (asked_by_walk a) ≡ false → IsQuietWalk slots cells (moved slots w)
-    by (red.Look id slot) at weak =
-        let p = look-at w id slot at in
-        moved-quiet slots cells w p.0
-        (subst (λ x. is_counted_strong cells (pointer_at cells x w.slot) ≡ false) (sym p.1) (subst (λ k. is_counted_strong cells (pointer_at cells id k) ≡ false) (sym (look-slot _ w.slot _ id slot at)) weak)) q
-    by (red.Copy id) at e = absurd (cc)
-    by red.Verdict at e = absurd (cc)

@@ -1,3 +1,4 @@
 pub mod Quiet
 pub mod Laws
 pub mod WholeRounds
+pub mod Collections

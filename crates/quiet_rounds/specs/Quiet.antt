@@ -1,5 +1,5 @@
 -- Rounds of the collector beside which no client is active: what holds of them at each moment.
-use Rattle.std.specs.Prelude.{◌≡◌, ◌≢◌, ℕ, ◌+◌, ◌<◌, Bool, true, false, List, [], length, slice_index_or, Contains, ◌⊎◌, ◌∷◌}
+use Rattle.std.specs.Prelude.{◌≡◌, ◌≢◌, ℕ, ◌<◌, true, false, List, [], length, slice_index_or, Contains, ◌⊎◌, ◌∷◌}
 use Rattle.store_model.specs.Cells.{Cell, cell_at, pointer_at, is_live}
 use Rattle.store_model.specs.Core.{Core, Copy}
 use Rattle.store_model.specs.Sound.{copy_of}

@@ -78,14 +78,14 @@ KeptLaw =
     → (is_live c.cells id ≡ true) × (object_of id (cell_at d.cells id) ≡ object_of id (cell_at c.cells id))
 
 -- a live object, but for the root, to which no strong pointer leads
-pub record IsUnheld (cells : List Cell) (id : ℕ) : Type 0 where
+pub record IsWithoutStrong (cells : List Cell) (id : ℕ) : Type 0 where
   pub live : is_live cells id ≡ true
   pub not_root : id ≢ root
   pub zero : (cell_at cells id).strong ≡ 0
 
 -- it leaves exactly the objects without strong pointers that there were, but for the first one
 abbrev pub FewerLaw : Type 0
-FewerLaw = (slots : ℕ) (c d : Core) (x events : ℕ) → IsWholeRound slots c d x events → (id : ℕ) → IsUnheld d.cells id ↔ (IsUnheld c.cells id × (id ≢ x))
+FewerLaw = (slots : ℕ) (c d : Core) (x events : ℕ) → IsWholeRound slots c d x events → (id : ℕ) → IsWithoutStrong d.cells id ↔ (IsWithoutStrong c.cells id × (id ≢ x))
 
 -- it takes at most 24 events for each of its objects, and 8 more, where objects have six slots
 abbrev pub BoundLaw : Type 0
