@@ -3,7 +3,7 @@ use Rattle.std.proofs.Common.{◌≡◌, ℕ, ◌+◌, ◌-◌, ◌<◌, ◌≤�
 use Rattle.std.proofs.Math.Seq.{take-set-lt}
 use Rattle.std.proofs.lemmas.Bool.{ne_eqb, cases_eq}
 use Rattle.std.proofs.lemmas.List.{map-set, get_or-map, get_or-take, get_or-drop, drop-set-lt, drop-set-add, take-set-le}
-use Rattle.store_model.specs.Cells.{Cell as StoredCell, blank_cell, cell_at, edit}
+use Rattle.cell_model.specs.Cells.{Cell as StoredCell, blank_cell, cell_at, edit}
 use Rattle.cell_page.specs.declared.cell.Cell.{Cell}
 use Rattle.cell_page.specs.Format.{IsCell, first_id, place_of}
 use Rattle.cell_page.specs.Stored.{cell_of, page_of, HoldsPage}

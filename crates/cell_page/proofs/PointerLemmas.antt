@@ -4,7 +4,7 @@ use Rattle.std.specs.Prelude.{◌==◌}
 use Rattle.std.specs.Int.{bit_at}
 use Rattle.std.proofs.lemmas.List.{same_lists, get_or-map}
 use Rattle.std.proofs.lemmas.Nat.Bits.{bit_at-zero, bit_at-lt, same_from_bits_below}
-use Rattle.store_model.specs.Cells.{Pointer, Cell as StoredCell, null, blank_cell}
+use Rattle.cell_model.specs.Cells.{Pointer, Cell as StoredCell, null, blank_cell}
 use Rattle.cell_page.specs.declared.cell.Cell.{Cell}
 use Rattle.cell_page.specs.Format.{IsCell, IsPage, IsTyped, AreTyped, first_id}
 use Rattle.cell_page.specs.Stored.{pointers_from, cell_of}

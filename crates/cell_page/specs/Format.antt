@@ -1,5 +1,5 @@
 -- The page format: which bytes spell a page.
-use Rattle.std.specs.Prelude.{◌≡◌, ℕ, ◌+◌, ◌*◌, ◌-◌, ◌^◌, ◌<◌, ◌⊎◌, Bool, true, false, if◌then◌else◌, ◌==◌, ◌%◌, List, [], ◌∷◌, ◌++◌, length, map, replicate, slice_index, slice_index_or}
+use Rattle.std.specs.Prelude.{◌≡◌, ℕ, ◌+◌, ◌*◌, ◌-◌, ◌/◌, ◌^◌, ◌<◌, ◌⊎◌, Bool, true, false, if◌then◌else◌, ◌==◌, ◌%◌, List, [], ◌∷◌, ◌++◌, length, map, replicate, slice_index, slice_index_or}
 use Rattle.std.specs.Int.{w16, w32, w64, to_be_bytes, bit_at}
 use Rattle.std.specs.List.{flat_map}
 use Rattle.cell_page.specs.declared.cell.Cell.{Cell}
@@ -58,6 +58,10 @@ pub record IsCell {slots : ℕ} (id : ℕ) (c : Cell slots) : Type 0 where
 -- page p, from 0, has the cells of the ids 8p + 1 to 8p + 8
 abbrev pub first_id : ℕ → ℕ
 first_id page = 8 * page + 1
+
+-- the page of an id
+abbrev pub page_of_id : ℕ → ℕ
+page_of_id id = (id - 1) / 8
 
 -- the cells of a page obey the rules
 pub record IsPage {slots : ℕ} (page : ℕ) (cells : List (Cell slots)) : Type 0 where

@@ -1,7 +1,7 @@
 -- Cells and pages as the laws of a store see them: each slot beside its pointer bit.
 use Rattle.std.specs.Prelude.{◌≡◌, ℕ, ◌+◌, ◌==◌, true, false, if◌then◌else◌, List, [], ◌∷◌, map, take, drop, replicate}
 use Rattle.std.specs.Int.{bit_at}
-use Rattle.store_model.specs.Cells.{Pointer, Cell as StoredCell, blank_cell}
+use Rattle.cell_model.specs.Cells.{Pointer, Cell as StoredCell, blank_cell}
 use Rattle.cell_page.specs.declared.cell.Cell.{Cell}
 use Rattle.cell_page.specs.Format.{IsPage, first_id}
 

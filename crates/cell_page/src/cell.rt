@@ -2,12 +2,11 @@
 
 ghost use Rattle.std.specs.Prelude.{◌≡◌, ◌≢◌, ◌<◌, ◌^◌, ◌==◌, ℕ, true, false, slice_set};
 ghost use Rattle.std.specs.Int.{bit_at};
-ghost use Rattle.store_model.specs.Cells.{blank_cell, relink, pointer_in};
+ghost use Rattle.cell_model.specs.Cells.{blank_cell, relink, pointer_in};
 ghost use Rattle.cell_page.specs.Format.{IsSlotCount, IsCell, IsTyped, free_cell, fresh_cell};
 ghost use Rattle.cell_page.specs.Stored.{cell_of};
 
-/// The root's id.
-const ROOT: u32 = 1;
+use crate::layout::ROOT;
 
 /// A cell with room for one object. A live cell is a stored object.
 #[derive(Clone, Copy, PartialEq, Eq, Debug)]

@@ -8,7 +8,7 @@ ghost use Rattle.cell_page.specs.Fields.{numbers_in, cell_in, sets_null_bit, bit
 
 use crate::bytes::{u16_at, u32_at, u64_at};
 use crate::cell::Cell;
-use crate::layout::{CELLS, SLOTS_AT, cell_len, first_id};
+use crate::layout::{CELLS_OF_PAGE, SLOTS_AT, cell_len, first_id};
 use crate::page::Page;
 
 /// The bytes of a page break the page format.
@@ -175,8 +175,8 @@ impl<const SLOTS: usize> Page<SLOTS> {
         }
         let len = cell_len::<SLOTS>();
         let first = first_id(page);
-        let mut cells = [Cell::free(0); CELLS];
-        for place in 0..CELLS {
+        let mut cells = [Cell::free(0); CELLS_OF_PAGE];
+        for place in 0..CELLS_OF_PAGE {
             let start = place * len;
             match decode_cell(&bytes[start..start + len], first + place as u32) {
                 Ok(cell) => cells[place] = cell,

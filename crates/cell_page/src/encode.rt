@@ -7,7 +7,7 @@ ghost use Rattle.cell_page.specs.Format.{IsSlotCount, IsPage, AreTyped, fields_s
 
 use crate::bytes::{put_u8, put_u16, put_u32, put_u64, put_zeros};
 use crate::cell::Cell;
-use crate::layout::{CELLS, SLOTS_AT, cell_len};
+use crate::layout::{CELLS_OF_PAGE, SLOTS_AT, cell_len};
 use crate::page::Page;
 
 /// Writes the slots of a cell, at their offset.
@@ -53,7 +53,7 @@ impl<const SLOTS: usize> Page<SLOTS> {
         requires { IsSlotCount SLOTS }
         ensures { result ≡ page_size SLOTS }
     {
-        CELLS * cell_len::<SLOTS>()
+        CELLS_OF_PAGE * cell_len::<SLOTS>()
     }
 
     /// Writes the one spelling of the page, over bytes of just its length.

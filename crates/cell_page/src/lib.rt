@@ -28,7 +28,8 @@ mod page;
 
 pub use cell::{Cell, Seen};
 pub use decode::BadCell;
-pub use laws::spelled_once;
+pub use laws::{first_numbers, spelled_once};
+pub use layout::{CELLS_OF_PAGE, ROOT, first_id, page_of};
 pub use page::Page;
 
 #[cfg(test)]

@@ -5,13 +5,13 @@ ghost use Rattle.cell_page.specs.Format.{IsSlotCount, IsCell, IsPage, AreTyped, 
 ghost use Rattle.cell_page.specs.Stored.{cell_of, fresh_cells};
 
 use crate::cell::Cell;
-use crate::layout::{CELLS, first_id};
+use crate::layout::{CELLS_OF_PAGE, first_id};
 use std::marker::Model;
 
 /// Eight cells, of ids one after another.
 #[derive(Clone, Copy, PartialEq, Eq, Debug)]
 pub struct Page<const SLOTS: usize> {
-    pub(crate) cells: [Cell<SLOTS>; CELLS],
+    pub(crate) cells: [Cell<SLOTS>; CELLS_OF_PAGE],
 }
 
 /// Contracts see a page as the list of its cells. There are eight, and each number is in the range of its type.
@@ -65,7 +65,7 @@ impl<const SLOTS: usize> Page<SLOTS> {
         // In a page that obeys the rules the cell does.
         ensures rules { (page : ℕ) → IsPage page self.now → IsCell id result.now }
     {
-        &self.cells[(id - 1) as usize % CELLS]
+        &self.cells[(id - 1) as usize % CELLS_OF_PAGE]
     }
 
     /// Puts a cell in the place of the one with the same id.
@@ -76,6 +76,6 @@ impl<const SLOTS: usize> Page<SLOTS> {
         // A page goes on to obey the rules, where the cell does.
         ensures rules { (page : ℕ) → IsPage page self.old → IsCell cell.entry.id cell.entry → IsPage page self.new }
     {
-        self.cells[(cell.id - 1) as usize % CELLS] = cell;
+        self.cells[(cell.id - 1) as usize % CELLS_OF_PAGE] = cell;
     }
 }

@@ -144,27 +144,3 @@ fn reaches_what_a_slot_names(rt: HostRuntime) -> Result<(), Fail> {
     assert_eq!(rt; reach(rt.alloc(), &graph, &[2])?.items(), [2].as_slice());
     Ok(())
 }
-
-#[test]
-fn goes_round_a_cycle_once(rt: HostRuntime) -> Result<(), Fail> {
-    let graph = root_and_second(rt.alloc(), 2, 1)?;
-    assert_eq!(rt; reach(rt.alloc(), &graph, &[2])?.items(), [1, 2].as_slice());
-    Ok(())
-}
-
-#[test]
-fn leaves_out_ids_that_the_graph_has_not(rt: HostRuntime) -> Result<(), Fail> {
-    let graph = root_and_second(rt.alloc(), 3, 0)?;
-    assert_eq!(rt;
-        reach(rt.alloc(), &graph, &[3, 1, 1])?.items(),
-        [1].as_slice()
-    );
-    Ok(())
-}
-
-#[test]
-fn reaches_nothing_from_nothing(rt: HostRuntime) -> Result<(), Fail> {
-    let graph = root_and_second(rt.alloc(), 2, 1)?;
-    assert_eq!(rt; reach(rt.alloc(), &graph, &[])?.items().len(), 0);
-    Ok(())
-}

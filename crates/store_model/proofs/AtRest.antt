@@ -9,13 +9,13 @@ use Rattle.plain_model.specs.declared.object.Object.{Object}
 use Rattle.plain_model.specs.Graphs.{root, object_at, applied}
 use Rattle.plain_model.specs.Reachable.{Reachable, start as reached_start, step as reached_step}
 use Rattle.plain_model.proofs.ReachableLaws.{Reachable-least}
-use Rattle.store_model.specs.Cells.{null, Cell, blank_cell, cell_at, pointer_in, pointer_at, is_live, same, object_of, aims, aims_in, own_strong, IsExact}
-use Rattle.store_model.specs.Strong.{IsStrongAt, StrongPath, one, more}
+use Rattle.cell_model.specs.Cells.{null, Cell, blank_cell, cell_at, pointer_in, pointer_at, is_live, same, object_of, aims, aims_in, own_strong, IsExact}
+use Rattle.cell_model.specs.Strong.{IsStrongAt, StrongPath, one, more}
 use Rattle.store_model.specs.Core.{Ref, Core, is_named, slot_in, left_writes, current}
 use Rattle.store_model.specs.Sound.{as_root, by_pass, start, step, IsKept, IsSound}
-use Rattle.store_model.specs.RestLaws.{IsAtRest, HasStrongIn, IsLed, RestLaw}
+use Rattle.store_model.specs.RestLaws.{IsAtRest, HasStrongIn, IsLed, RestLedLaw, RestLaw}
 use Rattle.store_model.proofs.Lists.{Contains-here}
-use Rattle.store_model.proofs.EditLaws.{live-there}
+use Rattle.cell_model.proofs.EditLaws.{live-there}
 use Rattle.store_model.proofs.DeletionLaws.{current-slot}
 use Rattle.store_model.proofs.LedLaws.{led}
 
@@ -108,7 +108,7 @@ module _ (c : Core) (s : IsSound c) (q : IsAtRest c) where
       (s.zero id l r z)
 
   led-at_rest : (id : ℕ) → is_live c.cells id ≡ true → IsLed c.cells id
-  led-at_rest = led c.cells s.acyclic (λ id l r. strong-in c.cells s.exact id l r (strong-counted id l r))
+  led-at_rest = led c.cells s.consistent.acyclic (λ id l r. strong-in c.cells s.consistent.exact id l r (strong-counted id l r))
 
   -- the cells have the committed graph
   current-committed : current c.moment ≡ c.moment.state.committed
@@ -149,6 +149,9 @@ module _ (c : Core) (s : IsSound c) (q : IsAtRest c) where
         let is : slot_in c.moment.state.committed x m.0 ≡ y = ap (λ o. option_map_or (λ (o : Object). slice_index o.slots m.0) o 0) e ∙ (get_or_default o.slots m.0 0 y m.1 ∙ m.2) in
         subst (λ z. IsKept c z) is (step x m.0 k (λ z. n (sym is ∙ z)));
   }) r
+
+pub rest_led : RestLedLaw
+rest_led = led-at_rest
 
 pub at_rest : RestLaw
 at_rest c s q id = (λ h. kept-reached c s q (live-kept c s q id (sym (s.stored id) ∙ h)), λ r. s.stored id ∙ (s.kept id (reached-kept c s q id r)).live)

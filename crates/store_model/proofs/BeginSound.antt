@@ -68,11 +68,7 @@ module _ (c : Core) (s : IsSound c) (pass : ℕ) (a : transaction_of c.moment.st
       let others : (p : ℕ) (x : ℕ) → KeptByOthers (after_begin c pass) p x → KeptByOthers c p x = λ p x h.
       begun-kept_by (λ e. Contains active e × (e.0 ≢ p)) (λ e. Contains next e × (e.0 ≢ p)) (λ e m. ⊎_elim (λ o. inl (o.0, m.1)) (λ q. inr q) (cases e m.0)) h in
       record {
-        exact = s.exact;
-        empty = s.empty;
-        sized = s.sized;
-        slotted = s.slotted;
-        acyclic = s.acyclic;
+        consistent = s.consistent;
         zero = s.zero;
         queue_once = s.queue_once;
         round_once = s.round_once;

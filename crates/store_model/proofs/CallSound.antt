@@ -1,5 +1,5 @@
 -- A journal with a collector, call by call.
-use Rattle.std.proofs.Common.{◌≡◌, ◌≢◌, ℕ, ◌-◌, List, ◌++◌, Bool, refl, sym, ap, ◌∙◌, arith, Option, Some, None}
+use Rattle.std.proofs.Common.{◌≡◌, ◌≢◌, ℕ, ◌+◌, ◌-◌, List, ◌++◌, length, Bool, refl, sym, ap, ◌∙◌, arith, Option, Some, None}
 use Rattle.std.specs.Prelude.{if◌then◌else◌, count_by, is_some, unwrap_or}
 use Rattle.std.specs.Option.{option_map_or}
 use Rattle.plain_model.specs.declared.calls.Call.{Call as TransactionCall}
@@ -9,11 +9,12 @@ use Rattle.plain_model.specs.declared.calls.Reply.TheVariants.{Done, Id, Pay as 
 use Rattle.plain_model.specs.declared.calls.Entry.TheVariants.{Call}
 use Rattle.plain_model.specs.ActiveTransaction.{ActiveTransaction}
 use Rattle.plain_model.specs.Graphs.{applied}
-use Rattle.plain_model.specs.Machine.{transaction_of, refusal_in, refusal_of, register_id, free_id, step, success, if_aborting, blocks_sharing, blocks_owning}
+use Rattle.plain_model.specs.Machine.{State, is_stored, transaction_of, refusal_in, refusal_of, register_id, free_id, step, success, if_aborting, blocks_sharing, blocks_owning}
 use Rattle.plain_model.specs.History.{can_be_undone, next}
-use Rattle.plain_laws.proofs.Legal.{or_else_none}
-use Rattle.store_model.specs.Cells.{cell_at, pointer_at}
-use Rattle.store_model.specs.Records.{Make as MakeRecord, Store, Pay, after_record, Fits, IsWellLaid}
+use Rattle.plain_laws.proofs.Legal.{free_is, or_else_none}
+use Rattle.plain_laws.proofs.Locks.{free-least}
+use Rattle.cell_model.specs.Cells.{Cell, cell_at, pointer_at, is_live}
+use Rattle.cell_model.specs.Records.{Make as MakeRecord, Store, Pay, after_record, Fits, IsWellLaid}
 use Rattle.store_model.specs.Core.{Ref, Core, slot_in, payload_in}
 use Rattle.store_model.specs.Sound.{IsSound}
 use Rattle.store_model.specs.Steps.{IsTouched, AreStoreReferences, AreLeftReferences, IsQueueLeft, read_by, get_by, set_by, store_by, after_transaction, after_begin, after_make, committed_core, aborted_core}
@@ -23,7 +24,15 @@ use Rattle.store_model.proofs.GrantLaws.{not_aborting, served, served_store, ref
 use Rattle.store_model.proofs.BeginSound.{begin-sound}
 use Rattle.store_model.proofs.PaySound.{get-sound, set-sound}
 use Rattle.store_model.proofs.MomentSound.{moment-sound, read_running-sound, store_marked-sound, make_fitting-sound, commit_left-sound, abort_left-sound, slot-answer, payload-answer}
-use Rattle.store_model.proofs.CallCells.{free-fits}
+
+-- the next id is one of the store's, and free
+pub free-fits : (ids : ℕ) (s : State) (cells : List Cell) → s.ids ≡ ids → length cells ≡ 1 + ids → ((id : ℕ) → is_stored s.stored id ≡ is_live cells id) → (pass : ℕ) (t : ActiveTransaction) (into : ℕ) → refusal_in s pass t (Make into) ≡ None → Fits cells (MakeRecord pass (unwrap_or (free_id s) 0))
+free-fits ids s cells n l stored pass t into granted =
+    let g = or_else_none (if_aborting t) (if is_some (free_id s) then None else Some Full) granted in
+    let id = unwrap_or (free_id s) 0 in
+    let least = free-least s.stored s.ids id (free_is s g.1) in
+    let lo = least.within.0 in let hi = least.within.1 in
+    ((λ e. absurd (omega (arith, lo, e))), omega (arith, hi, n, l), sym (stored id) ∙ least.free)
 
 pub begin-call : (c : Core) → IsSound c → (pass : ℕ) → transaction_of c.moment.state pass ≡ None → IsSound (record c { moment = next c.moment (Call pass Begin Done) })
 begin-call c s pass a = moment-sound (after_begin c pass) (next c.moment (Call pass Begin Done)) (ap (λ w. w.1) (call-begun c.moment.state pass a)) refl (begin-sound c s pass a)
@@ -70,7 +79,7 @@ module _ (c : Core) (s : IsSound c) (pass : ℕ) (t : ActiveTransaction) (a : tr
   make-call into granted reply =
       let id = unwrap_or (free_id c.moment.state) 0 in
       let g = or_else_none (if_aborting t) (if is_some (free_id c.moment.state) then None else Some Full) granted in
-      let size = s.sized in
+      let size = s.consistent.sized in
       let fits = free-fits c.moment.state.ids c.moment.state c.cells refl (omega (arith, size)) s.stored pass t into granted in
       (fits, after (Make into) (λ e. absurd (cc)) granted reply (after_make c pass t into id) refl refl (make_fitting-sound c s pass t a into id (not_aborting t g.0) fits))
 

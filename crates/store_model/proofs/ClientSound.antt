@@ -7,13 +7,13 @@ use Rattle.plain_model.specs.declared.write.Write.{Write}
 use Rattle.plain_model.specs.ActiveTransaction.{ActiveTransaction}
 use Rattle.plain_model.specs.History.{holds}
 use Rattle.plain_laws.specs.Sound.{IsSoundState}
-use Rattle.store_model.specs.Cells.{Pointer, Cell, cell_at, pointer_at, is_live, relinked}
+use Rattle.cell_model.specs.Cells.{Pointer, Cell, cell_at, pointer_at, is_live, relinked}
 use Rattle.store_model.specs.Core.{Copy, Round, Core, names, IsActive, slot_in, slot_value, new_target, has_slot, touches, IsMadeFirst}
-use Rattle.store_model.specs.Sound.{in_register, by_lock, by_name, by_pass, Kept, start, IsKept, KeptByOthers, IsKnown, root_itself, pointed, named_id, condemned_of, in_round, copy_of, IsSound}
-use Rattle.store_model.specs.SoundCells.{AreConsistent, IsCurrentCell}
+use Rattle.store_model.specs.Sound.{in_register, by_lock, by_name, by_pass, Kept, start, IsKept, KeptByOthers, IsKnown, root_itself, pointed, named_id, condemned_of, in_round, copy_of, IsSound, IsCurrentCell}
+use Rattle.cell_model.specs.Consistent.{AreConsistent}
 use Rattle.store_model.specs.Steps.{Replaces, IsTouched}
-use Rattle.store_model.proofs.EditLaws.{live-there}
-use Rattle.store_model.proofs.ConsistentLaws.{untouched-cell}
+use Rattle.cell_model.proofs.EditLaws.{live-there}
+use Rattle.cell_model.proofs.ConsistentLaws.{untouched-cell}
 use Rattle.store_model.proofs.DeletionLaws.{names-is_named}
 use Rattle.store_model.proofs.CondemnedLaws.{register-safe}
 use Rattle.store_model.proofs.StepLaws.{was_active, active-cases, other-cases, kept-replaced}
@@ -27,7 +27,7 @@ relinked-copies c s u k p None q a b d = tt
 relinked-copies c s u k p (Some r) q a b d = λ j id copy m.
     let old = (pointer_at c.cells u k).target in
     let listed : Contains r.list id = subst (λ o. IfSome o (λ r. r.judged ≡ false → (id : ℕ) (copy : Copy) → Contains r.copies (id, copy) → Contains r.list id)) (sym q) s.copied_listed j id copy m in
-    let nonzero : id ≢ 0 = live-there c.cells id s.exact.none (s.round_live id (subst (λ o. Contains (in_round (record c { round = o })) id) q listed)).0 in
+    let nonzero : id ≢ 0 = live-there c.cells id s.consistent.exact.none (s.round_live id (subst (λ o. Contains (in_round (record c { round = o })) id) q listed)).0 in
     let current = subst (λ o. IfSome o (λ r. r.judged ≡ false → (id : ℕ) (copy : Copy) → Contains r.copies (id, copy) → Contains r.touched id ⊎ (copy ≡ copy_of (cell_at c.cells id)))) (sym q) s.copies j id copy m in
     let marked : (x : ℕ) → (x ≢ 0 → IsTouched (Some r) x) → id ≡ x → Contains r.touched id = λ x f e. subst (λ y. Contains r.touched y) (sym e) (f (λ z. nonzero (e ∙ z)) j copy (subst (λ y. Contains r.copies (y, copy)) e m)) in
     ⊎_elim
@@ -83,11 +83,7 @@ module _ (c : Core) (s : IsSound c) (pass : ℕ) (t u : ActiveTransaction) (next
       let was = was_active c.moment.state.active next pass t u r in
       let D : ℕ → Type 0 = Contains (condemned_of c) in
       record {
-        exact = k.exact;
-        empty = k.empty;
-        sized = k.sized;
-        slotted = k.slotted;
-        acyclic = k.acyclic;
+        consistent = k;
         zero = λ id l n st.
             (let l0 : is_live c.cells id ≡ true = sym (live id) ∙ l in
             ⊎_elim (λ z. s.zero id l0 n z) (λ z. inr (inr (names-is_named c.refs pass id z))) (strong id l0 st));
@@ -147,5 +143,5 @@ module _ (c : Core) (s : IsSound c) (pass : ℕ) (t u : ActiveTransaction) (next
       known e d m f q id l (pointed v j h lv p) =
           ⊎_elim
           (λ o. pointed v j (f v h) (live v ∙ lv) (o ∙ p))
-          (λ o. named_id (subst (λ n. names c.refs n id ≡ true) (sym q) (subst (λ x. names c.refs e.0 x ≡ true) p (o (λ z. live-there c.cells id s.exact.none l (sym p ∙ z))))))
+          (λ o. named_id (subst (λ n. names c.refs n id ≡ true) (sym q) (subst (λ x. names c.refs e.0 x ≡ true) p (o (λ z. live-there c.cells id s.consistent.exact.none l (sym p ∙ z))))))
           (pointers e m v j h lv)

@@ -8,17 +8,16 @@ use Rattle.plain_model.specs.declared.object.Object.{Object}
 use Rattle.plain_model.specs.Graphs.{root}
 use Rattle.plain_model.specs.ActiveTransaction.{ActiveTransaction}
 use Rattle.plain_model.specs.History.{holds}
-use Rattle.store_model.specs.Cells.{Cell, cell_at, pointer_at, is_live, object_of}
+use Rattle.cell_model.specs.Cells.{Cell, cell_at, pointer_at, is_live, object_of}
 use Rattle.store_model.specs.Core.{Copy, Round, Core, is_named, IsActive}
 use Rattle.store_model.specs.Sound.{by_lock, by_pass, start, IsKept, HasNoReason, IsKnown, root_itself, pointed, named_id, IsOnce, in_round, condemned_of, copy_of, IsSound}
-use Rattle.store_model.specs.SoundCells.{AreConsistent}
+use Rattle.cell_model.specs.Consistent.{AreConsistent}
 use Rattle.store_model.specs.Verdict.{IsCondemned}
 use Rattle.store_model.specs.Steps.{opened_round, condemned_round, with_copy, with_verdict, after_look, after_collect}
 use Rattle.store_model.proofs.Lists.{Contains-here, Contains-later}
 use Rattle.store_model.proofs.OnceLaws.{nothing-in, once-append, once-one, only-one, once-push, once-rest, once-first, once-none}
 use Rattle.store_model.proofs.DeletionLaws.{target-map}
 use Rattle.store_model.proofs.CondemnedLaws.{zero-no_reason}
-use Rattle.store_model.proofs.ConsistentLaws.{consistent_of}
 use Rattle.store_model.proofs.StepLaws.{Contains-cons}
 use Rattle.store_model.proofs.VerdictLaws.{verdict}
 
@@ -38,11 +37,7 @@ module _ (c : Core) (s : IsSound c) (cells : List Cell) (queue : List ℕ) (roun
       → ((x : ℕ) → Contains (condemned_of (after_collect c cells queue round)) x → Contains (in_round (after_collect c cells queue round)) x)
       → IsSound (after_collect c cells queue round)
   collect-sound k live objects zero queue_once round_once queued round_live copies copied_listed condemned condemned_listed = record {
-    exact = k.exact;
-    empty = k.empty;
-    sized = k.sized;
-    slotted = k.slotted;
-    acyclic = k.acyclic;
+    consistent = k;
     zero = λ x l. zero x (sym (live x) ∙ l);
     queue_once = queue_once;
     round_once = round_once;
@@ -102,7 +97,7 @@ module _ (c : Core) (s : IsSound c) (x : ℕ) (rest : List ℕ) (first : c.queue
 
   -- the first of the queue is passed over, since it has a strong pointer or a name
   pub skip-sound : ((cell_at c.cells x).strong ≢ 0) ⊎ (is_named c.refs x ≡ true) → IsSound (after_look c rest c.round)
-  skip-sound known = collect-sound c s c.cells rest c.round (consistent_of c s) (λ y. refl) (λ y h. refl)
+  skip-sound known = collect-sound c s c.cells rest c.round s.consistent (λ y. refl) (λ y h. refl)
       (λ y l n z. ⊎_elim
       (λ m. ⊎_elim
       (λ q. ⊎_elim (λ f. absurd (f (subst (λ v. (cell_at c.cells v).strong ≡ 0) (sym q) z))) (λ f. inr (inr (subst (λ v. is_named c.refs v ≡ true) q f))) known)
@@ -117,7 +112,7 @@ module _ (c : Core) (s : IsSound c) (x : ℕ) (rest : List ℕ) (first : c.queue
   pub requeue-sound : IsSound (after_look c (rest ++ x ∷ []) c.round)
   requeue-sound =
       let still : (y : ℕ) → Contains (rest ++ x ∷ []) y → Contains c.queue y = λ y m. ⊎_elim (λ q. was_queued y q) (λ q. subst (λ v. Contains c.queue v) (only-one x y q) x_queued) (Contains-append_cases rest (x ∷ []) y m) in
-      collect-sound c s c.cells (rest ++ x ∷ []) c.round (consistent_of c s) (λ y. refl) (λ y h. refl)
+      collect-sound c s c.cells (rest ++ x ∷ []) c.round s.consistent (λ y. refl) (λ y h. refl)
       (λ y l n z. ⊎_elim
       (λ m. inl (⊎_elim (λ q. Contains-append_right rest (x ∷ []) y (subst (λ v. Contains (x ∷ []) v) q (Contains-here x []))) (λ q. Contains-append_left rest (x ∷ []) y q) (in_queue y m)))
       (λ m. inr m)
@@ -131,7 +126,7 @@ module _ (c : Core) (s : IsSound c) (x : ℕ) (rest : List ℕ) (first : c.queue
     opens r list copies reason listed =
         let none : (y : ℕ) → Contains (in_round c) y → ⊥ = λ y m. nothing-in y (subst (λ l. Contains l y) (ap (λ o. option_map_or (λ (r : Round). r.list) o []) closed) m) in
         let one : (y : ℕ) → Contains r.list y → x ≡ y = λ y m. only-one x y (subst (λ l. Contains l y) list m) in
-        collect-sound c s c.cells rest (Some r) (consistent_of c s) (λ y. refl) (λ y h. refl)
+        collect-sound c s c.cells rest (Some r) s.consistent (λ y. refl) (λ y h. refl)
         (λ y l n z. ⊎_elim
         (λ m. ⊎_elim (λ q. inr (inl (subst (λ l. Contains l y) (sym list) (subst (λ v. Contains (x ∷ []) v) q (Contains-here x []))))) (λ q. inl q) (in_queue y m))
         (λ m. ⊎_elim (λ q. absurd (none y q)) (λ q. inr (inr q)) m)
@@ -217,7 +212,7 @@ module _ (c : Core) (s : IsSound c) (r : Round) (q : c.round ≡ Some r) where
   copy-sound id m =
       let e0 : ℕ × Copy = (id, copy_of (cell_at c.cells id)) in
       let one : (e : ℕ × Copy) → Contains (e0 ∷ []) e → e0 ≡ e = λ e h. ⊎_elim (λ f. f) (λ f. nothing-in e f) (Contains-cons e0 [] e h) in
-      listed-sound (with_copy r id (cell_at c.cells id)) refl refl c.cells c.queue (consistent_of c s) (λ x. refl) (λ x h. refl) s.zero s.queue_once s.queued
+      listed-sound (with_copy r id (cell_at c.cells id)) refl refl c.cells c.queue s.consistent (λ x. refl) (λ x h. refl) s.zero s.queue_once s.queued
       (λ j x copy h. ⊎_elim
       (λ g. copied j x copy g)
       (λ g. let e = one (x, copy) g in inr (ap (λ (e : ℕ × Copy). e.1) (sym e) ∙ ap (λ (e : ℕ × Copy). copy_of (cell_at c.cells e.0)) e))
@@ -230,15 +225,15 @@ module _ (c : Core) (s : IsSound c) (r : Round) (q : c.round ≡ Some r) where
 
   -- more objects are marked as touched
   pub touch-sound : (touched : List ℕ) → ((x : ℕ) → Contains r.touched x → Contains touched x) → IsSound (after_look c c.queue (Some (record r { touched = touched })))
-  touch-sound touched more = listed-sound (record r { touched = touched }) refl refl c.cells c.queue (consistent_of c s) (λ x. refl) (λ x h. refl) s.zero s.queue_once s.queued
+  touch-sound touched more = listed-sound (record r { touched = touched }) refl refl c.cells c.queue s.consistent (λ x. refl) (λ x h. refl) s.zero s.queue_once s.queued
       (λ j x copy h. ⊎_elim (λ g. inl (more x g)) (λ g. inr g) (copied j x copy h))
       copied-in_list s.condemned.within
 
   -- the verdict condemns what isn't live by the copies
   pub judge-sound : r.judged ≡ false → map (λ e. e.0) r.copies ≡ r.list → (condemned : List ℕ) → ((x : ℕ) → Contains condemned x → IsCondemned c r x) → ((x : ℕ) → IsCondemned c r x → Contains condemned x) → IsSound (after_look c c.queue (Some (with_verdict r condemned)))
   judge-sound waits all condemned only each_one =
-      let n = verdict c r s.exact (record { all = all; current = copied waits; once = once_listed; live = λ x m. s.round_live x (from_list x m) }) in
-      collect-sound c s c.cells c.queue (Some (with_verdict r condemned)) (consistent_of c s) (λ x. refl) (λ x h. refl)
+      let n = verdict c r s.consistent.exact (record { all = all; current = copied waits; once = once_listed; live = λ x m. s.round_live x (from_list x m) }) in
+      collect-sound c s c.cells c.queue (Some (with_verdict r condemned)) s.consistent (λ x. refl) (λ x h. refl)
       (λ x l m z. ⊎_elim (λ h. inl h) (λ h. ⊎_elim (λ g. inr (inl (in_list x g))) (λ g. inr (inr g)) h) (s.zero x l m z))
       s.queue_once once_listed
       (λ x m. let h = s.queued x m in (h.0, h.1, λ g. h.2 (from_list x g)))
@@ -257,7 +252,7 @@ module _ (c : Core) (s : IsSound c) (r : Round) (q : c.round ≡ Some r) where
   -- the round closes: those of its objects that have neither a strong pointer nor a name join the queue
   pub end-sound : (more : List ℕ) → IsOnce more → ((x : ℕ) → Contains more x → Contains r.list x) → ((x : ℕ) → Contains r.list x → (cell_at c.cells x).strong ≡ 0 → is_named c.refs x ≡ false → Contains more x) → IsSound (after_look c (c.queue ++ more) None)
   end-sound more more_once within complete =
-      collect-sound c s c.cells (c.queue ++ more) None (consistent_of c s) (λ x. refl) (λ x h. refl)
+      collect-sound c s c.cells (c.queue ++ more) None s.consistent (λ x. refl) (λ x h. refl)
       (λ x l m z. ⊎_elim
       (λ h. inl (Contains-append_left c.queue more x h))
       (λ h. ⊎_elim

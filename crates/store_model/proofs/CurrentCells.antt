@@ -7,25 +7,16 @@ use Rattle.plain_model.specs.declared.object.Object.{Object}
 use Rattle.plain_model.specs.declared.write.Place.TheVariants.{Payload}
 use Rattle.plain_model.specs.Graphs.{object_at, has_object, set_place}
 use Rattle.plain_model.specs.History.{Moment}
-use Rattle.store_model.specs.Cells.{Cell, cell_at, is_live, object_of, edit, pays}
+use Rattle.cell_model.specs.Cells.{Cell, cell_at, is_live, object_of, edit, pays}
 use Rattle.store_model.specs.Core.{current}
-use Rattle.store_model.specs.SoundCells.{IsCurrentCell}
-use Rattle.store_model.proofs.EditLaws.{edit-here, edit-other}
+use Rattle.store_model.specs.Sound.{IsCurrentCell}
+use Rattle.cell_model.proofs.EditLaws.{edit-here, edit-other}
 
 pub pays-object : (cells : List Cell) (y value : ℕ) → y ≢ 0 → y < length cells → object_of y (cell_at (edit cells y (pays value)) y) ≡ set_place Payload value (object_of y (cell_at cells y))
 pays-object cells y value n l = ap (object_of y) (edit-here cells y (pays value) n l)
 
 pub pays-object_other : (cells : List Cell) (y value x : ℕ) → x ≢ y → object_of x (cell_at (edit cells y (pays value)) x) ≡ object_of x (cell_at cells x)
 pays-object_other cells y value x n = ap (object_of x) (edit-other cells y x (pays value) n)
-
--- a change of an object leaves whether it is there
-pub map-there : (f : Object → Object) (o : Option Object) → is_some (option_map f o) ≡ is_some o
-map-there f None = refl
-map-there f (Some o) = refl
-
-pub cond-there : (b : Bool) (f : Object → Object) (o : Option Object) → is_some (cond b (option_map f o) o) ≡ is_some o
-cond-there true f o = map-there f o
-cond-there false f o = refl
 
 -- a payload before it was written over
 pub undo-paid : (o : Option Object) (b : Object) (v to : ℕ) → option_map (set_place Payload v) o ≡ Some b → to ≡ option_map_or (λ (o : Object). o.payload) o 0 → o ≡ Some (set_place Payload to b)
@@ -68,25 +59,3 @@ undone-cell cells after m n y f g is back live own others x c =
     let had : object_at (current m) x ≡ N = is x ∙ cond-false (y == x) (option_map f N) N (ne_eqb y x d) in
     record { live = live x ∙ c.live; contents = sym had ∙ (c.contents ∙ ap Some (sym (others x (λ q. d (sym q))))) })
     (cases_eq y x)
-
--- ---- all objects of the current graph
-
--- an object is written, and its cell with it
-pub written-current : (cells after : List Cell) (m n : Moment) (y : ℕ) (f : Object → Object) → ((x : ℕ) → object_at (current n) x ≡ cond (y == x) (option_map f (object_at (current m) x)) (object_at (current m) x))
-    → ((x : ℕ) → is_live after x ≡ is_live cells x) → object_of y (cell_at after y) ≡ f (object_of y (cell_at cells y)) → ((x : ℕ) → x ≢ y → object_of x (cell_at after x) ≡ object_of x (cell_at cells x))
-    → ((x : ℕ) → has_object (current m) x ≡ true → IsCurrentCell cells m x) → (x : ℕ) → has_object (current n) x ≡ true → IsCurrentCell after n x
-written-current cells after m n y f is live own others s x h =
-    let B = object_at (current m) x in
-    written-cell cells after m n y f is live own others x (s x (sym (cond-there (y == x) f B) ∙ (ap is_some (sym (is x)) ∙ h)))
-
--- the objects stay
-pub same-current : (cells : List Cell) (m n : Moment) → ((x : ℕ) → object_at (current n) x ≡ object_at (current m) x) → ((x : ℕ) → has_object (current m) x ≡ true → IsCurrentCell cells m x) → (x : ℕ) → has_object (current n) x ≡ true → IsCurrentCell cells n x
-same-current cells m n is s x h = let c = s x (ap is_some (sym (is x)) ∙ h) in record { live = c.live; contents = is x ∙ c.contents }
-
--- a write is undone, and with it its cell
-pub undone-current : (cells after : List Cell) (m n : Moment) (y : ℕ) (f g : Object → Object) → ((x : ℕ) → object_at (current m) x ≡ cond (y == x) (option_map f (object_at (current n) x)) (object_at (current n) x))
-    → ((b : Object) → option_map f (object_at (current n) y) ≡ Some b → object_at (current n) y ≡ Some (g b))
-    → ((x : ℕ) → is_live after x ≡ is_live cells x) → object_of y (cell_at after y) ≡ g (object_of y (cell_at cells y)) → ((x : ℕ) → x ≢ y → object_of x (cell_at after x) ≡ object_of x (cell_at cells x))
-    → ((x : ℕ) → has_object (current m) x ≡ true → IsCurrentCell cells m x) → (x : ℕ) → has_object (current n) x ≡ true → IsCurrentCell after n x
-undone-current cells after m n y f g is back live own others s x h =
-    undone-cell cells after m n y f g is back live own others x (s x (ap is_some (is x) ∙ (cond-there (y == x) f (object_at (current n) x) ∙ h)))

@@ -10,14 +10,14 @@ use Rattle.plain_model.specs.Machine.{is_stored}
 use Rattle.plain_model.specs.History.{holds}
 use Rattle.plain_laws.proofs.Legal.{without_sub}
 use Rattle.plain_laws.proofs.Locks.{stored-remove}
-use Rattle.store_model.specs.Cells.{Cell, blank_cell, cell_at, pointer_in, pointer_at, is_live, edit}
-use Rattle.store_model.specs.Records.{Free, Fits}
+use Rattle.cell_model.specs.Cells.{Cell, blank_cell, cell_at, pointer_in, pointer_at, is_live, edit}
+use Rattle.cell_model.specs.Records.{Free, Fits}
 use Rattle.store_model.specs.Core.{Copy, Round, Core, names, IsActive, slot_in}
 use Rattle.store_model.specs.Sound.{IsKnown, root_itself, pointed, named_id, IsOnce, in_round, condemned_of, copy_of, IsSound}
 use Rattle.store_model.specs.Steps.{IsWithout, with_left, after_free}
 use Rattle.store_model.proofs.OnceLaws.{nothing-in, only-one, once-none}
-use Rattle.store_model.proofs.EditLaws.{live-there, live-within, edit-here, edit-other}
-use Rattle.store_model.proofs.ConsistentLaws.{consistent-kept, consistent_of}
+use Rattle.cell_model.proofs.EditLaws.{live-there, live-within, edit-here, edit-other}
+use Rattle.cell_model.proofs.ConsistentLaws.{consistent-kept}
 use Rattle.store_model.proofs.StateLaws.{state-deleted}
 use Rattle.store_model.proofs.DeletionLaws.{deletion}
 use Rattle.store_model.proofs.CondemnedLaws.{closed_up-kept}
@@ -47,19 +47,15 @@ module _ (c : Core) (s : IsSound c) (r : Round) (q : c.round ≡ Some r) (id : �
       let cells = edit c.cells id f in
       let D : ℕ → Type 0 = Contains (condemned_of c) in
       let d : D id = from_condemned c s r q id chosen in
-      let here = edit-here c.cells id f (live-there c.cells id s.exact.none fits.0) (live-within c.cells id fits.0) in
+      let here = edit-here c.cells id f (live-there c.cells id s.consistent.exact.none fits.0) (live-within c.cells id fits.0) in
       let other : (x : ℕ) → x ≢ id → cell_at cells x ≡ cell_at c.cells x = λ x n. edit-other c.cells id x f n in
       let lives : (x : ℕ) → x ≢ id → is_live c.cells x ≡ true → is_live cells x ≡ true = λ x n l. ap (λ (e : Cell). e.live) (other x n) ∙ l in
       let apart : (x : ℕ) → is_live cells x ≡ true → x ≢ id = λ x l e. (let no : true ≡ false = sym l ∙ (ap (λ y. is_live cells y) e ∙ ap (λ (e : Cell). e.live) here) in cc) in
-      let k = consistent-kept slots c.moment.state.ids c.cells (Free id) fits tt (consistent_of c s) in
+      let k = consistent-kept slots c.moment.state.ids c.cells (Free id) fits tt s.consistent in
       let was_condemned : (x : ℕ) → Contains (condemned_of (after_free c id o)) x → D x = λ x m. from_condemned c s r q x (condemned x m).0 in
       let D_new : (x : ℕ) → D x → x ≢ id → Contains (condemned_of (after_free c id o)) x = λ x m n. condemned_rest x (subst (λ l. Contains l x) (condemned-is c s r q) m) n in
       record {
-        exact = k.exact;
-        empty = k.empty;
-        sized = k.sized;
-        slotted = k.slotted;
-        acyclic = k.acyclic;
+        consistent = k;
         zero = λ x l n z.
             (let m = apart x l in
             ⊎_elim
@@ -100,7 +96,7 @@ module _ (c : Core) (s : IsSound c) (r : Round) (q : c.round ≡ Some r) (id : �
           not_named = λ x m. s.condemned.not_named x (was_condemned x m);
           within = λ u j l m.
               (let t = (pointer_at cells u j).target in
-              let up = closed_up-kept c.cells s.exact D s.condemned.live s.condemned.within slots (Free id) fits tt u j l (was_condemned t m, lives t (condemned t m).1 (s.condemned.live t (was_condemned t m))) in
+              let up = closed_up-kept c.cells s.consistent.exact D s.condemned.live s.condemned.within slots (Free id) fits tt u j l (was_condemned t m, lives t (condemned t m).1 (s.condemned.live t (was_condemned t m))) in
               D_new u up.0 (apart u l));
         };
         condemned_listed = λ x m. (let g = condemned x m in listed_rest x (in_list c s r q x (s.condemned_listed x (was_condemned x m))) g.1);

@@ -6,11 +6,11 @@ use Rattle.std.proofs.lemmas.Bool.{cases_eq}
 use Rattle.std.proofs.lemmas.List.Elements.{All-from_recursion, All-contains}
 use Rattle.std.proofs.lemmas.List.Sums.{sum_by-cons}
 use Rattle.plain_model.specs.Graphs.{root}
-use Rattle.store_model.specs.Cells.{Cell, cell_at, is_live}
-use Rattle.store_model.specs.Strong.{IsStrongAt, StrongPath, one, more, HasNoStrongCycle}
+use Rattle.cell_model.specs.Cells.{Cell, cell_at, is_live}
+use Rattle.cell_model.specs.Strong.{IsStrongAt, StrongPath, one, more, HasNoStrongCycle}
 use Rattle.store_model.specs.RestLaws.{HasStrongIn, IsLed, LedLaw}
 use Rattle.store_model.proofs.Lists.{each-more}
-use Rattle.store_model.proofs.EditLaws.{live-within}
+use Rattle.cell_model.proofs.EditLaws.{live-within}
 use Rattle.store_model.proofs.VerdictLaws.{AllDistinct, sum-some}
 
 -- a strong pointer, and then the walk from its target

@@ -12,8 +12,8 @@ use Rattle.plain_laws.proofs.Ids.{or_left}
 use Rattle.plain_laws.proofs.Legal.{without_other}
 use Rattle.plain_laws.proofs.Lookups.{writes_at, object_at-after_writes}
 use Rattle.plain_laws.proofs.Told.{commit-leaves_held_proof}
-use Rattle.store_model.specs.Cells.{cell_at, pointer_at}
-use Rattle.store_model.specs.Records.{Make, Store, after_record, Fits, IsWellLaid}
+use Rattle.cell_model.specs.Cells.{cell_at, pointer_at}
+use Rattle.cell_model.specs.Records.{Make, Store, after_record, Fits, IsWellLaid}
 use Rattle.store_model.specs.Core.{Ref, Core, names}
 use Rattle.store_model.specs.Sound.{in_register, by_pass, start, IsKept, IsKnown, root_itself, pointed, named_id, IsSound}
 use Rattle.store_model.specs.Steps.{IsOnlyWriter, IsTouched, AreStoreReferences, AreLeftReferences, IsQueueLeft, read_by, store_by, after_transaction, after_make, committed_core, aborted_core}
@@ -36,11 +36,7 @@ moment-sound c n st un s =
     packed : {st : State} {un : ℕ → ℕ} {o : List Object} {k : List CommitPoint} (c : Core) (opened : List Object) (commits : List CommitPoint)
         → IsSound (record c { moment = record { state = st; undone = un; opened = o; commits = k } }) → IsSound (record c { moment = record { state = st; undone = un; opened = opened; commits = commits } })
     packed {st} {un} {o} {k} c opened commits s = record {
-      exact = s.exact;
-      empty = s.empty;
-      sized = s.sized;
-      slotted = s.slotted;
-      acyclic = s.acyclic;
+      consistent = s.consistent;
       zero = s.zero;
       queue_once = s.queue_once;
       round_once = s.round_once;

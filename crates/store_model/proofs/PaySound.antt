@@ -9,13 +9,13 @@ use Rattle.plain_model.specs.declared.write.Write.{Write}
 use Rattle.plain_model.specs.Graphs.{set_place}
 use Rattle.plain_model.specs.ActiveTransaction.{ActiveTransaction}
 use Rattle.plain_model.specs.Machine.{transaction_of, blocks_sharing, blocks_owning}
-use Rattle.store_model.specs.Cells.{cell_at, pointer_in, is_live, edit, pays}
-use Rattle.store_model.specs.Records.{Pay, after_record, Fits}
+use Rattle.cell_model.specs.Cells.{cell_at, pointer_in, is_live, edit, pays}
+use Rattle.cell_model.specs.Records.{Pay, after_record, Fits}
 use Rattle.store_model.specs.Core.{Copy, Round, Core}
 use Rattle.store_model.specs.Sound.{condemned_of, copy_of, IsSound}
 use Rattle.store_model.specs.Steps.{get_by, set_by, moment_with, after_transaction}
-use Rattle.store_model.proofs.EditLaws.{live-there, live-within, edit-keeps}
-use Rattle.store_model.proofs.ConsistentLaws.{consistent-kept, consistent_of}
+use Rattle.cell_model.proofs.EditLaws.{live-there, live-within, edit-keeps}
+use Rattle.cell_model.proofs.ConsistentLaws.{consistent-kept}
 use Rattle.store_model.proofs.CurrentCells.{pays-object, pays-object_other, written-cell}
 use Rattle.store_model.proofs.MadeFirst.{made_first-push}
 use Rattle.store_model.proofs.StateLaws.{state-got, state-set}
@@ -34,7 +34,7 @@ module _ (c : Core) (s : IsSound c) (pass : ℕ) (t : ActiveTransaction) (a : tr
       let u = get_by t y in
       let was = transaction-active c.moment.state s.state pass t a in
       client-sound c s pass t u (insert_entry nat_cmp c.moment.state.active pass u) (replaces pass t u c.moment.state.active s.state.passes a) c.moment.undone c.cells
-      (consistent_of c s)
+      s.consistent
       (λ x. refl)
       (λ x l z. inl z)
       (state-got c.moment.state pass t reg.0 y s.state a running (in_some_register t y reg) granted)
@@ -59,14 +59,14 @@ module _ (c : Core) (s : IsSound c) (pass : ℕ) (t : ActiveTransaction) (a : tr
       let live : (x : ℕ) → is_live after x ≡ is_live c.cells x = λ x. edit-keeps (λ c. c.live) c.cells y x (pays value) (λ c. refl) in
       let target : (v k : ℕ) → (pointer_in (cell_at after v) k).target ≡ (pointer_in (cell_at c.cells v) k).target = λ v k. edit-keeps (λ c. (pointer_in c k).target) c.cells y v (pays value) (λ c. refl) in
       client-sound c s pass t u (insert_entry nat_cmp c.moment.state.active pass u) (replaces pass t u c.moment.state.active s.state.passes a) c.moment.undone after
-      (consistent-kept c.moment.state.slots c.moment.state.ids c.cells (Pay pass y old value) fits tt (consistent_of c s))
+      (consistent-kept c.moment.state.slots c.moment.state.ids c.cells (Pay pass y old value) fits tt s.consistent)
       live
       (λ x l z. inl (sym (edit-keeps (λ c. c.strong) c.cells y x (pays value) (λ c. refl)) ∙ z))
       (state-set c.moment.state pass t reg.0 y value s.state a running (in_some_register t y reg) granted)
       (λ x k. let now = s.kept x k in
       written-cell c.cells after c.moment (moment_with c.moment pass u) y (set_place Payload value)
       (current-written c.moment s.state pass t a (s.none_undone (pass, t) was running) y Payload value u refl (owned-alone c.moment.state s.state pass y granted))
-      live (pays-object c.cells y value (live-there c.cells y s.exact.none fits.0) (live-within c.cells y fits.0)) (pays-object_other c.cells y value) x (record { live = now.live; contents = now.contents }))
+      live (pays-object c.cells y value (live-there c.cells y s.consistent.exact.none fits.0) (live-within c.cells y fits.0)) (pays-object_other c.cells y value) x (record { live = now.live; contents = now.contents }))
       (λ e n. refl)
       (s.none_undone (pass, t) was)
       (made_first-push t.writes w (s.made_first (pass, t) was) (λ f. let no : Payload ≡ Whole = f in cc))

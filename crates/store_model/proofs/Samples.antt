@@ -4,8 +4,8 @@ use Rattle.plain_model.specs.declared.calls.Entry.TheVariants.{Undo as UndoEntry
 use Rattle.plain_model.specs.Graphs.{object_at}
 use Rattle.plain_model.specs.ActiveTransaction.{ActiveTransaction}
 use Rattle.plain_model.specs.History.{Moment, next}
-use Rattle.store_model.specs.Cells.{Pointer, Cell, null, blank_cell, pointers_to}
-use Rattle.store_model.specs.Records.{Record, Begin, Make, Store, Pay, Undo, Weaken, Strengthen, Flip, CutDead, Free, after_record, cells_after}
+use Rattle.cell_model.specs.Cells.{Pointer, Cell, null, blank_cell, pointers_to}
+use Rattle.cell_model.specs.Records.{Record, Begin, Make, Store, Pay, Undo, Weaken, Strengthen, Flip, CutDead, Free, after_record, cells_after}
 use Rattle.store_model.specs.Core.{Cut, Put, slot_in, current}
 use Rattle.store_model.specs.Fresh.{fresh_cells, fresh_moment}
 use Rattle.store_model.specs.Steps.{store_references, references_left, make_by, store_by, set_by, moment_begun, moment_made, moment_with}

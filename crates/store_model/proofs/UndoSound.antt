@@ -12,16 +12,16 @@ use Rattle.plain_model.specs.Graphs.{object_at, set_place, applied}
 use Rattle.plain_model.specs.ActiveTransaction.{ActiveTransaction}
 use Rattle.plain_model.specs.Machine.{transaction_of}
 use Rattle.plain_model.specs.History.{can_be_undone, with_aborting, holds, next}
-use Rattle.store_model.specs.Cells.{Pointer, cell_at, pointer_in, pointer_at, is_live, edit, relinked, pays}
-use Rattle.store_model.specs.Records.{Undo, UndoPay, after_record, Fits}
+use Rattle.cell_model.specs.Cells.{Pointer, cell_at, pointer_in, pointer_at, is_live, edit, relinked, pays}
+use Rattle.cell_model.specs.Records.{Undo, UndoPay, after_record, Fits}
 use Rattle.store_model.specs.Core.{Copy, Round, Core, names, slot_in, payload_in, new_target, IsMadeFirst, current}
 use Rattle.store_model.specs.Sound.{condemned_of, copy_of, IsSound}
 use Rattle.store_model.specs.Steps.{IsTouched, undone_by, after_undo}
 use Rattle.store_model.proofs.Lists.{each, Contains-here}
-use Rattle.store_model.proofs.EditLaws.{live-there, live-within, edit-keeps}
-use Rattle.store_model.proofs.CountLaws.{relinked-live, relinked-which}
+use Rattle.cell_model.proofs.EditLaws.{live-there, live-within, edit-keeps}
+use Rattle.cell_model.proofs.CountLaws.{relinked-live, relinked-which}
 use Rattle.store_model.proofs.SlotLaws.{after_writes-value}
-use Rattle.store_model.proofs.ConsistentLaws.{consistent-kept, consistent_of}
+use Rattle.cell_model.proofs.ConsistentLaws.{consistent-kept}
 use Rattle.store_model.proofs.CurrentCells.{pays-object, pays-object_other, undo-paid, undone-cell}
 use Rattle.store_model.proofs.MadeFirst.{made_first-later}
 use Rattle.store_model.proofs.StateLaws.{state-undone}
@@ -58,7 +58,7 @@ module _ (c : Core) (s : IsSound c) (pass : ℕ) (t : ActiveTransaction) (a : tr
       let alone = own-only_writer c.moment.state s.state pass t was w mine in
       let r = undo-replaces c.moment s.state pass t a earlier later y (Slot slot) v refl split turn first_made alone in
       let ly = fits.0.live in
-      let ny = live-there c.cells y s.exact.none ly in
+      let ny = live-there c.cells y s.consistent.exact.none ly in
       let wy = live-within c.cells y ly in
       let old : (pointer_at c.cells y slot).target ≡ v = fits.0.target in
       let old_named : v ≢ 0 → names c.refs pass v ≡ true = λ z. s.new_named (pass, t) was w mine z in
@@ -71,11 +71,11 @@ module _ (c : Core) (s : IsSound c) (pass : ℕ) (t : ActiveTransaction) (a : tr
       let D : ℕ → Type 0 = Contains (condemned_of c) in
       let live_same = λ (x : ℕ). relinked-live c.cells y slot p x in
       client-sound c s pass t u (with_aborting pass c.moment.state.active) r n.undone cells
-      (consistent-kept c.moment.state.slots c.moment.state.ids c.cells (Undo pass y slot v from_strong to bit) fits tt (consistent_of c s))
+      (consistent-kept c.moment.state.slots c.moment.state.ids c.cells (Undo pass y slot v from_strong to bit) fits tt s.consistent)
       live_same
       (λ x l z. ⊎_elim
-      (λ (q : x ≡ (pointer_at c.cells y slot).target). inr (subst (λ i. names c.refs pass i ≡ true) (sym (q ∙ old)) (old_named (λ e. live-there c.cells x s.exact.none l (q ∙ (old ∙ e))))))
-      (λ q. inl (strong-kept c.cells y slot p x (live-there c.cells x s.exact.none l) (live-within c.cells x l) q z))
+      (λ (q : x ≡ (pointer_at c.cells y slot).target). inr (subst (λ i. names c.refs pass i ≡ true) (sym (q ∙ old)) (old_named (λ e. live-there c.cells x s.consistent.exact.none l (q ∙ (old ∙ e))))))
+      (λ q. inl (strong-kept c.cells y slot p x (live-there c.cells x s.consistent.exact.none l) (live-within c.cells x l) q z))
       (cases_eq x (pointer_at c.cells y slot).target))
       (state-undone c.moment.state pass t s.state a)
       (λ x k. let now = s.kept x k in
@@ -99,8 +99,8 @@ module _ (c : Core) (s : IsSound c) (pass : ℕ) (t : ActiveTransaction) (a : tr
       (cases_eq e.0 pass)))
       (λ f. inl (ap (λ (p : Pointer). p.target) f))
       (relinked-which c.cells y slot p x k ny wy fits.0.within))
-      (λ x k l d. (closed_up-kept c.cells s.exact D s.condemned.live s.condemned.within c.moment.state.slots (Undo pass y slot v from_strong to bit) fits
-      (λ dt. let no : true ≡ false = sym (names-is_named c.refs pass to (to_named (live-there c.cells to s.exact.none (s.condemned.live to dt)))) ∙ s.condemned.not_named to dt in cc)
+      (λ x k l d. (closed_up-kept c.cells s.consistent.exact D s.condemned.live s.condemned.within c.moment.state.slots (Undo pass y slot v from_strong to bit) fits
+      (λ dt. let no : true ≡ false = sym (names-is_named c.refs pass to (to_named (live-there c.cells to s.consistent.exact.none (s.condemned.live to dt)))) ∙ s.condemned.not_named to dt in cc)
       x k l (d, live_same (pointer_at cells x k).target ∙ s.condemned.live (pointer_at cells x k).target d)).0)
       (relinked-copies c s y slot p c.round refl ty (λ z. subst (λ i. IsTouched c.round i) (sym old) (tv (λ e. z (old ∙ e)))) tto)
 
@@ -118,7 +118,7 @@ module _ (c : Core) (s : IsSound c) (pass : ℕ) (t : ActiveTransaction) (a : tr
       let live : (x : ℕ) → is_live cells x ≡ is_live c.cells x = λ x. edit-keeps (λ c. c.live) c.cells y x (pays to) (λ c. refl) in
       let target : (x k : ℕ) → (pointer_in (cell_at cells x) k).target ≡ (pointer_in (cell_at c.cells x) k).target = λ x k. edit-keeps (λ c. (pointer_in c k).target) c.cells y x (pays to) (λ c. refl) in
       client-sound c s pass t u (with_aborting pass c.moment.state.active) r n.undone cells
-      (consistent-kept c.moment.state.slots c.moment.state.ids c.cells (UndoPay pass y v to) fits tt (consistent_of c s))
+      (consistent-kept c.moment.state.slots c.moment.state.ids c.cells (UndoPay pass y v to) fits tt s.consistent)
       live
       (λ x l z. inl (sym (edit-keeps (λ c. c.strong) c.cells y x (pays to) (λ c. refl)) ∙ z))
       (state-undone c.moment.state pass t s.state a)
@@ -126,7 +126,7 @@ module _ (c : Core) (s : IsSound c) (pass : ℕ) (t : ActiveTransaction) (a : tr
       undone-cell c.cells cells c.moment n y (set_place Payload v) (set_place Payload to)
       (current-undone c.moment s.state pass t a earlier later y Payload v refl split turn first_made alone)
       (λ b e. undo-paid (object_at (current n) y) b v to e (lays ∙ ap (λ o. option_map_or (λ (o : Object). o.payload) o 0) (sym (undone-object c.moment s.state pass t a earlier later y Payload v refl split turn first_made alone))))
-      live (pays-object c.cells y to (live-there c.cells y s.exact.none fits.0) (live-within c.cells y fits.0)) (pays-object_other c.cells y to) x (record { live = now.live; contents = now.contents }))
+      live (pays-object c.cells y to (live-there c.cells y s.consistent.exact.none fits.0) (live-within c.cells y fits.0)) (pays-object_other c.cells y to) x (record { live = now.live; contents = now.contents }))
       other_undone
       (λ f. let no : true ≡ false = f in cc)
       (s.made_first (pass, t) was)

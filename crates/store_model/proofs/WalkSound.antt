@@ -4,16 +4,16 @@ use Rattle.std.specs.Prelude.{◌==◌, ◌&&◌, Contains}
 use Rattle.std.proofs.lemmas.Bool.{cases_eq}
 use Rattle.std.proofs.lemmas.List.Elements.{Contains-append_cases, Contains-append_left, Contains-append_right}
 use Rattle.plain_model.specs.Graphs.{root}
-use Rattle.store_model.specs.Cells.{Pointer, Cell, null, cell_at, pointer_at, is_live, is_strong, same, object_of, relinked, other_strength, flipped, hits, counted}
-use Rattle.store_model.specs.Records.{Record, Weaken, Strengthen, Flip, CutDead, after_record, Fits, IsWellLaid}
+use Rattle.cell_model.specs.Cells.{Pointer, Cell, null, cell_at, pointer_at, is_live, is_strong, same, object_of, relinked, other_strength, flipped, hits, counted}
+use Rattle.cell_model.specs.Records.{Record, Weaken, Strengthen, Flip, CutDead, after_record, Fits, IsWellLaid}
 use Rattle.store_model.specs.Core.{Copy, Round, Core, is_named}
 use Rattle.store_model.specs.Sound.{IsKept, IsOnce, in_round, condemned_of, IsSound}
 use Rattle.store_model.specs.Steps.{IsQuiet, IsTracked, IsWithout, with_listed, after_change, after_collect}
 use Rattle.store_model.proofs.Lists.{Contains-here}
 use Rattle.store_model.proofs.OnceLaws.{nothing-in, only-one, once-push}
-use Rattle.store_model.proofs.EditLaws.{live-there, live-within, edit-other, edit-keeps}
-use Rattle.store_model.proofs.CountLaws.{relinked-live, relinked-bit, relinked-counted}
-use Rattle.store_model.proofs.ConsistentLaws.{consistent-kept, consistent_of}
+use Rattle.cell_model.proofs.EditLaws.{live-there, live-within, edit-other, edit-keeps}
+use Rattle.cell_model.proofs.CountLaws.{relinked-live, relinked-bit, relinked-counted}
+use Rattle.cell_model.proofs.ConsistentLaws.{consistent-kept}
 use Rattle.store_model.proofs.DeletionLaws.{unkept}
 use Rattle.store_model.proofs.CondemnedLaws.{LaysOutside, closed_up-kept}
 use Rattle.store_model.proofs.StepLaws.{relinked-object_other}
@@ -55,7 +55,7 @@ module _ (c : Core) (s : IsSound c) (r : Round) (q : c.round ≡ Some r) (quiet 
       → (u k : ℕ) → is_live (after_record c.moment.state.slots c.cells rec) u ≡ true → Contains (condemned_of c) (pointer_at (after_record c.moment.state.slots c.cells rec) u k).target → Contains (condemned_of c) u
   closed rec fits outside live u k l d =
       let cells = after_record c.moment.state.slots c.cells rec in
-      (closed_up-kept c.cells s.exact (Contains (condemned_of c)) s.condemned.live s.condemned.within c.moment.state.slots rec fits outside u k l (d, live (pointer_at cells u k).target ∙ s.condemned.live (pointer_at cells u k).target d)).0
+      (closed_up-kept c.cells s.consistent.exact (Contains (condemned_of c)) s.condemned.live s.condemned.within c.moment.state.slots rec fits outside u k l (d, live (pointer_at cells u k).target ∙ s.condemned.live (pointer_at cells u k).target d)).0
 
   -- the queue and the round stay
   stays : (rec : Record) → Fits c.cells rec → IsWellLaid c.cells rec → LaysOutside (Contains (condemned_of c)) rec → ((x : ℕ) → is_live (after_record c.moment.state.slots c.cells rec) x ≡ is_live c.cells x)
@@ -65,7 +65,7 @@ module _ (c : Core) (s : IsSound c) (r : Round) (q : c.round ≡ Some r) (quiet 
   stays rec fits rule outside live objects zero =
       let cells = after_record c.moment.state.slots c.cells rec in
       subst (λ o. IsSound (after_collect c cells c.queue o)) (sym q)
-      (listed-sound c s r q r refl refl cells c.queue (consistent-kept c.moment.state.slots c.moment.state.ids c.cells rec fits rule (consistent_of c s)) live objects zero s.queue_once s.queued
+      (listed-sound c s r q r refl refl cells c.queue (consistent-kept c.moment.state.slots c.moment.state.ids c.cells rec fits rule s.consistent) live objects zero s.queue_once s.queued
       (λ j id copy m. no_copy j id copy m) (λ j id copy m. no_copy j id copy m) (closed rec fits outside live))
 
   -- ---- Weaken
@@ -75,7 +75,7 @@ module _ (c : Core) (s : IsSound c) (r : Round) (q : c.round ≡ Some r) (quiet 
     weaken-zero : (x : ℕ) → is_live c.cells x ≡ true → x ≢ root → (cell_at (after_record c.moment.state.slots c.cells (Weaken id slot target)) x).strong ≡ 0 → (x ≡ target) ⊎ (Contains c.queue x ⊎ (Contains (in_round c) x ⊎ (is_named c.refs x ≡ true)))
     weaken-zero x l n z =
         let p = other_strength (pointer_at c.cells id slot) in
-        ⊎_elim (λ e. inl (e ∙ fits.0.target)) (λ m. inr (s.zero x l n (strong-kept c.cells id slot p x (live-there c.cells x s.exact.none l) (live-within c.cells x l) m z))) (cases_eq x (pointer_at c.cells id slot).target)
+        ⊎_elim (λ e. inl (e ∙ fits.0.target)) (λ m. inr (s.zero x l n (strong-kept c.cells id slot p x (live-there c.cells x s.consistent.exact.none l) (live-within c.cells x l) m z))) (cases_eq x (pointer_at c.cells id slot).target)
 
     pub weaken-sound : IsTracked c target ⊎ ((cell_at (after_record c.moment.state.slots c.cells (Weaken id slot target)) target).strong ≢ 0) → IsSound (after_change c (after_record c.moment.state.slots c.cells (Weaken id slot target)))
     weaken-sound known =
@@ -101,7 +101,7 @@ module _ (c : Core) (s : IsSound c) (r : Round) (q : c.round ≡ Some r) (quiet 
         let joined : Contains (r.list ++ target ∷ []) target = Contains-append_right r.list (target ∷ []) target (Contains-here target []) in
         let d_old : (x : ℕ) → Contains r.condemned x → Contains (condemned_of c) x = λ x m. from_condemned c s r q x m in
         let d_new : (x : ℕ) → Contains (condemned_of c) x → Contains r.condemned x = λ x m. subst (λ l. Contains l x) (condemned-is c s r q) m in
-        collect-sound c s cells queue (Some (with_listed r target)) (consistent-kept c.moment.state.slots c.moment.state.ids c.cells (Weaken id slot target) fits tt (consistent_of c s)) live (λ x h. strength-objects c.cells id slot x)
+        collect-sound c s cells queue (Some (with_listed r target)) (consistent-kept c.moment.state.slots c.moment.state.ids c.cells (Weaken id slot target) fits tt s.consistent) live (λ x h. strength-objects c.cells id slot x)
         (λ x l n z. ⊎_elim
         (λ e. inr (inl (subst (λ v. Contains (r.list ++ target ∷ []) v) (sym e) joined)))
         (λ h. ⊎_elim
@@ -123,7 +123,7 @@ module _ (c : Core) (s : IsSound c) (r : Round) (q : c.round ≡ Some r) (quiet 
       let p = other_strength (pointer_at c.cells id slot) in
       let old = pointer_at c.cells id slot in
       stays (Strengthen id slot target) fits rule tt (relinked-live c.cells id slot p) (λ x h. strength-objects c.cells id slot x)
-      (λ x l n z. s.zero x l n (strong-more c.cells id slot p (fits.0.strength fits.1) x (live-there c.cells x s.exact.none l) (live-within c.cells x l) z))
+      (λ x l n z. s.zero x l n (strong-more c.cells id slot p (fits.0.strength fits.1) x (live-there c.cells x s.consistent.exact.none l) (live-within c.cells x l) z))
 
   pub flip-sound : (id : ℕ) → Fits c.cells (Flip id) → IsWellLaid c.cells (Flip id) → IsSound (after_change c (after_record c.moment.state.slots c.cells (Flip id)))
   flip-sound id fits rule =
@@ -141,7 +141,7 @@ module _ (c : Core) (s : IsSound c) (r : Round) (q : c.round ≡ Some r) (quiet 
 
     cut-zero : (x : ℕ) → is_live c.cells x ≡ true → x ≢ root → (cell_at (relinked c.cells id slot null) x).strong ≡ 0 → (x ≡ target) ⊎ (Contains c.queue x ⊎ (Contains (in_round c) x ⊎ (is_named c.refs x ≡ true)))
     cut-zero x l n z =
-        ⊎_elim (λ e. inl (e ∙ fits.0.target)) (λ m. inr (s.zero x l n (strong-kept c.cells id slot null x (live-there c.cells x s.exact.none l) (live-within c.cells x l) m z))) (cases_eq x (pointer_at c.cells id slot).target)
+        ⊎_elim (λ e. inl (e ∙ fits.0.target)) (λ m. inr (s.zero x l n (strong-kept c.cells id slot null x (live-there c.cells x s.consistent.exact.none l) (live-within c.cells x l) m z))) (cases_eq x (pointer_at c.cells id slot).target)
 
     pub cut-sound : IsTracked c target ⊎ ((cell_at (after_record c.moment.state.slots c.cells (CutDead id slot target was_strong)) target).strong ≢ 0) → IsSound (after_change c (after_record c.moment.state.slots c.cells (CutDead id slot target was_strong)))
     cut-sound known =
@@ -160,7 +160,7 @@ module _ (c : Core) (s : IsSound c) (r : Round) (q : c.round ≡ Some r) (quiet 
         let cells = relinked c.cells id slot null in
         let live = relinked-live c.cells id slot null in
         subst (λ o. IsSound (after_collect c cells (c.queue ++ target ∷ []) o)) (sym q)
-        (listed-sound c s r q r refl refl cells (c.queue ++ target ∷ []) (consistent-kept c.moment.state.slots c.moment.state.ids c.cells (CutDead id slot target was_strong) fits tt (consistent_of c s)) live unkept_others
+        (listed-sound c s r q r refl refl cells (c.queue ++ target ∷ []) (consistent-kept c.moment.state.slots c.moment.state.ids c.cells (CutDead id slot target was_strong) fits tt s.consistent) live unkept_others
         (λ x l n z. ⊎_elim
         (λ e. inl (subst (λ v. Contains (c.queue ++ target ∷ []) v) (sym e) (Contains-append_right c.queue (target ∷ []) target (Contains-here target []))))
         (λ h. ⊎_elim (λ k. inl (Contains-append_left c.queue (target ∷ []) x k)) (λ k. inr k) h)

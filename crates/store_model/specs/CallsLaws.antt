@@ -10,73 +10,13 @@ use Rattle.plain_model.specs.Graphs.{applied}
 use Rattle.plain_model.specs.ActiveTransaction.{ActiveTransaction}
 use Rattle.plain_model.specs.Machine.{transaction_of, refusal_in, refusal_of, register_id, free_id, step}
 use Rattle.plain_model.specs.History.{Moment, can_be_undone, next}
-use Rattle.store_model.specs.Cells.{Cell, cell_at, pointer_at}
-use Rattle.store_model.specs.Records.{Make as MakeRecord, Store, Pay, after_record, Fits, IsWellLaid}
+use Rattle.cell_model.specs.Cells.{Cell, cell_at, pointer_at}
+use Rattle.cell_model.specs.Records.{Make as MakeRecord, Store, Pay, after_record, Fits, IsWellLaid}
 use Rattle.store_model.specs.Core.{Ref, Core, slot_in, payload_in}
 use Rattle.store_model.specs.Sound.{IsSound}
-use Rattle.store_model.specs.SoundCells.{IsSoundCells}
 use Rattle.store_model.specs.Steps.{IsTouched, AreStoreReferences, AreLeftReferences, IsQueueLeft, after_make}
 
 -- ---- a journal that collects nothing
-
--- the cells of a journal that collects nothing stay sound where a client begins
-abbrev pub CellsBeginLaw : Type 0
-CellsBeginLaw = (cells : List Cell) (m : Moment) → IsSoundCells cells m → (pass : ℕ) → transaction_of m.state pass ≡ None → IsSoundCells cells (next m (Call pass Begin Done))
-
--- the cells of a journal that collects nothing stay sound where a call is refused
-abbrev pub CellsRefusalLaw : Type 0
-CellsRefusalLaw = (cells : List Cell) (m : Moment) → IsSoundCells cells m → (pass : ℕ) (call : TransactionCall) (reply : Reply) → refusal_of m.state pass call ≡ Some reply → IsSoundCells cells (next m (Call pass call reply))
-
--- the cells of a journal that collects nothing stay sound under a read of a slot
-abbrev pub CellsReadLaw : Type 0
-CellsReadLaw = (cells : List Cell) (m : Moment) → IsSoundCells cells m → (pass : ℕ) (t : ActiveTransaction) → transaction_of m.state pass ≡ Some t → (r slot into : ℕ) → refusal_in m.state pass t (Read r slot into) ≡ None → (reply : Reply) → IsSoundCells cells (next m (Call pass (Read r slot into) reply))
-
--- the cells of a journal that collects nothing stay sound under a read of a payload
-abbrev pub CellsGetLaw : Type 0
-CellsGetLaw = (cells : List Cell) (m : Moment) → IsSoundCells cells m → (pass : ℕ) (t : ActiveTransaction) → transaction_of m.state pass ≡ Some t → (r : ℕ) → refusal_in m.state pass t (GetPay r) ≡ None → (reply : Reply) → IsSoundCells cells (next m (Call pass (GetPay r) reply))
-
--- the cells of a journal that collects nothing stay sound under a write of a payload
-abbrev pub CellsSetLaw : Type 0
-CellsSetLaw =
-    (cells : List Cell) (m : Moment) → IsSoundCells cells m → (pass : ℕ) (t : ActiveTransaction) → transaction_of m.state pass ≡ Some t → (r value old : ℕ) → refusal_in m.state pass t (SetPay r value) ≡ None → Fits cells (Pay pass (register_id t r) old value) → (reply : Reply)
-    → IsSoundCells (after_record m.state.slots cells (Pay pass (register_id t r) old value)) (next m (Call pass (SetPay r value) reply))
-
--- the cells of a journal that collects nothing stay sound under a store
-abbrev pub CellsStoreLaw : Type 0
-CellsStoreLaw =
-    (cells : List Cell) (m : Moment) → IsSoundCells cells m → (pass : ℕ) (t : ActiveTransaction) → transaction_of m.state pass ≡ Some t → (r slot : ℕ) (source : Option ℕ) (old : ℕ) (old_strong bit strong : Bool) → refusal_in m.state pass t (StoreCall r slot source) ≡ None
-    → Fits cells (Store pass (register_id t r) slot old old_strong (option_map_or (register_id t) source 0) bit strong) → IsWellLaid cells (Store pass (register_id t r) slot old old_strong (option_map_or (register_id t) source 0) bit strong) → (reply : Reply)
-    → IsSoundCells (after_record m.state.slots cells (Store pass (register_id t r) slot old old_strong (option_map_or (register_id t) source 0) bit strong)) (next m (Call pass (StoreCall r slot source) reply))
-
--- the cells of a journal that collects nothing stay sound where an object is made, and the record of that fits
-abbrev pub CellsMakeLaw : Type 0
-CellsMakeLaw =
-    (cells : List Cell) (m : Moment) → IsSoundCells cells m → (pass : ℕ) (t : ActiveTransaction) → transaction_of m.state pass ≡ Some t → (into : ℕ) → refusal_in m.state pass t (Make into) ≡ None → (reply : Reply)
-    → Fits cells (MakeRecord pass (unwrap_or (free_id m.state) 0)) × IsSoundCells (after_record m.state.slots cells (MakeRecord pass (unwrap_or (free_id m.state) 0))) (next m (Call pass (Make into) reply))
-
--- the cells of a journal that collects nothing stay sound under a commit, whether the disk fails it or not
-abbrev pub CellsCommitLaw : Type 0
-CellsCommitLaw = (cells : List Cell) (m : Moment) → IsSoundCells cells m → (pass : ℕ) (t : ActiveTransaction) → transaction_of m.state pass ≡ Some t → refusal_in m.state pass t Commit ≡ None → (reply : Reply) → IsSoundCells cells (next m (Call pass Commit reply))
-
--- the cells of a journal that collects nothing stay sound at the end of an abort, all writes being undone
-abbrev pub CellsAbortLaw : Type 0
-CellsAbortLaw = (cells : List Cell) (m : Moment) → IsSoundCells cells m → (pass : ℕ) (t : ActiveTransaction) → transaction_of m.state pass ≡ Some t → count_by can_be_undone t.writes - m.undone pass ≡ 0 → (reply : Reply) → IsSoundCells cells (next m (Call pass Abort reply))
-
--- where nothing is collected, a read is answered by what the cell has in the slot
-abbrev pub CellsReadReplyLaw : Type 0
-CellsReadReplyLaw = (cells : List Cell) (m : Moment) → IsSoundCells cells m → (pass : ℕ) (t : ActiveTransaction) → transaction_of m.state pass ≡ Some t → (r slot into : ℕ) → refusal_in m.state pass t (Read r slot into) ≡ None → (step m.state pass (Read r slot into)).0 ≡ Id (pointer_at cells (register_id t r) slot).target
-
--- where nothing is collected, a read of a payload is answered by the cell's
-abbrev pub CellsGetReplyLaw : Type 0
-CellsGetReplyLaw = (cells : List Cell) (m : Moment) → IsSoundCells cells m → (pass : ℕ) (t : ActiveTransaction) → transaction_of m.state pass ≡ Some t → (r : ℕ) → refusal_in m.state pass t (GetPay r) ≡ None → (step m.state pass (GetPay r)).0 ≡ PayReply (cell_at cells (register_id t r)).payload
-
--- where nothing is collected, the slot that a store writes has what the client sees there
-abbrev pub CellsOldLaw : Type 0
-CellsOldLaw = (cells : List Cell) (m : Moment) → IsSoundCells cells m → (pass : ℕ) (t : ActiveTransaction) → transaction_of m.state pass ≡ Some t → (r slot : ℕ) (source : Option ℕ) → refusal_in m.state pass t (StoreCall r slot source) ≡ None → slot_in (applied m.state.slots m.state.committed t.writes) (register_id t r) slot ≡ (pointer_at cells (register_id t r) slot).target
-
--- where nothing is collected, the cell whose payload is written has the payload that the client sees
-abbrev pub CellsOldPayLaw : Type 0
-CellsOldPayLaw = (cells : List Cell) (m : Moment) → IsSoundCells cells m → (pass : ℕ) (t : ActiveTransaction) → transaction_of m.state pass ≡ Some t → (r value : ℕ) → refusal_in m.state pass t (SetPay r value) ≡ None → payload_in (applied m.state.slots m.state.committed t.writes) (register_id t r) ≡ (cell_at cells (register_id t r)).payload
 
 -- ---- a journal with a collector
 

@@ -7,8 +7,8 @@ use Rattle.plain_model.specs.ActiveTransaction.{ActiveTransaction}
 use Rattle.plain_model.specs.Machine.{transaction_of, seen_slot, seen_payload, blocks_sharing, blocks_owning}
 use Rattle.plain_model.specs.Outcomes.{IsReachableInSomeOutcome}
 use Rattle.plain_model.specs.History.{Moment, can_be_undone}
-use Rattle.store_model.specs.Cells.{cell_at, pointer_at}
-use Rattle.store_model.specs.Records.{Make, Store, Pay, Undo, UndoPay, after_record, Fits, IsWellLaid}
+use Rattle.cell_model.specs.Cells.{cell_at, pointer_at}
+use Rattle.cell_model.specs.Records.{Make, Store, Pay, Undo, UndoPay, after_record, Fits, IsWellLaid}
 use Rattle.store_model.specs.Core.{Ref, Core, slot_in, payload_in}
 use Rattle.store_model.specs.Sound.{IsCurrent, IsSound}
 use Rattle.store_model.specs.Fresh.{fresh_core}

@@ -3,8 +3,8 @@ use Rattle.std.specs.Prelude.{◌≡◌, ◌≢◌, ℕ, Bool, true, false, List
 use Rattle.plain_model.specs.Graphs.{root}
 use Rattle.plain_model.specs.ActiveTransaction.{ActiveTransaction}
 use Rattle.plain_model.specs.History.{holds}
-use Rattle.store_model.specs.Cells.{cell_at}
-use Rattle.store_model.specs.Records.{Weaken, Strengthen, Flip, CutDead, Free, after_record, Fits, IsWellLaid}
+use Rattle.cell_model.specs.Cells.{cell_at}
+use Rattle.cell_model.specs.Records.{Weaken, Strengthen, Flip, CutDead, Free, after_record, Fits, IsWellLaid}
 use Rattle.store_model.specs.Core.{Round, Core, is_named, IsActive}
 use Rattle.store_model.specs.Sound.{IsOnce, IsSound}
 use Rattle.store_model.specs.Verdict.{IsCondemned}

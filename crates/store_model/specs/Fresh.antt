@@ -2,7 +2,7 @@
 use Rattle.std.specs.Prelude.{ℕ, suc, true, false, List, [], ◌∷◌, replicate, None}
 use Rattle.plain_model.specs.Graphs.{blank, root}
 use Rattle.plain_model.specs.History.{Moment, opening_moment}
-use Rattle.store_model.specs.Cells.{Cell, null, blank_cell}
+use Rattle.cell_model.specs.Cells.{Cell, null, blank_cell}
 use Rattle.store_model.specs.Core.{Core}
 
 -- the root's cell in a fresh store: live, with its own strong pointer

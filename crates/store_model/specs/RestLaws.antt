@@ -3,8 +3,8 @@ use Rattle.std.specs.Prelude.{◌≡◌, ◌≢◌, ℕ, true, List, [], ◌∷�
 use Rattle.plain_model.specs.Graphs.{root}
 use Rattle.plain_model.specs.Reachable.{Reachable}
 use Rattle.plain_model.specs.Machine.{is_stored}
-use Rattle.store_model.specs.Cells.{Cell, is_live}
-use Rattle.store_model.specs.Strong.{IsStrongAt, StrongPath, HasNoStrongCycle}
+use Rattle.cell_model.specs.Cells.{Cell, is_live}
+use Rattle.cell_model.specs.Strong.{IsStrongAt, StrongPath, HasNoStrongCycle}
 use Rattle.store_model.specs.Core.{Core}
 use Rattle.store_model.specs.Sound.{IsSound, in_round}
 
@@ -25,6 +25,10 @@ IsLed cells id = (id ≡ root) ⊎ StrongPath cells root id
 -- where strong pointers form no cycle, and each live cell but the root's has a strong pointer to it, strong pointers lead from the root to each live cell
 abbrev pub LedLaw : Type 0
 LedLaw = (cells : List Cell) → HasNoStrongCycle cells → ((id : ℕ) → is_live cells id ≡ true → id ≢ root → HasStrongIn cells id) → (id : ℕ) → is_live cells id ≡ true → IsLed cells id
+
+-- at rest strong pointers lead from the root to each live cell
+abbrev pub RestLedLaw : Type 0
+RestLedLaw = (c : Core) → IsSound c → IsAtRest c → (id : ℕ) → is_live c.cells id ≡ true → IsLed c.cells id
 
 -- at rest the stored ids are those that are reachable from the root in the committed graph
 abbrev pub RestLaw : Type 0

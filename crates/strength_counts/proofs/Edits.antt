@@ -2,8 +2,8 @@
 use Rattle.std.proofs.Common.{◌≡◌, ◌≢◌, ℕ, ◌-◌, Bool, true, false, not, List, [], ◌∷◌, ◌++◌, cond, refl, sym, ap, ◌∙◌, inl, inr, arith}
 use Rattle.std.specs.Prelude.{◌==◌, ◌||◌}
 use Rattle.std.proofs.lemmas.Bool.{eqb-true, eqb-false, ne_eqb, or_left, or_right, or_parts, or_from, cases_Bool}
-use Rattle.store_model.specs.Cells.{Pointer, Cell, same, relink, loses, counted}
-use Rattle.store_model.proofs.EditLaws.{loses-shape, loses-counted}
+use Rattle.cell_model.specs.Cells.{Pointer, Cell, same, relink, loses, counted}
+use Rattle.cell_model.proofs.EditLaws.{loses-shape, loses-counted}
 use Rattle.strength_counts.specs.Held.{Held, is_held, held_cell, AreOnce, edit_held}
 use Rattle.strength_counts.specs.Changes.{count_of}
 

@@ -6,7 +6,7 @@ use Rattle.std.specs.List.{list_all}
 use Rattle.std.proofs.lemmas.Bool.{eq-eqb, ne_eqb}
 use Rattle.std.proofs.lemmas.List.{set-get_or, take_all, drop_all, append-nil}
 use Rattle.std.proofs.lemmas.List.Sums.{sum_by-cons}
-use Rattle.store_model.specs.Cells.{Pointer, Cell, null, pointer_in, relink, turned, self_pointers, flipped}
+use Rattle.cell_model.specs.Cells.{Pointer, Cell, null, pointer_in, relink, turned, self_pointers, flipped}
 use Rattle.cell_page.specs.Stored.{pointers_from}
 
 pub list_all_pointers : (bits i : ℕ) (targets : List ℕ) → list_all (λ p. p.target == 0) (pointers_from bits i targets) ≡ list_all (λ target. target == 0) targets

@@ -3,11 +3,11 @@ use Rattle.std.proofs.Common.{◌≡◌, ◌≢◌, ℕ, ◌<◌, Bool, true, no
 use Rattle.std.specs.Prelude.{◌==◌, ◌&&◌}
 use Rattle.std.specs.List.{list_all}
 use Rattle.std.proofs.lemmas.Bool.{eqb-true, eqb-false, and_parts, not-true}
-use Rattle.store_model.specs.Cells.{Pointer, Cell, null, same, cell_at, pointer_in, pointer_at, is_live, is_strong, edit, relink, gains, loses, relinked, other_strength, flipped, IsExact}
-use Rattle.store_model.specs.Records.{HasNoPointer}
-use Rattle.store_model.proofs.EditLaws.{edit-none, loses-shape}
-use Rattle.store_model.proofs.CountLaws.{relinked-exact}
-use Rattle.store_model.proofs.FlipLaws.{flip-exact}
+use Rattle.cell_model.specs.Cells.{Pointer, Cell, null, same, cell_at, pointer_in, pointer_at, is_live, is_strong, edit, relink, gains, loses, relinked, other_strength, flipped, IsExact}
+use Rattle.cell_model.specs.Records.{HasNoPointer}
+use Rattle.cell_model.proofs.EditLaws.{edit-none, loses-shape}
+use Rattle.cell_model.proofs.CountLaws.{relinked-exact}
+use Rattle.cell_model.proofs.FlipLaws.{flip-exact}
 use Rattle.strength_counts.specs.Held.{Held, is_held, held_cell, held_pointer, edit_held}
 use Rattle.strength_counts.specs.Changes.{pointer_to, holds_strong, is_laid_strong, takes_strong, with_pointer, without_pointer, with_other_strength, with_flipped}
 use Rattle.strength_counts.specs.Laws.{ArePart, with_held}

@@ -3,8 +3,8 @@ use Rattle.std.proofs.Common.{◌≡◌, ◌≢◌, ℕ, zero, suc, ◌-◌, ◌
 use Rattle.std.specs.Prelude.{◌==◌}
 use Rattle.std.proofs.lemmas.Bool.{cases_eq, cases_lt, cases_Bool, eqb-true, eqb-false, or_left, or_right, or_parts, eq-eqb}
 use Rattle.std.proofs.lemmas.List.{set-set, set_comm, set-get_or, get_or_past}
-use Rattle.store_model.specs.Cells.{Pointer, Cell, null, blank_cell, cell_at, pointer_in, pointer_at, same, edit, relink, gains, loses, relinked}
-use Rattle.store_model.proofs.EditLaws.{edit-set, edit-none, edit-here, edit-other, edit-keeps, there, length-edit, loses-shape}
+use Rattle.cell_model.specs.Cells.{Pointer, Cell, null, blank_cell, cell_at, pointer_in, pointer_at, same, edit, relink, gains, loses, relinked}
+use Rattle.cell_model.proofs.EditLaws.{edit-set, edit-none, edit-here, edit-other, edit-keeps, there, length-edit, loses-shape}
 use Rattle.strength_counts.specs.Held.{Held, is_held, held_cell, AreOnce, edit_held}
 use Rattle.strength_counts.specs.Laws.{AreOf, with_held}
 

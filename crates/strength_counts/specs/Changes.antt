@@ -1,7 +1,7 @@
 -- What each call does to the held cells.
 use Rattle.std.specs.Prelude.{ℕ, Bool, not, ◌&&◌, if◌then◌else◌, ◌==◌, List}
 use Rattle.std.specs.List.{list_all}
-use Rattle.store_model.specs.Cells.{Pointer, Cell, null, same, relink, gains, loses, other_strength, flipped}
+use Rattle.cell_model.specs.Cells.{Pointer, Cell, null, same, relink, gains, loses, other_strength, flipped}
 use Rattle.strength_counts.specs.Held.{Held, held_cell, held_pointer, held_target, edit_held}
 
 -- how many strong pointers lead to the object, or how many weak ones

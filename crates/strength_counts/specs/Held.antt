@@ -1,7 +1,7 @@
 -- The held cells, each with its id.
 use Rattle.std.specs.Prelude.{◌≡◌, ℕ, Bool, false, if◌then◌else◌, ◌==◌, List, [], ◌∷◌}
 use Rattle.std.specs.List.{list_any}
-use Rattle.store_model.specs.Cells.{Pointer, Cell, blank_cell, pointer_in}
+use Rattle.cell_model.specs.Cells.{Pointer, Cell, blank_cell, pointer_in}
 
 pub record Held : Type 0 where
   pub id : ℕ

@@ -1,7 +1,7 @@
 -- What the changes of the held cells are to a store that has them.
 use Rattle.std.specs.Prelude.{◌≡◌, ◌≢◌, ℕ, ◌<◌, Bool, true, List, [], ◌∷◌, length}
-use Rattle.store_model.specs.Cells.{Pointer, Cell, null, cell_at, pointer_at, is_strong, edit, relinked, other_strength, flipped, IsExact}
-use Rattle.store_model.specs.Records.{HasNoPointer}
+use Rattle.cell_model.specs.Cells.{Pointer, Cell, null, cell_at, pointer_at, is_strong, edit, relinked, other_strength, flipped, IsExact}
+use Rattle.cell_model.specs.Records.{HasNoPointer}
 use Rattle.strength_counts.specs.Held.{Held, is_held, held_cell, held_pointer, AreOnce}
 use Rattle.strength_counts.specs.Changes.{pointer_to, holds_strong, is_laid_strong, with_pointer, without_pointer, with_other_strength, with_flipped}
 

@@ -2,7 +2,7 @@
 
 ghost use Rattle.std.specs.Prelude.{◌≡◌, ◌+◌, ◌<◌, ◌^◌, ◌==◌, ℕ, true};
 ghost use Rattle.std.specs.List.{list_all};
-ghost use Rattle.store_model.specs.Cells.{same, gains, loses, counted};
+ghost use Rattle.cell_model.specs.Cells.{same, gains, loses, counted};
 ghost use Rattle.cell_page.specs.Format.{IsCell};
 ghost use Rattle.strength_counts.specs.Changes.{takes_strong};
 ghost use Rattle.cell_page.specs.Stored.{cell_of};

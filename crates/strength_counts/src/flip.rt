@@ -1,7 +1,7 @@
 //! The flip of a target bit, which exchanges strong and weak for all pointers to an object.
 
 ghost use Rattle.std.specs.Prelude.{◌≡◌, ◌<◌, ◌≤◌, ◌==◌, ℕ, true, length, map, count_by};
-ghost use Rattle.store_model.specs.Cells.{relink, pointer_in, self_pointers, turned, flipped};
+ghost use Rattle.cell_model.specs.Cells.{relink, pointer_in, self_pointers, turned, flipped};
 ghost use Rattle.cell_page.specs.Format.{IsSlotCount, IsCell};
 ghost use Rattle.cell_page.specs.Stored.{cell_of};
 ghost use Rattle.strength_counts.specs.Held.{held_cell};

@@ -9,6 +9,3 @@ mod pointers;
 
 pub use cells::Cells;
 pub use laws::{changes_are_of_the_store, counts_stay_exact, strengths_are_of_the_store};
-
-#[cfg(test)]
-mod tests;

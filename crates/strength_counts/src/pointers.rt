@@ -1,7 +1,7 @@
 //! The changes of pointers, with the counts of their targets.
 
 ghost use Rattle.std.specs.Prelude.{◌≡◌, ◌≢◌, ◌+◌, ◌<◌, ◌^◌, ℕ, true, false, not};
-ghost use Rattle.store_model.specs.Cells.{null, same, counted, relink, gains, loses, other_strength};
+ghost use Rattle.cell_model.specs.Cells.{null, same, counted, relink, gains, loses, other_strength};
 ghost use Rattle.cell_page.specs.Format.{IsSlotCount};
 ghost use Rattle.strength_counts.specs.Held.{held_cell, held_pointer, held_target, edit_held};
 ghost use Rattle.strength_counts.specs.Changes.{count_of, pointer_to, holds_strong, is_laid_strong, with_pointer, without_pointer, with_other_strength};

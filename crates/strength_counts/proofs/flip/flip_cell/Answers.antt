@@ -1,5 +1,5 @@
 use Rattle.std.proofs.Common.{◌≡◌, sym, ap, ◌∙◌, arith}
-use Rattle.store_model.specs.Cells.{Cell, self_pointers}
+use Rattle.cell_model.specs.Cells.{Cell, self_pointers}
 use Rattle.cell_page.specs.Stored.{cell_of}
 use Rattle.strength_counts.proofs.Slots.{self_pointers-targets, flipped-turned}
 use Rattle.strength_counts.proofs.flip.flip_cell.Goals as goal

@@ -1,5 +1,5 @@
 use Rattle.std.proofs.Common.{◌≡◌, ◌++◌, map, take, drop}
-use Rattle.store_model.specs.Cells.{turned}
+use Rattle.cell_model.specs.Cells.{turned}
 use Rattle.cell_page.specs.Format.{IsCell}
 use Rattle.cell_page.specs.Stored.{cell_of}
 use Rattle.strength_counts.proofs.flip.turn_all_own.Given as goal

@@ -1,5 +1,5 @@
 use Rattle.std.proofs.Common.{◌≡◌, Bool, not, sym, ap, ◌∙◌, arith}
-use Rattle.store_model.specs.Cells.{Pointer, relink, pointer_in}
+use Rattle.cell_model.specs.Cells.{Pointer, relink, pointer_in}
 use Rattle.cell_page.specs.Stored.{cell_of}
 use Rattle.strength_counts.proofs.Slots.{target_in-pointers, turned-own, relink-other}
 use Rattle.strength_counts.proofs.flip.turn_own.Goals as goal

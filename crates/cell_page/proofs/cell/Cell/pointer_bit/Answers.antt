@@ -2,7 +2,7 @@ use Rattle.std.proofs.Common.{ℕ, sym, ap, ◌∙◌, zero-add, arith}
 use Rattle.std.specs.Prelude.{◌==◌}
 use Rattle.std.specs.Int.{bit_at}
 use Rattle.std.proofs.lemmas.Nat.Bits.{shr_and_one}
-use Rattle.store_model.specs.Cells.{Pointer, null}
+use Rattle.cell_model.specs.Cells.{Pointer, null}
 use Rattle.cell_page.proofs.PointerLemmas.{get_or-pointers_from}
 use Rattle.cell_page.proofs.cell.Cell.pointer_bit.Goals as goal
 

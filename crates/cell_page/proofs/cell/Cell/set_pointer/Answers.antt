@@ -1,5 +1,5 @@
 use Rattle.std.proofs.Common.{List, ap, zero-add, arith}
-use Rattle.store_model.specs.Cells.{Pointer, Cell as StoredCell}
+use Rattle.cell_model.specs.Cells.{Pointer, Cell as StoredCell}
 use Rattle.cell_page.proofs.PointerLemmas.{pointers_from-set}
 use Rattle.cell_page.proofs.cell.Cell.set_pointer.Goals as goal
 

@@ -1,5 +1,5 @@
 use Rattle.std.proofs.Common.{ℕ, ◌<◌, Bool, ap, ◌∙◌, rules, arith}
-use Rattle.store_model.specs.Cells.{null, counted, same}
+use Rattle.cell_model.specs.Cells.{null, counted, same}
 use Rattle.strength_counts.specs.Held.{held_cell, held_pointer}
 use Rattle.strength_counts.proofs.Edits.{relink-live, relink-bit, relink-counted}
 use Rattle.strength_counts.proofs.cells.Cells.cut.Goals as goal

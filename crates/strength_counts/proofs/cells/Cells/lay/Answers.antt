@@ -1,5 +1,5 @@
 use Rattle.std.proofs.Common.{◌≡◌, Bool, sym, ap, ◌∙◌, rules, arith}
-use Rattle.store_model.specs.Cells.{Pointer, Cell, counted, same}
+use Rattle.cell_model.specs.Cells.{Pointer, Cell, counted, same}
 use Rattle.strength_counts.specs.Held.{held_cell}
 use Rattle.strength_counts.proofs.Edits.{live-held, relink-live, relink-counted, counted-strength}
 use Rattle.strength_counts.proofs.cells.Cells.lay.Goals as goal

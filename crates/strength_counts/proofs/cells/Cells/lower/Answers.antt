@@ -1,5 +1,5 @@
 use Rattle.std.proofs.Common.{ℕ, true, subst, sym, ap, ◌∙◌, ◌≡◌, rules}
-use Rattle.store_model.specs.Cells.{Cell, loses}
+use Rattle.cell_model.specs.Cells.{Cell, loses}
 use Rattle.cell_page.specs.Format.{IsCell}
 use Rattle.cell_page.specs.Stored.{cell_of}
 use Rattle.strength_counts.specs.Held.{is_held}

@@ -1,5 +1,5 @@
 use Rattle.std.proofs.Common.{◌≡◌, ℕ, ◌<◌, true, sym, ap, subst, ◌∙◌, rules}
-use Rattle.store_model.specs.Cells.{Cell, pointer_in}
+use Rattle.cell_model.specs.Cells.{Cell, pointer_in}
 use Rattle.strength_counts.specs.Held.{held_target}
 use Rattle.strength_counts.proofs.Edits.{live-held}
 use Rattle.strength_counts.proofs.Slots.{target_in-pointers}

@@ -1,5 +1,5 @@
 use Rattle.std.proofs.Common.{◌+◌, ◌<◌, ◌^◌, not, Bool, ap, ◌∙◌, rules, arith}
-use Rattle.store_model.specs.Cells.{Pointer, counted}
+use Rattle.cell_model.specs.Cells.{Pointer, counted}
 use Rattle.strength_counts.specs.Held.{held_cell, held_pointer, held_target}
 use Rattle.strength_counts.proofs.Edits.{relink-live, relink-counted, loses-live, loses-other, counted-not}
 use Rattle.strength_counts.proofs.cells.Cells.turn.Goals as goal

@@ -1,5 +1,0 @@
-use Rattle.store_model.proofs.self_pointers_stay_weak.Goals as goal
-use Rattle.store_model.proofs.SelfPointers.{self-pointer}
-
-pub returns : goal.returns
-returns c = self-pointer
