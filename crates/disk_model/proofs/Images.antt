@@ -19,12 +19,12 @@ pub keeps_all : (s t : DiskState) → t.held ≡ s.held → KeepsAll content_of 
 keeps_all s t e area = record { same = ap (λ h. Some (reads h area)) e; no_more = λ c h. let P : Held → Type 0 = λ k. MayLeaveIn k area c in subst P e h }
 
 -- ---- a write and a cut, whole or in part
-front_length : (at : ℕ) (bytes old : List ℕ) → at ≤ length old → length (take at old ++ replicate (at - length old) 0 ++ bytes) ≡ at + length bytes
+pub front_length : (at : ℕ) (bytes old : List ℕ) → at ≤ length old → length (take at old ++ replicate (at - length old) 0 ++ bytes) ≡ at + length bytes
 front_length at bytes old h =
     length-append (take at old ++ replicate (at - length old) 0) bytes
     ∙ omega (arith, length-append (take at old) (replicate (at - length old) 0), length-take at old, length-replicate {A = ℕ} (at - length old) 0)
 
-written_length : (at : ℕ) (bytes old : List ℕ) → length (written at bytes old) ≡ max (length old) (at + length bytes)
+pub written_length : (at : ℕ) (bytes old : List ℕ) → length (written at bytes old) ≡ max (length old) (at + length bytes)
 written_length at bytes old =
     length-append (take at old ++ replicate (at - length old) 0 ++ bytes) (drop (at + length bytes) old)
     ∙ omega (
@@ -135,7 +135,7 @@ cut_left h area len c m =
     change_left (PartlyCut len) h area (CutTo len) (cut_not len) (cut_whole len (reads h area)) (λ torn c' t e. absurd t) c m
 
 -- ---- the other areas
-apart_false : (a c : Area) → a ≢ c → is_same a c ≡ false
+pub apart_false : (a c : Area) → a ≢ c → is_same a c ≡ false
 apart_false a c ne = by (is_same a c) refl where
   by : (t : Bool) → is_same a c ≡ t → is_same a c ≡ false
   by true e = absurd (ne (same_is a c e))
@@ -305,7 +305,7 @@ change_keeps s t area change e other ne =
 pub sync_lasts : (s t : DiskState) (area : Area) → t.held ≡ after_sync s.held area → IsSettled content_of left_of t area
 sync_lasts s t area e c m =
     let P : Held → Type 0 = λ h. MayLeaveIn h area c in
-    sync_left s.held area c (subst P e m) ∙ sym (ap (λ h. reads h area) e ∙ sync_reads s.held area area)
+    ap (λ h. Some (reads h area)) e ∙ ap (λ x. Some x) (sync_reads s.held area area ∙ sym (sync_left s.held area c (subst P e m)))
 
 pub sync_keeps : (s t : DiskState) (area : Area) → t.held ≡ after_sync s.held area → KeepsAll content_of left_of s t
 sync_keeps s t area e other =

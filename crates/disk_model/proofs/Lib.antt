@@ -4,3 +4,9 @@ pub mod Steps
 pub mod Left
 pub mod Images
 pub mod Causes
+pub mod Time
+pub mod Torn
+pub mod Joint
+pub mod Moments
+pub mod CrashImages
+pub mod PlainDisk

@@ -4,5 +4,9 @@ pub mod Changes
 pub mod Pending
 pub mod Seen
 pub mod Told
+pub mod Time
 pub mod Memory
+pub mod CrashImages
+pub mod PlainDisk
+pub mod PlainLaws
 pub mod Stays

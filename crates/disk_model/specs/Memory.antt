@@ -1,8 +1,10 @@
 -- A disk in memory.
-use Rattle.std.specs.Prelude.{◌≡◌, ◌⊎◌, ℕ, ◌<◌, List, [], Contains, Option, Some, None}
+use Rattle.std.specs.Prelude.{◌≡◌, ◌⊎◌, ℕ, ◌<◌, ◌≤◌, List, length, take, [], Contains, Option, Some, None}
 use Rattle.disk_model.specs.Causes.{raised}
 use Rattle.disk_model.specs.declared.area.Area.{Area}
-use Rattle.disk_model.specs.Pending.{Held, reads, MayLeaveIn}
+use Rattle.disk_model.specs.Areas.{Bytes}
+use Rattle.disk_model.specs.Pending.{Held, reads, MayLeaveIn, held_after}
+use Rattle.disk_model.specs.Told.{IsImage}
 
 -- the calls that were made, and those that fail
 pub record CallsState : Type 0 where
@@ -34,7 +36,7 @@ after_call s = record s { made = raised s.made }
 abbrev pub after_failure : CallsState → CallsState
 after_failure s = record s { faults = raised s.faults }
 
--- after a failure for want of memory
+-- after a failure out of memory
 abbrev pub after_starving : CallsState → CallsState
 after_starving s = record s { faults = raised s.faults; starved = raised s.starved }
 
@@ -54,6 +56,16 @@ content_of s area = Some (reads s.held area)
 -- a power loss may leave these bytes in an area of the disk
 abbrev pub left_of : DiskState → Area → List ℕ → Type 0
 left_of s area bytes = MayLeaveIn s.held area bytes
+
+-- the number of a moment: how much was done so far
+abbrev pub moment_of : DiskState → ℕ
+moment_of s = length s.held.past
+
+-- a power loss may leave these bytes now, or might have at an earlier moment from that one on
+abbrev pub since_of : DiskState → ℕ → Bytes → Type 0
+since_of s t b =
+    IsImage left_of s b
+    ⊎ ((k : ℕ) × (t ≤ k) × (k < length s.held.past) × IsImage MayLeaveIn (held_after s.held.first (take k s.held.past)) b)
 
 -- after a call that changes nothing
 abbrev pub after_look : DiskState → DiskState

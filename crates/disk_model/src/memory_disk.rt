@@ -4,7 +4,8 @@ ghost use Rattle.disk_model.specs.Causes.{HasCause};
 ghost use Rattle.disk_model.specs.Changes.{written, Torn, PartlyCut};
 ghost use Rattle.disk_model.specs.Told.{KeepsAll, KeepsOthers, Follows, IsSettled, Steps, LeavesOne};
 ghost use Rattle.disk_model.specs.Pending.{Wrote, CutTo, reads, settled, after_change, after_sync, after_power_loss};
-ghost use Rattle.disk_model.specs.Memory.{content_of, left_of, FailsNext, HasFailed, after_look, after_fault, after_success, after_starving, after_revival};
+ghost use Rattle.disk_model.specs.Time.{Elapses};
+ghost use Rattle.disk_model.specs.Memory.{content_of, left_of, moment_of, since_of, FailsNext, HasFailed, after_look, after_fault, after_success, after_starving, after_revival};
 
 use crate::area::Area;
 use crate::calls::Calls;
@@ -36,7 +37,8 @@ impl Model for MemoryDisk {
 }
 
 impl MemoryDisk {
-    /// Four empty areas. No call fails but for want of memory. It takes no memory.
+    /// Four empty areas. A call fails only where it is out of memory. It takes no memory
+    /// itself.
     pub fn new(alloc: Global) -> MemoryDisk
         ensures { result ≡ record {
           held = settled (record { pages = []; log_a = []; log_b = []; super_area = [] });
@@ -95,7 +97,7 @@ impl MemoryDisk {
 }
 
 impl Disk for MemoryDisk {
-    ghost use Rattle.disk_model.specs.Stays.{reads_stay};
+    ghost use Rattle.disk_model.specs.Stays.{reads_stay, counts, only};
 
     ghost content = { content_of };
 
@@ -105,11 +107,20 @@ impl Disk for MemoryDisk {
 
     ghost reads_may_stay = { reads_stay };
 
+    ghost moment = { moment_of };
+
+    ghost left_since = { since_of };
+
+    ghost counts_now = { counts };
+
+    ghost only_now = { only };
+
     /// How many bytes the area has, or fails where this call is on the list or past the stop.
     fn len(&mut self, area: Area) -> Result<u64, DiskFailed>
         ensures len { IfOk result (λ n. IfSome (content_of self.old area) (λ c. n ≡ length c)) }
         ensures keeps { KeepsAll content_of left_of self.old self.new }
         ensures cause { HasCause self.old.calls.faults self.new.calls.faults result }
+        ensures time { Elapses left_of moment_of since_of self.old self.new }
 
         // Which calls fail, and that nothing but the counts changes.
         ensures fails { IsErr result ↔ FailsNext self.old.calls }
@@ -125,6 +136,7 @@ impl Disk for MemoryDisk {
         ensures bytes { OnOk result (IfSome (content_of self.old area) (λ c. into.new ≡ take (length into.old) (drop at c))) }
         ensures keeps { KeepsAll content_of left_of self.old self.new }
         ensures cause { HasCause self.old.calls.faults self.new.calls.faults result }
+        ensures time { Elapses left_of moment_of since_of self.old self.new }
 
         // Which calls fail, and that nothing but the counts changes.
         ensures fails { IsErr result ↔ FailsNext self.old.calls }
@@ -145,6 +157,7 @@ impl Disk for MemoryDisk {
         ensures left { Follows content_of left_of (Torn at (length bytes.now)) self.old self.new area }
         ensures keeps { KeepsOthers content_of left_of self.old self.new area }
         ensures cause { HasCause self.old.calls.faults self.new.calls.faults result }
+        ensures time { Elapses left_of moment_of since_of self.old self.new }
 
         // What a write does, and which fail.
         ensures after { OnOk result (self.new ≡ after_success self.old (after_change self.old.held area (Wrote at bytes.now))) }
@@ -166,6 +179,7 @@ impl Disk for MemoryDisk {
         ensures left { Follows content_of left_of (PartlyCut len) self.old self.new area }
         ensures keeps { KeepsOthers content_of left_of self.old self.new area }
         ensures cause { HasCause self.old.calls.faults self.new.calls.faults result }
+        ensures time { Elapses left_of moment_of since_of self.old self.new }
 
         // What a cut does, and which fail.
         ensures after { OnOk result (self.new ≡ after_success self.old (after_change self.old.held area (CutTo len))) }
@@ -185,6 +199,7 @@ impl Disk for MemoryDisk {
         ensures lasts { OnOk result (IsSettled content_of left_of self.new area) }
         ensures keeps { KeepsAll content_of left_of self.old self.new }
         ensures cause { HasCause self.old.calls.faults self.new.calls.faults result }
+        ensures time { Elapses left_of moment_of since_of self.old self.new }
 
         // What a sync does, and which fail.
         ensures after { OnOk result (self.new ≡ after_success self.old (after_sync self.old.held area)) }
@@ -204,7 +219,7 @@ impl Disk for MemoryDisk {
     /// bytes, rounded down, and k modulo 256 in the place of the others, and a cut isn't done. A write
     /// that then begins past the end of its area fills the gap with zero bytes.
     ///
-    /// It fails only for want of memory. It isn't counted among the calls.
+    /// It fails only where it is out of memory. It isn't counted among the calls.
     fn lose_power(&mut self, pick: u32) -> Result<(), DiskFailed>
         ensures leaves { OnOk result (LeavesOne content_of left_of self.old self.new) }
         ensures keeps { OnErr result (KeepsAll content_of left_of self.old self.new) }

@@ -1,6 +1,6 @@
 -- A sink in memory.
 use Rattle.std.specs.Prelude.{ℕ, List, ◌++◌, Contains}
-use Rattle.outside_io.specs.Causes.{raised}
+use Rattle.disk_model.specs.Causes.{raised}
 
 -- what contracts see of it
 pub record SinkState : Type 0 where

@@ -1,6 +1,6 @@
 -- A source in memory.
 use Rattle.std.specs.Prelude.{ℕ, List, drop, Contains}
-use Rattle.outside_io.specs.Causes.{raised}
+use Rattle.disk_model.specs.Causes.{raised}
 
 -- what contracts see of it
 pub record SourceState : Type 0 where

@@ -2,7 +2,7 @@
 ghost use Rattle.std.specs.Prelude.{◌≡◌, ◌<◌, ◌⊎◌, ℕ, [], length, Some, IsErr, IfOk, OnOk, OnErr};
 ghost use Rattle.std.specs.Io.{WritesAtMost};
 ghost use Rattle.std.specs.Io.KnownBytes.{WriteAppends};
-ghost use Rattle.outside_io.specs.Causes.{HasCause};
+ghost use Rattle.disk_model.specs.Causes.{HasCause};
 ghost use Rattle.outside_io.specs.MemorySink.{FailsNext, after_fault, after_starving, after_piece};
 
 use crate::sink::{Sink, WriteFailed};

@@ -2,7 +2,7 @@
 ghost use Rattle.std.specs.Prelude.{◌≡◌, ◌↔◌, ℕ, length, min, take, drop, ◌++◌, Some, IsErr, IfOk, OnErr};
 ghost use Rattle.std.specs.Io.{ReadsAtMost};
 ghost use Rattle.std.specs.Io.KnownBytes.{ReadConsumes};
-ghost use Rattle.outside_io.specs.Causes.{HasCause};
+ghost use Rattle.disk_model.specs.Causes.{HasCause};
 ghost use Rattle.outside_io.specs.MemorySource.{FailsNext, after_fault, after_bytes};
 
 use crate::source::{ReadFailed, Source};

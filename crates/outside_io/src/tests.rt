@@ -5,114 +5,38 @@ use std::io;
 use std::io::{Error, ErrorKind, Read, Write};
 use std::test::Fail;
 
-/// A source that gives these bytes and fails the reads of these numbers.
-fn source_of(alloc: Global, bytes: &[u8], fails: &[u64]) -> Result<MemorySource, AllocError> {
-    let bytes = Vec::from_slice(alloc, bytes)?;
-    Ok(MemorySource::new(bytes, Vec::from_slice(alloc, fails)?))
-}
-
-/// A sink that fails the writes of these numbers.
-fn sink_of(alloc: Global, fails: &[u64]) -> Result<MemorySink, AllocError> {
-    Ok(MemorySink::new(alloc, Vec::from_slice(alloc, fails)?))
-}
-
-/// Why a copy ended before the end of its source.
-#[derive(Clone, Copy, Debug, PartialEq, Eq)]
-enum CopyError {
-    Read,
-    Write,
-    TooLong,
-}
-
-impl From<ReadFailed> for CopyError {
-    fn from(_: ReadFailed) -> CopyError {
-        CopyError::Read
-    }
-}
-
-impl From<WriteFailed> for CopyError {
-    fn from(_: WriteFailed) -> CopyError {
-        CopyError::Write
-    }
-}
-
-/// Copies a source of up to 300 bytes, three at a time, and tells how many there were.
-fn copy<R: Source, W: Sink>(source: &mut R, sink: &mut W) -> Result<usize, CopyError> {
+/// Copies a source of up to 300 bytes, three at a time. Nothing where a call failed.
+fn copy<R: Source, W: Sink>(source: &mut R, sink: &mut W) -> Option<usize> {
     let mut total = 0usize;
     for _ in 0..101 {
         let mut buffer = [0; 3];
-        let count = source.read(&mut buffer)?;
+        let count = source.read(&mut buffer).ok()?;
         if count == 0 {
-            return Ok(total);
+            return Some(total);
         }
-        sink.write(&buffer[..count])?;
+        sink.write(&buffer[..count]).ok()?;
         total = total.saturating_add(count);
     }
-    Err(CopyError::TooLong)
+    None
+}
+
+/// Copies a line in memory, failing these reads and writes, and tells what the sink then has.
+fn copied(alloc: Global, reads: &[u64], writes: &[u64]) -> Result<Vec<u8>, AllocError> {
+    let bytes = Vec::from_slice(alloc, b"1 begin\n")?;
+    let mut source = MemorySource::new(bytes, Vec::from_slice(alloc, reads)?);
+    let mut sink = MemorySink::new(alloc, Vec::from_slice(alloc, writes)?);
+    let _ = copy(&mut source, &mut sink);
+    Vec::from_slice(alloc, sink.bytes())
 }
 
 #[test]
-fn a_source_fails_at_its_second_read(rt: HostRuntime) -> Result<(), Fail> {
-    let mut source = source_of(rt.alloc(), b"1 begin\n", &[2])?;
-    let mut buffer = [0; 16];
-    assert_eq!(rt; source.read(&mut buffer), Ok(8));
-    assert_eq!(rt; &buffer[..8], b"1 begin\n".as_slice());
-    assert_eq!(rt; source.read(&mut buffer), Err(ReadFailed));
-    assert_eq!(rt; source.faults(), 1);
-    assert_eq!(rt; source.read(&mut buffer), Ok(0), "the end");
-    Ok(())
-}
-
-#[test]
-fn a_failed_read_takes_nothing(rt: HostRuntime) -> Result<(), Fail> {
-    let mut source = source_of(rt.alloc(), b"abcdefgh", &[1, 4])?;
-    let mut buffer = [0; 3];
-    assert_eq!(rt; source.read(&mut buffer), Err(ReadFailed));
-    assert_eq!(rt; source.read(&mut buffer), Ok(3));
-    assert_eq!(rt; buffer.as_slice(), b"abc".as_slice());
-    assert_eq!(rt; source.read(&mut []), Ok(0), "no room");
-    assert_eq!(rt; source.read(&mut buffer), Err(ReadFailed));
-    assert_eq!(rt; source.read(&mut buffer), Ok(3));
-    assert_eq!(rt; buffer.as_slice(), b"def".as_slice());
-    assert_eq!(rt; source.read(&mut buffer), Ok(2));
-    assert_eq!(rt; buffer.as_slice(), b"ghf".as_slice());
-    assert_eq!(rt; source.faults(), 2);
-    Ok(())
-}
-
-#[test]
-fn a_sink_keeps_what_came_before_a_failure(rt: HostRuntime) -> Result<(), Fail> {
-    let mut sink = sink_of(rt.alloc(), &[2])?;
-    assert_eq!(rt; sink.write(b"1 begin: ok\n"), Ok(12));
-    assert_eq!(rt; sink.write(b"1 make: 2\n"), Err(WriteFailed));
-    assert_eq!(rt; sink.bytes(), b"1 begin: ok\n".as_slice());
-    assert_eq!(rt; sink.write(b""), Ok(0));
-    assert_eq!(rt; sink.write(b"1 commit: ok\n"), Ok(13));
-    assert_eq!(rt; sink.bytes(), b"1 begin: ok\n1 commit: ok\n".as_slice());
-    assert_eq!(rt; (sink.faults(), sink.starved()), (1, 0));
-    Ok(())
-}
-
-#[test]
-fn a_sink_out_of_memory_is_starved(rt: HostRuntime) {
-    let mut sink = MemorySink::new(rt.alloc(), Vec::new(rt.alloc()));
-    let starved = u64::from(sink.write(b"a piece").is_err());
-    assert_eq!(rt; (sink.faults(), sink.starved()), (starved, starved));
-}
-
-#[test]
-fn copies_in_memory(rt: HostRuntime) -> Result<(), Fail> {
-    let mut sink = sink_of(rt.alloc(), &[])?;
-    let mut source = source_of(rt.alloc(), b"1 begin\n", &[])?;
-    assert_eq!(rt; copy(&mut source, &mut sink), Ok(8));
-    assert_eq!(rt; sink.bytes(), b"1 begin\n".as_slice());
-    let mut source = source_of(rt.alloc(), b"1 begin\n", &[3])?;
-    assert_eq!(rt; copy(&mut source, &mut sink), Err(CopyError::Read));
-    assert_eq!(rt; sink.bytes(), b"1 begin\n1 begi".as_slice());
-    let mut source = source_of(rt.alloc(), b"1 begin\n", &[])?;
-    let mut sink = sink_of(rt.alloc(), &[2])?;
-    assert_eq!(rt; copy(&mut source, &mut sink), Err(CopyError::Write));
-    assert_eq!(rt; sink.bytes(), b"1 b".as_slice());
+fn copies_in_memory_up_to_a_failure(rt: HostRuntime) -> Result<(), Fail> {
+    let all = copied(rt.alloc(), &[], &[])?;
+    assert_eq!(rt; all.as_slice(), b"1 begin\n".as_slice());
+    let read = copied(rt.alloc(), &[3], &[])?;
+    assert_eq!(rt; read.as_slice(), b"1 begi".as_slice());
+    let wrote = copied(rt.alloc(), &[], &[2])?;
+    assert_eq!(rt; wrote.as_slice(), b"1 b".as_slice());
     Ok(())
 }
 
@@ -121,17 +45,18 @@ fn copies_by_streams_of_std(rt: HostRuntime) -> Result<(), Fail> {
     let mut bytes = Vec::new(rt.alloc());
     let mut source = StdSource::new(b"1 begin\n".as_slice());
     let mut sink = StdSink::new(&mut bytes);
-    assert_eq!(rt; copy(&mut source, &mut sink), Ok(8));
+    assert_eq!(rt; copy(&mut source, &mut sink), Some(8));
     assert_eq!(rt; bytes.as_slice(), b"1 begin\n".as_slice());
     Ok(())
 }
 
-/// A stream whose first calls, so many, end with an error of this kind.
+/// A stream of std that counts its calls. The first ones, so many, end with an error of this kind.
 #[derive(Drop)]
 struct Faulty<S> {
     inner: S,
     errors: u32,
     kind: ErrorKind,
+    calls: u32,
 }
 
 impl<S> Faulty<S> {
@@ -140,29 +65,30 @@ impl<S> Faulty<S> {
             inner,
             errors,
             kind,
+            calls: 0,
         }
     }
 
-    /// The error of this call, where it has one.
-    fn fault(&mut self) -> io::Result<()> {
-        if self.errors == 0 {
+    /// One call more, and its error where it has one.
+    fn count(&mut self) -> io::Result<()> {
+        self.calls = self.calls.saturating_add(1);
+        if self.errors < self.calls {
             return Ok(());
         }
-        self.errors -= 1;
         Err(Error::from(self.kind))
     }
 }
 
 impl<R: Read> Read for Faulty<R> {
     fn read(&mut self, into: &mut [u8]) -> io::Result<usize> {
-        self.fault()?;
+        self.count()?;
         self.inner.read(into)
     }
 }
 
 impl<W: Write> Write for Faulty<W> {
     fn write(&mut self, piece: &[u8]) -> io::Result<usize> {
-        self.fault()?;
+        self.count()?;
         self.inner.write(piece)
     }
 
@@ -171,46 +97,85 @@ impl<W: Write> Write for Faulty<W> {
     }
 }
 
-#[test]
-fn a_signal_is_no_failure(rt: HostRuntime) -> Result<(), Fail> {
-    let mut bytes = Vec::new(rt.alloc());
-    let reader = Faulty::new(b"1 begin\n".as_slice(), 3, ErrorKind::Interrupted);
-    let mut source = StdSource::new(reader);
-    let mut sink = StdSink::new(Faulty::new(&mut bytes, 3, ErrorKind::Interrupted));
-    assert_eq!(rt; copy(&mut source, &mut sink), Ok(8));
-    assert_eq!(rt; (source.faults(), sink.faults()), (0, 0));
-    assert_eq!(rt; bytes.as_slice(), b"1 begin\n".as_slice());
-    Ok(())
+/// A call through an adapter: its answer, how often it called the stream under it, how many faults it
+/// counted, and what then stands in four bytes that it read into or that the stream wrote into.
+type Call<E> = (Result<usize, E>, u32, u64, [u8; 4]);
+
+/// Reads four bytes from a reader of eight, whose first reads fail so.
+fn read_through(errors: u32, kind: ErrorKind) -> Call<ReadFailed> {
+    let mut reader = Faulty::new(b"1 begin\n".as_slice(), errors, kind);
+    let mut source = StdSource::new(&mut reader);
+    let mut into = [0; 4];
+    let answer = source.read(&mut into);
+    let faults = source.faults();
+    (answer, reader.calls, faults, into)
+}
+
+/// Writes the piece to a writer with room for four bytes, whose first writes fail so.
+fn write_through(errors: u32, kind: ErrorKind, piece: &[u8]) -> Call<WriteFailed> {
+    let mut room = [0; 4];
+    let mut writer = Faulty::new(room.as_mut_slice(), errors, kind);
+    let mut sink = StdSink::new(&mut writer);
+    let answer = sink.write(piece);
+    let faults = sink.faults();
+    let calls = writer.calls;
+    (answer, calls, faults, room)
 }
 
 #[test]
-fn signals_without_end_are_a_failure(rt: HostRuntime) {
-    let reader = Faulty::new(b"1 begin\n".as_slice(), u32::MAX, ErrorKind::Interrupted);
-    assert_eq!(rt; StdSource::new(reader).read(&mut [0; 8]), Err(ReadFailed));
-    let mut room = [0; 8];
-    let writer = Faulty::new(room.as_mut_slice(), u32::MAX, ErrorKind::Interrupted);
-    assert_eq!(rt; StdSink::new(writer).write(b"1 begin\n"), Err(WriteFailed));
+fn a_read_is_the_readers_own(rt: HostRuntime) {
+    for (errors, kind, want) in [
+        (0, ErrorKind::Other, (Ok(4), 1, 0, *b"1 be")),
+        (3, ErrorKind::Interrupted, (Ok(4), 4, 0, *b"1 be")),
+        (1, ErrorKind::WouldBlock, (Err(ReadFailed), 1, 1, [0; 4])),
+        (
+            u32::MAX,
+            ErrorKind::Interrupted,
+            (Err(ReadFailed), 100_000, 1, [0; 4]),
+        ),
+    ] {
+        assert_eq!(rt; read_through(errors, kind), want);
+    }
 }
 
 #[test]
-fn an_error_is_a_failure(rt: HostRuntime) {
-    let mut buffer = [0; 4];
-    let reader = Faulty::new(b"1 begin\n".as_slice(), 1, ErrorKind::Other);
-    let mut source = StdSource::new(reader);
-    assert_eq!(rt; source.read(&mut buffer), Err(ReadFailed));
-    assert_eq!(rt; source.read(&mut buffer), Ok(4));
-    assert_eq!(rt; buffer.as_slice(), b"1 be".as_slice());
-    assert_eq!(rt; source.faults(), 1);
+fn a_write_is_the_writers_own(rt: HostRuntime) {
+    for (errors, kind, piece, want) in [
+        (
+            0,
+            ErrorKind::Other,
+            b"abc".as_slice(),
+            (Ok(3), 1, 0, *b"abc\0"),
+        ),
+        (
+            3,
+            ErrorKind::Interrupted,
+            b"abcdef".as_slice(),
+            (Ok(4), 4, 0, *b"abcd"),
+        ),
+        (
+            1,
+            ErrorKind::WouldBlock,
+            b"abc".as_slice(),
+            (Err(WriteFailed), 1, 1, [0; 4]),
+        ),
+        (
+            u32::MAX,
+            ErrorKind::Interrupted,
+            b"abc".as_slice(),
+            (Err(WriteFailed), 100_000, 1, [0; 4]),
+        ),
+        (0, ErrorKind::Other, b"".as_slice(), (Ok(0), 0, 0, [0; 4])),
+    ] {
+        assert_eq!(rt; write_through(errors, kind, piece), want);
+    }
 }
 
 #[test]
 fn a_full_writer_is_a_failure(rt: HostRuntime) {
-    let mut room = [0; 6];
-    let mut sink = StdSink::new(Faulty::new(room.as_mut_slice(), 1, ErrorKind::Other));
-    assert_eq!(rt; sink.write(b"abcd"), Err(WriteFailed));
-    assert_eq!(rt; sink.write(b"abcd"), Ok(4));
-    assert_eq!(rt; sink.write(b"efgh"), Ok(2), "a part of the piece");
-    assert_eq!(rt; sink.write(b"gh"), Err(WriteFailed), "no room");
-    assert_eq!(rt; sink.write(b""), Ok(0), "nothing to write");
-    assert_eq!(rt; sink.faults(), 2);
+    let mut room = [0; 2];
+    let mut sink = StdSink::new(room.as_mut_slice());
+    assert_eq!(rt; sink.write(b"abcd"), Ok(2), "a part of the piece");
+    assert_eq!(rt; sink.write(b"cd"), Err(WriteFailed), "no room");
+    assert_eq!(rt; sink.faults(), 1);
 }
