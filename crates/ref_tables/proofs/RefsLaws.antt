@@ -25,18 +25,18 @@ read-option None = refl
 read-option (Some list) = refl
 
 -- the entries that contracts see are those of the lists
-pub entries-seen : (lists : Lists) (room p : ℕ) → entries_of (record { clients = seen lists; room = room }) p ≡ list_of lists p
-entries-seen lists room p = ap (λ o. unwrap_or o []) (lookup-map_values (λ list. list.items) (is_at (nat_cmp p)) lists) ∙ read-option (lookup (is_at (nat_cmp p)) lists)
+pub entries-seen : (lists : Lists) (room_for room p : ℕ) → entries_of (record { clients = seen lists; room_for = room_for; room = room }) p ≡ list_of lists p
+entries-seen lists room_for room p = ap (λ o. unwrap_or o []) (lookup-map_values (λ list. list.items) (is_at (nat_cmp p)) lists) ∙ read-option (lookup (is_at (nat_cmp p)) lists)
 
 -- and so are those after a change
-pub seen-same : (old new : Lists) (r s : ℕ) → AreSame old new → (p : ℕ) → entries_of (record { clients = seen new; room = s }) p ≡ entries_of (record { clients = seen old; room = r }) p
-seen-same old new r s same p = entries-seen new s p ∙ same p ∙ sym (entries-seen old r p)
+pub seen-same : (old new : Lists) (f r g s : ℕ) → AreSame old new → (p : ℕ) → entries_of (record { clients = seen new; room_for = g; room = s }) p ≡ entries_of (record { clients = seen old; room_for = f; room = r }) p
+seen-same old new f r g s same p = entries-seen new g s p ∙ same p ∙ sym (entries-seen old f r p)
 
-pub seen-adds : (old same new : Lists) (r s pass : ℕ) (entry : TempRef) → AreSame old same → AddsEntry same new pass entry → (p : ℕ) → entries_of (record { clients = seen new; room = s }) p ≡ cond (p == pass) (entries_of (record { clients = seen old; room = r }) p ++ entry ∷ []) (entries_of (record { clients = seen old; room = r }) p)
-seen-adds old same new r s pass entry kept adds p = entries-seen new s p ∙ adds p ∙ ap (λ xs. cond (p == pass) (xs ++ entry ∷ []) xs) (kept p ∙ sym (entries-seen old r p))
+pub seen-adds : (old same new : Lists) (f r s pass : ℕ) (entry : TempRef) → AreSame old same → AddsEntry same new pass entry → (p : ℕ) → entries_of (record { clients = seen new; room_for = f; room = s }) p ≡ cond (p == pass) (entries_of (record { clients = seen old; room_for = f; room = r }) p ++ entry ∷ []) (entries_of (record { clients = seen old; room_for = f; room = r }) p)
+seen-adds old same new f r s pass entry kept adds p = entries-seen new f s p ∙ adds p ∙ ap (λ xs. cond (p == pass) (xs ++ entry ∷ []) xs) (kept p ∙ sym (entries-seen old f r p))
 
-pub seen-ends : (old new : Lists) (r s pass : ℕ) → EndsClient old new pass → (p : ℕ) → entries_of (record { clients = seen new; room = s }) p ≡ cond (p == pass) [] (entries_of (record { clients = seen old; room = r }) p)
-seen-ends old new r s pass ends p = entries-seen new s p ∙ ends p ∙ ap (λ xs. cond (p == pass) [] xs) (sym (entries-seen old r p))
+pub seen-ends : (old new : Lists) (f r pass : ℕ) → EndsClient old new pass → (p : ℕ) → entries_of (record { clients = seen new; room_for = f; room = r }) p ≡ cond (p == pass) [] (entries_of (record { clients = seen old; room_for = f; room = r }) p)
+seen-ends old new f r pass ends p = entries-seen new f r p ∙ ends p ∙ ap (λ xs. cond (p == pass) [] xs) (sym (entries-seen old f r p))
 
 -- a fact that holds anyway holds where there is an error
 pub on_err : {T E P : Type 0} (r : Result T E) → P → OnErr r P
@@ -115,8 +115,8 @@ short-option : (o : Option (Vec TempRef)) → length (option_map_or (λ list. li
 short-option None = omega arith
 short-option (Some list) = omega (arith, list.small, list.ok)
 
-pub count-small : {S : Type 0} (lists : Lists) (counts : IndexMap ℕ ℕ S) (room target : ℕ) → IsSound lists counts room → count_of counts target + 1 < 2 ^ 128
-count-small lists counts room target sound =
+pub count-small : {S : Type 0} (lists : Lists) (counts : IndexMap ℕ ℕ S) (room_for room target : ℕ) → IsSound lists counts room_for room → count_of counts target + 1 < 2 ^ 128
+count-small lists counts room_for room target sound =
     let short : (p : ℕ) → count_in target (list_of lists p) ≤ 2 ^ 64 = λ p. let s = short-option (lookup (is_at (nat_cmp p)) lists) in let c = count_by-le-length (λ entry. entry.target == target) (list_of lists p) in omega (arith, s, c) in
     let all = sum_below-le 256 (2 ^ 64) (λ p. count_in target (list_of lists p)) short in
     omega (arith, all, sound.counted target)
@@ -124,35 +124,35 @@ count-small lists counts room target sound =
 -- ---- what the calls keep
 
 -- a new table has nothing
-pub IsSound-new : {S : Type 0} (lists : Lists) (counts : IndexMap ℕ ℕ S) → lists ≡ [] → counts.entries ≡ [] → IsSound lists counts 0
+pub IsSound-new : {S : Type 0} (lists : Lists) (counts : IndexMap ℕ ℕ S) → lists ≡ [] → counts.entries ≡ [] → IsSound lists counts 0 0
 IsSound-new lists counts no_lists no_counts = record {
   counted = λ t. ap (λ entries. unwrap_or (lookup (nat_eq t) entries) 0) no_counts ∙ sym (sum_below-zero 256 (λ p. count_in t (list_of lists p)) (λ p. ap (λ ls. count_in t (list_of ls p)) no_lists));
   clients = λ p beyond. ap (λ ls. list_of ls p) no_lists;
-  room_of_each = λ some p within. absurd (omega (arith, some));
+  room_of_list = λ some. absurd (omega (arith, some));
   room_of_counts = omega arith;
 }
 
 -- the entries and their counts stay, and so does room
-pub IsSound-same : {S : Type 0} (old new : Lists) (counts kept : IndexMap ℕ ℕ S) (room : ℕ) → AreSame old new → KeepsRoom old new → ((t : ℕ) → count_of kept t ≡ count_of counts t) → room ≤ spare kept → IsSound old counts room → IsSound new kept room
-IsSound-same old new counts kept room same keeps counted left sound = record {
+pub IsSound-same : {S : Type 0} (old new : Lists) (counts kept : IndexMap ℕ ℕ S) (room_for room : ℕ) → AreSame old new → KeepsRoom old new → ((t : ℕ) → count_of kept t ≡ count_of counts t) → room ≤ spare kept → IsSound old counts room_for room → IsSound new kept room_for room
+IsSound-same old new counts kept room_for room same keeps counted left sound = record {
   counted = λ t. counted t ∙ sound.counted t ∙ sym (sum_below-same 256 (λ p. count_in t (list_of old p)) (λ p. count_in t (list_of new p)) (λ p. ap (count_in t) (same p)));
   clients = λ p beyond. same p ∙ sound.clients p beyond;
-  room_of_each = λ some p within. keeps p room (sound.room_of_each some p within);
+  room_of_list = λ some. keeps room_for room (sound.room_of_list some);
   room_of_counts = left;
 }
 
--- with more room
-pub IsSound-more : {S : Type 0} (old new : Lists) (counts : IndexMap ℕ ℕ S) (room more : ℕ) → ((p : ℕ) → p < 256 → HasRoom new p more) → more ≤ spare counts → IsSound new counts room → IsSound new counts more
-IsSound-more old new counts room more each left sound = record {
+-- with room for another client
+pub IsSound-room : {S : Type 0} (lists : Lists) (counts : IndexMap ℕ ℕ S) (room_for room pass more : ℕ) → HasRoom lists pass more → more ≤ spare counts → IsSound lists counts room_for room → IsSound lists counts pass more
+IsSound-room lists counts room_for room pass more has left sound = record {
   counted = sound.counted;
   clients = sound.clients;
-  room_of_each = λ some p within. each p within;
+  room_of_list = λ some. has;
   room_of_counts = left;
 }
 
 -- one entry more
-pub IsSound-add : {S : Type 0} (old new : Lists) (counts added : IndexMap ℕ ℕ S) (room left pass : ℕ) (entry : TempRef) → pass < 256 → AddsEntry old new pass entry → ((p n : ℕ) → HasRoom old p (n + 1) → HasRoom new p n) → ((t : ℕ) → count_of added t ≡ count_of counts t + cond (t == entry.target) 1 0) → spare counts ≤ spare added + 1 → left ≡ room - 1 → IsSound old counts room → IsSound new added left
-IsSound-add old new counts added room left pass entry within adds uses counted spares less sound =
+pub IsSound-add : {S : Type 0} (old new : Lists) (counts added : IndexMap ℕ ℕ S) (room_for room left pass : ℕ) (entry : TempRef) → pass < 256 → AddsEntry old new pass entry → ((p n : ℕ) → HasRoom old p (n + 1) → HasRoom new p n) → ((t : ℕ) → count_of added t ≡ count_of counts t + cond (t == entry.target) 1 0) → spare counts ≤ spare added + 1 → left ≡ room - 1 → IsSound old counts room_for room → IsSound new added room_for left
+IsSound-add old new counts added room_for room left pass entry within adds uses counted spares less sound =
     let apart : (p : ℕ) → p ≢ pass → list_of new p ≡ list_of old p = λ p other. adds p ∙ grind (arith, nat_tests, other) in
     let here : list_of new pass ≡ list_of old pass ++ entry ∷ [] = adds pass ∙ grind (arith, nat_tests) in
     record {
@@ -163,13 +163,13 @@ IsSound-add old new counts added room left pass entry within adds uses counted s
           let now = counted t in
           omega (arith, change, more, was, now);
       clients = λ p beyond. apart p (omega (arith, beyond, within)) ∙ sound.clients p beyond;
-      room_of_each = λ some p below. uses p left (subst (λ n. HasRoom old p n) (omega (arith, some, less)) (sound.room_of_each (omega (arith, some, less)) p below));
+      room_of_list = λ some. uses room_for left (subst (λ n. HasRoom old room_for n) (omega (arith, some, less)) (sound.room_of_list (omega (arith, some, less))));
       room_of_counts = omega (arith, spares, less, sound.room_of_counts);
     }
 
 -- the client's entries go
-pub IsSound-end : {S : Type 0} (old new : Lists) (counts left : IndexMap ℕ ℕ S) (room pass : ℕ) → pass < 256 → EndsClient old new pass → KeepsRoom old new → ((t : ℕ) → count_of left t + count_in t (list_of old pass) ≡ count_of counts t) → spare counts ≤ spare left → IsSound old counts room → IsSound new left room
-IsSound-end old new counts left room pass within ends keeps counted spares sound =
+pub IsSound-end : {S : Type 0} (old new : Lists) (counts left : IndexMap ℕ ℕ S) (room_for room pass : ℕ) → pass < 256 → EndsClient old new pass → KeepsRoom old new → ((t : ℕ) → count_of left t + count_in t (list_of old pass) ≡ count_of counts t) → spare counts ≤ spare left → IsSound old counts room_for room → IsSound new left room_for room
+IsSound-end old new counts left room_for room pass within ends keeps counted spares sound =
     let apart : (p : ℕ) → p ≢ pass → list_of new p ≡ list_of old p = λ p other. ends p ∙ grind (arith, nat_tests, other) in
     let here : list_of new pass ≡ [] = ends pass ∙ grind (arith, nat_tests) in
     record {
@@ -180,24 +180,24 @@ IsSound-end old new counts left room pass within ends keeps counted spares sound
           let now = counted t in
           omega (arith, change, none, was, now);
       clients = λ p beyond. apart p (omega (arith, beyond, within)) ∙ sound.clients p beyond;
-      room_of_each = λ some p below. keeps p room (sound.room_of_each some p below);
+      room_of_list = λ some. keeps room_for room (sound.room_of_list some);
       room_of_counts = omega (arith, spares, sound.room_of_counts);
     }
 
 -- the client's entries are counted
-pub IsSound-part : {S : Type 0} (lists : Lists) (counts : IndexMap ℕ ℕ S) (room pass : ℕ) → pass < 256 → IsSound lists counts room → (t : ℕ) → count_in t (list_of lists pass) ≤ count_of counts t
-IsSound-part lists counts room pass within sound t = let part = sum_below-part 256 pass (λ p. count_in t (list_of lists p)) within in omega (arith, part, sound.counted t)
+pub IsSound-part : {S : Type 0} (lists : Lists) (counts : IndexMap ℕ ℕ S) (room_for room pass : ℕ) → pass < 256 → IsSound lists counts room_for room → (t : ℕ) → count_in t (list_of lists pass) ≤ count_of counts t
+IsSound-part lists counts room_for room pass within sound t = let part = sum_below-part 256 pass (λ p. count_in t (list_of lists p)) within in omega (arith, part, sound.counted t)
 
 -- a target that is counted is that of some entry
-pub IsSound-named : {S : Type 0} (lists : Lists) (counts : IndexMap ℕ ℕ S) (room id : ℕ) → IsSound lists counts room → 0 < count_of counts id → (p : ℕ) × Names (list_of lists p) id
-IsSound-named lists counts room id sound some =
+pub IsSound-named : {S : Type 0} (lists : Lists) (counts : IndexMap ℕ ℕ S) (room_for room id : ℕ) → IsSound lists counts room_for room → 0 < count_of counts id → (p : ℕ) × Names (list_of lists p) id
+IsSound-named lists counts room_for room id sound some =
     let found = sum_below-some 256 (λ p. count_in id (list_of lists p)) (omega (arith, some, sound.counted id)) in
     let any = count_in-any id (list_of lists found.0) in
     (found.0, sym any ∙ grind (arith, nat_tests, found.1))
 
 -- and one that is not counted is that of none
-pub IsSound-unnamed : {S : Type 0} (lists : Lists) (counts : IndexMap ℕ ℕ S) (room id : ℕ) → IsSound lists counts room → count_of counts id ≡ 0 → (p : ℕ) → ¬ Names (list_of lists p) id
-IsSound-unnamed lists counts room id sound none p named =
+pub IsSound-unnamed : {S : Type 0} (lists : Lists) (counts : IndexMap ℕ ℕ S) (room_for room id : ℕ) → IsSound lists counts room_for room → count_of counts id ≡ 0 → (p : ℕ) → ¬ Names (list_of lists p) id
+IsSound-unnamed lists counts room_for room id sound none p named =
     let any = count_in-any id (list_of lists p) in
     let some : 0 < count_in id (list_of lists p) = grind (arith, nat_tests, any, named) in
     ⊎_elim

@@ -2,7 +2,8 @@
 use Rattle.std.specs.Prelude.{◌≡◌, ℕ, ◌+◌, ◌^◌, ◌≤◌, ◌<◌, Bool, true, false, not, ◌==◌, List, [], ◌∷◌, ◌++◌, if◌then◌else◌, filter, length, eqb, get_or, cond}
 use Rattle.std.specs.List.{list_any, IsDistinct, sum_by}
 use Rattle.ref_tables.specs.declared.ring.Link.{Link}
-use Rattle.ref_tables.specs.Ring.{IsRing}
+use Rattle.indexmap.specs.IndexMap.{IndexMap}
+use Rattle.ref_tables.specs.Ring.{IsRing, IsLinked}
 
 -- the ids in the order in which they joined, and the greatest id that may join
 pub record Queue : Type 0 where
@@ -34,7 +35,7 @@ abbrev pub bit : Bool → ℕ
 bit mark = cond mark 1 0
 
 -- the marks say which ids are in the queue, each once, the links have them in their order, and there is room for all ids
-pub record IsKept (ids : List ℕ) (count : ℕ) (links : List Link) (marks : List Bool) (limit : ℕ) : Type 0 where
+pub record IsKept {S : Type 0} (ids : List ℕ) (count : ℕ) (links : IndexMap ℕ Link S) (marks : List Bool) (limit : ℕ) : Type 0 where
   pub distinct : IsQueue ids
   pub marked : (id : ℕ) → has ids id ≡ get_or marks id false
   pub counted : sum_by bit marks ≡ length ids
@@ -42,5 +43,5 @@ pub record IsKept (ids : List ℕ) (count : ℕ) (links : List Link) (marks : Li
   pub all : length marks ≡ limit + 1
   pub ring : IsRing links ids
   pub number : count ≡ length ids
-  pub linked : length links ≡ limit + 1
+  pub linked : (id : ℕ) → id ≤ limit → IsLinked links id
   pub small : limit < 2 ^ 32

@@ -9,14 +9,20 @@ use Rattle.ref_tables.specs.declared.kind.TempRef.{TempRef}
 use Rattle.ref_tables.specs.Lists.{Lists, list_of, HasRoom}
 use Rattle.ref_tables.specs.Counts.{count_of, count_in}
 
--- the clients, each with its entries in the order in which they were added, and for how many more there is room
+-- the clients, each with its entries in the order in which they were added, and for how many more entries of which
+-- client there is room
 pub record Table : Type 0 where
   pub clients : List (ℕ × List TempRef)
+  pub room_for : ℕ
   pub room : ℕ
 
 -- the client's entries, in the order in which they were added
 abbrev pub entries_of : Table → ℕ → List TempRef
 entries_of table pass = unwrap_or (lookup (is_at (nat_cmp pass)) table.clients) []
+
+-- for how many more entries of the client there is room
+abbrev pub room_of : Table → ℕ → ℕ
+room_of table pass = if pass == table.room_for then table.room else 0
 
 -- some of the entries has this target
 abbrev pub Names : List TempRef → ℕ → Type 0
@@ -25,6 +31,10 @@ Names entries id = list_any (λ entry. entry.target == id) entries ≡ true
 -- each client has the entries that it had
 abbrev pub IsSame : Table → Table → Type 0
 IsSame old new = (p : ℕ) → entries_of new p ≡ entries_of old p
+
+-- each client has the room that it had
+abbrev pub HasSameRoom : Table → Table → Type 0
+HasSameRoom old new = (p : ℕ) → room_of new p ≡ room_of old p
 
 -- the client has this entry at the end, and each other has those that it had
 abbrev pub Adds : Table → Table → ℕ → TempRef → Type 0
@@ -50,8 +60,8 @@ abbrev pub count_all : Lists → ℕ → ℕ
 count_all lists target = sum_below 256 (λ p. count_in target (list_of lists p))
 
 -- the counts are those of the entries, no other client has entries, and the room is there
-pub record IsSound {S : Type 0} (lists : Lists) (counts : IndexMap ℕ ℕ S) (room : ℕ) : Type 0 where
+pub record IsSound {S : Type 0} (lists : Lists) (counts : IndexMap ℕ ℕ S) (room_for room : ℕ) : Type 0 where
   pub counted : (target : ℕ) → count_of counts target ≡ count_all lists target
   pub clients : (p : ℕ) → 256 ≤ p → list_of lists p ≡ []
-  pub room_of_each : 0 < room → (p : ℕ) → p < 256 → HasRoom lists p room
+  pub room_of_list : 0 < room → HasRoom lists room_for room
   pub room_of_counts : room ≤ spare counts

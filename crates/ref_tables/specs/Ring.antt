@@ -1,17 +1,26 @@
 -- A ring of ids through 0, in which each knows its neighbours.
-use Rattle.std.specs.Prelude.{◌≡◌, ℕ, zero, suc, List, [], ◌∷◌, slice_index_or}
+use Rattle.std.specs.Prelude.{◌≡◌, ℕ, zero, suc, Bool, true, List, [], ◌∷◌, is_some, unwrap_or, nat_eq}
+use Rattle.indexmap.specs.IndexMap.{IndexMap, get}
 use Rattle.ref_tables.specs.declared.ring.Link.{Link}
 
--- the neighbours of the id, 0 and 0 past the end
-abbrev pub link_of : List Link → ℕ → Link
-link_of links id = slice_index_or links id (record { previous = 0; next = 0 })
+-- whether the id has a link
+abbrev pub is_linked : {S : Type 0} → IndexMap ℕ Link S → ℕ → Bool
+is_linked links id = is_some (get nat_eq links id)
+
+-- it has one
+abbrev pub IsLinked : {S : Type 0} → IndexMap ℕ Link S → ℕ → Type 0
+IsLinked links id = is_linked links id ≡ true
+
+-- the neighbours of the id, 0 and 0 without a link
+abbrev pub link_of : {S : Type 0} → IndexMap ℕ Link S → ℕ → Link
+link_of links id = unwrap_or (get nat_eq links id) (record { previous = 0; next = 0 })
 
 -- the id behind this one
-abbrev pub next_of : List Link → ℕ → ℕ
+abbrev pub next_of : {S : Type 0} → IndexMap ℕ Link S → ℕ → ℕ
 next_of links id = (link_of links id).next
 
 -- the id before this one
-abbrev pub previous_of : List Link → ℕ → ℕ
+abbrev pub previous_of : {S : Type 0} → IndexMap ℕ Link S → ℕ → ℕ
 previous_of links id = (link_of links id).previous
 
 -- the ids that so many steps to the next one meet
@@ -25,5 +34,5 @@ Leads next previous «from» [] end = (next «from» ≡ end) × (previous end �
 Leads next previous «from» (id ∷ ids) end = (next «from» ≡ id) × (previous id ≡ «from») × Leads next previous id ids end
 
 -- the ids in their order, from 0 and back to 0
-abbrev pub IsRing : List Link → List ℕ → Type 0
+abbrev pub IsRing : {S : Type 0} → IndexMap ℕ Link S → List ℕ → Type 0
 IsRing links ids = Leads (next_of links) (previous_of links) 0 ids 0

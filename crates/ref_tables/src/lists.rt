@@ -77,19 +77,3 @@ pub(crate) fn clear(lists: &mut BTreeMap<u8, Vec<TempRef>>, pass: u8)
         list.clear();
     }
 }
-
-/// Takes room for so many more entries of every client.
-pub(crate) fn reserve_all(
-    lists: &mut BTreeMap<u8, Vec<TempRef>>,
-    alloc: Global,
-    more: u32,
-) -> Result<(), Memory>
-    ensures same { AreSame lists.old.entries lists.new.entries }
-    ensures keeps { KeepsRoom lists.old.entries lists.new.entries }
-    ensures room { OnOk result ((p : ℕ) → p < 256 → HasRoom lists.new.entries p more) }
-{
-    for pass in 0..256u16 {
-        reserve(lists, alloc, pass as u8, more)?;
-    }
-    Ok(())
-}

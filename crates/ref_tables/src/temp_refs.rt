@@ -1,5 +1,5 @@
 //! The temporary reference table.
-ghost use Rattle.std.specs.Prelude.{◌≡◌, ◌<◌, ◌≤◌, ◌-◌, ℕ, [], OnOk, OnErr, IsOk, is_ok, if◌then◌else◌, true, false, slice_get, option_map};
+ghost use Rattle.std.specs.Prelude.{◌≡◌, ◌≢◌, ◌<◌, ◌≤◌, ◌-◌, ℕ, [], OnOk, OnErr, IsOk, is_ok, if◌then◌else◌, true, false, slice_get, option_map};
 
 use crate::kind::{Kind, TempRef};
 use crate::{Memory, counts, lists};
@@ -8,19 +8,20 @@ use std::alloc::Global;
 use std::collections::BTreeMap;
 use std::marker::Model;
 
-/// `reserve` takes room for at least so many entries at once, so that it seldom goes over the clients.
-const STEP: u32 = 16;
-
 /// The references that the clients' running transactions made, laid into slots or cut, in order.
 /// An object that an entry names must not be deleted.
 ///
 /// `pass` is the client's number, and `target` and `id` are those of objects. The table takes any
 /// number. `names` looks at a count for each target, and `end` goes over the client's own entries.
+/// Room is reserved for one client at a time, so that no call goes over the clients.
 #[derive(Debug, Drop)]
 pub struct TempRefs {
     alloc: Global,
     lists: BTreeMap<u8, Vec<TempRef>>,
     counts: IndexMap<u32, u128>,
+    /// The client that room is reserved for.
+    room_for: u8,
+    /// For how many more of its entries.
     room: u32,
 }
 
@@ -29,33 +30,35 @@ impl Model for TempRefs {
 
     ghost Value = { Table };
 
-    ghost view = { λ a. record { clients = seen a.lists.entries; room = a.room } };
+    ghost view = { λ a. record { clients = seen a.lists.entries; room_for = a.room_for; room = a.room } };
 
-    ghost invariant = { λ a. IsSound a.lists.entries a.counts a.room };
+    ghost invariant = { λ a. IsSound a.lists.entries a.counts a.room_for a.room };
 }
 
 impl TempRefs {
-    ghost use Rattle.ref_tables.specs.Refs.{entries_of, Names, IsSame, Adds, Ends};
+    ghost use Rattle.ref_tables.specs.Refs.{entries_of, room_of, Names, IsSame, HasSameRoom, Adds, Ends};
 
     /// The table without an entry. It takes no memory.
     pub fn new(alloc: Global) -> TempRefs
-        ensures { result ≡ record { clients = []; room = 0 } }
+        ensures { result ≡ record { clients = []; room_for = 0; room = 0 } }
     {
         TempRefs {
             alloc,
             lists: BTreeMap::new(alloc),
             counts: IndexMap::new(alloc),
+            room_for: 0,
             room: 0,
         }
     }
 
-    /// Appends an entry to the client's. Where room is reserved, it succeeds and uses one place of it.
-    /// Out of memory is its only error, and leaves the table as it was.
+    /// Appends an entry to the client's. Where room is reserved for the client, it succeeds. An entry uses one place of
+    /// the room that there is, whichever client it is reserved for. Out of memory is its only error, and leaves the
+    /// table as it was.
     pub fn add(&mut self, pass: u8, target: u32, kind: Kind) -> Result<(), Memory>
         ensures ok { OnOk result (Adds self.old self.new pass (record { target = target; kind = kind })) }
         ensures err { OnErr result (IsSame self.old self.new) }
-        ensures succeeds { 0 < self.old.room → IsOk result }
-        ensures room { self.new.room ≡ (if is_ok result then self.old.room - 1 else self.old.room) }
+        ensures succeeds { 0 < room_of self.old pass → IsOk result }
+        ensures room { (p : ℕ) → room_of self.new p ≡ (if is_ok result then room_of self.old p - 1 else room_of self.old p) }
     {
         lists::reserve(&mut self.lists, self.alloc, pass, 1)?;
         counts::add(&mut self.counts, target)?;
@@ -64,20 +67,22 @@ impl TempRefs {
         Ok(())
     }
 
-    /// Takes room for so many more entries, whichever clients add them. Out of memory is its only
-    /// error. The entries stay, and no room is lost.
-    pub fn reserve(&mut self, more: u32) -> Result<(), Memory>
-        ensures ok { OnOk result (more ≤ self.new.room) }
+    /// Takes room for so many more entries of the client, and gives up the room that another has.
+    /// Out of memory is its only error. The entries stay, and so does room where it fails.
+    pub fn reserve(&mut self, pass: u8, more: u32) -> Result<(), Memory>
+        ensures ok { OnOk result (more ≤ room_of self.new pass) }
+        ensures others { OnOk result ((p : ℕ) → p ≢ pass → room_of self.new p ≡ 0) }
         ensures same { IsSame self.old self.new }
-        ensures room { self.old.room ≤ self.new.room }
+        ensures room { room_of self.old pass ≤ room_of self.new pass }
+        ensures err { OnErr result (HasSameRoom self.old self.new) }
     {
-        if more <= self.room {
+        if pass == self.room_for && more <= self.room {
             return Ok(());
         }
-        let room = more.max(STEP);
-        self.counts.reserve(room as usize)?;
-        lists::reserve_all(&mut self.lists, self.alloc, room)?;
-        self.room = room;
+        self.counts.reserve(more as usize)?;
+        lists::reserve(&mut self.lists, self.alloc, pass, more)?;
+        self.room_for = pass;
+        self.room = more;
         Ok(())
     }
 
@@ -108,7 +113,7 @@ impl TempRefs {
     /// It takes no memory.
     pub fn end(&mut self, pass: u8)
         ensures ends { Ends self.old self.new pass }
-        ensures room { self.new.room ≡ self.old.room }
+        ensures room { HasSameRoom self.old self.new }
     {
         counts::forget_all(&mut self.counts, lists::list(&self.lists, pass));
         lists::clear(&mut self.lists, pass);
@@ -126,6 +131,7 @@ mod tests {
         assert_eq!(rt; refs.add(1, 2, Kind::Put), Ok(()));
         assert!(rt; refs.names(2));
         assert!(rt; !refs.names(1));
+        assert_eq!(rt; refs.reserve(64, 1), Ok(()));
         assert_eq!(rt; refs.add(64, 2, Kind::Cut), Ok(()));
         assert_eq!(rt; refs.add(1, 7, Kind::Made), Ok(()));
         assert_eq!(rt; refs.target(1, 1), Some(7));
@@ -137,16 +143,5 @@ mod tests {
         assert_eq!(rt; refs.target(1, 0), None);
         refs.end(64);
         assert!(rt; !refs.names(2));
-    }
-
-    #[test]
-    fn reserved_room_serves_any_client(rt: HostRuntime) {
-        let mut refs = TempRefs::new(rt.alloc());
-        refs.reserve(3).expect(&rt, "room for three entries");
-        for pass in [9, 255, 9] {
-            assert_eq!(rt; refs.add(pass, 4, Kind::Put), Ok(()));
-        }
-        assert_eq!(rt; refs.target(9, 1), Some(4));
-        assert_eq!(rt; refs.target(255, 0), Some(4));
     }
 }

@@ -3,7 +3,8 @@ ghost use Rattle.std.specs.Prelude.{◌≡◌, ◌≤◌, ◌∷◌, [], length,
 ghost use Rattle.ref_tables.specs.Queue.{has, without, IsQueue};
 
 use crate::Memory;
-use crate::ring::{Link, link_last, unlink};
+use crate::ring::{Link, link_last, neighbours, unlink, unlinked};
+use indexmap::IndexMap;
 use std::alloc::Global;
 use std::marker::Model;
 
@@ -20,8 +21,9 @@ pub struct ZeroQueue {
     limit: u32,
     /// How many ids are in the queue.
     count: u32,
-    /// By the id. At 0 stand the last and the first id.
-    links: Vec<Link>,
+    /// The neighbours of each id, be it in the queue or not, so that no key ever joins or leaves. At 0 stand the last and
+    /// the first id.
+    links: IndexMap<u32, Link>,
     /// By the id, whether it is in the queue.
     present: Vec<bool>,
 }
@@ -32,9 +34,9 @@ impl Model for ZeroQueue {
 
     ghost Value = { Queue };
 
-    ghost view = { λ a. record { ids = along (next_of a.links.items) a.count 0; limit = a.limit } };
+    ghost view = { λ a. record { ids = along (next_of a.links) a.count 0; limit = a.limit } };
 
-    ghost invariant = { λ a. IsKept (along (next_of a.links.items) a.count 0) a.count a.links.items a.present.items a.limit };
+    ghost invariant = { λ a. IsKept (along (next_of a.links) a.count 0) a.count a.links a.present.items a.limit };
 }
 
 impl ZeroQueue {
@@ -44,11 +46,7 @@ impl ZeroQueue {
     pub fn new(alloc: Global, ids: u32) -> Result<ZeroQueue, Memory>
         ensures { IfOk result (λ queue. queue ≡ record { ids = []; limit = ids }) }
     {
-        let alone = Link {
-            previous: 0,
-            next: 0,
-        };
-        let links = vec![in alloc; alone; ids as usize + 1]?;
+        let links = unlinked(alloc, ids)?;
         let present = vec![in alloc; false; ids as usize + 1]?;
         Ok(ZeroQueue {
             limit: ids,
@@ -76,7 +74,7 @@ impl ZeroQueue {
         ensures first { MatchOption result ((self.old.ids ≡ []) × (self.new.ids ≡ [])) (λ id. self.old.ids ≡ id ∷ self.new.ids) }
         ensures limit { self.new.limit ≡ self.old.limit }
     {
-        let id = self.links[0].next;
+        let id = neighbours(&self.links, 0).next;
         if id == 0 {
             return None;
         }

@@ -1,5 +1,5 @@
 -- Laws on the holders of one object.
-use Rattle.std.proofs.Common.{◌≡◌, ◌≢◌, ℕ, true, false, not, ◌&&◌, ◌==◌, cond, Option, None, Some, is_none, unwrap_or, IfSome, sym, ◌∙◌, ap, subst, arith}
+use Rattle.std.proofs.Common.{◌≡◌, ◌≢◌, ℕ, true, false, not, ◌&&◌, ◌||◌, ◌==◌, cond, Option, None, Some, is_none, unwrap_or, IfSome, sym, ◌∙◌, ap, subst, arith}
 use Rattle.std.specs.Ordering.{nat_cmp}
 use Rattle.std.specs.BTreeMap.{is_at}
 use Rattle.std.specs.Map.{lookup, set_value}
@@ -13,8 +13,12 @@ pub exclusive-own : (h : Holders) (pass : ℕ) → Nobody (StandsInWayOfOwn h pa
 exclusive-own h pass free p q owns holds = let f = free q in grind (arith, nat_tests, f)
 
 -- the object stays exclusive when a client shares it that nobody stands in the way of
-pub exclusive-share : (old new : Holders) (pass : ℕ) → Nobody (StandsInWayOfShare old pass) → new.owner ≡ old.owner → ((p : ℕ) → is_sharer new p ≡ cond (is_at (nat_cmp pass) p) true (is_sharer old p)) → IsExclusive old → IsExclusive new
+pub exclusive-share : (old new : Holders) (pass : ℕ) → Nobody (StandsInWayOfShare old pass) → new.owner ≡ old.owner → ((p : ℕ) → is_sharer new p ≡ (p == pass || is_sharer old p)) → IsExclusive old → IsExclusive new
 exclusive-share old new pass free owner sharers exclusive p q owns holds = let f = free p in let s = sharers q in let e = exclusive p q in grind (arith, nat_tests, f, s, e)
+
+-- the object stays exclusive with fewer holders
+pub exclusive-fewer : (old new : Holders) → ((p : ℕ) → is_owner new p ≡ true → is_owner old p ≡ true) → ((p : ℕ) → is_sharer new p ≡ true → is_sharer old p ≡ true) → IsExclusive old → IsExclusive new
+exclusive-fewer old new owners sharers exclusive p q owns holds = let o = owners p owns in let oq = owners q in let sq = sharers q in let e = exclusive p q o in grind (arith, nat_tests, oq, sq, e, holds)
 
 -- an owner is the least holder
 pub least-owner : (h : Holders) (o : ℕ) → IsExclusive h → h.owner ≡ Some o → IsLeast (Holds h) o

@@ -1,4 +1,4 @@
-mod Ascending
+mod ClientSetLaws
 mod GivingBack
 mod HoldersLaws
 mod IndexLaws

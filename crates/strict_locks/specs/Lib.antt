@@ -1,3 +1,4 @@
+pub mod ClientSet
 pub mod Clients
 pub mod Locks
 pub mod Refusal

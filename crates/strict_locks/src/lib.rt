@@ -5,6 +5,7 @@
 //! transaction goes over its own locks alone.
 #![tactic(auto)]
 
+mod client_set;
 mod clients;
 mod lock_table;
 mod object_lock;

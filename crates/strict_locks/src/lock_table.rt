@@ -64,11 +64,11 @@ impl LockTable {
             return Err(LockRefusal::Busy { pass: owner });
         }
         if objects::is_held_by(&self.locks, pass, id) {
-            objects::share(&mut self.locks, self.alloc, pass, id)?;
+            objects::share(&mut self.locks, pass, id)?;
             return Ok(());
         }
         clients::reserve(&mut self.lists, self.alloc, pass)?;
-        objects::share(&mut self.locks, self.alloc, pass, id)?;
+        objects::share(&mut self.locks, pass, id)?;
         clients::note(&mut self.lists, pass, id);
         Ok(())
     }
@@ -87,11 +87,11 @@ impl LockTable {
             return Err(LockRefusal::Busy { pass: holder });
         }
         if objects::is_held_by(&self.locks, pass, id) {
-            objects::own(&mut self.locks, self.alloc, pass, id)?;
+            objects::own(&mut self.locks, pass, id)?;
             return Ok(());
         }
         clients::reserve(&mut self.lists, self.alloc, pass)?;
-        objects::own(&mut self.locks, self.alloc, pass, id)?;
+        objects::own(&mut self.locks, pass, id)?;
         clients::note(&mut self.lists, pass, id);
         Ok(())
     }

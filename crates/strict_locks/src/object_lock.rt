@@ -1,62 +1,50 @@
 //! The lock of one object.
-ghost use Rattle.std.specs.Prelude.{◌≡◌, ◌≢◌, ℕ, ◌||◌, ◌&&◌, ◌==◌, not, [], ◌∷◌, Some, None, OnOk, OnErr, IfOk, true};
-ghost use Rattle.std.specs.Ordering.{nat_cmp};
-ghost use Rattle.std.specs.BTreeSet.{contains};
+ghost use Rattle.std.specs.Prelude.{◌≡◌, ℕ, ◌||◌, ◌&&◌, ◌==◌, not, [], Some, None};
 ghost use Rattle.strict_locks.specs.Locks.{is_owner, is_sharer, is_holder, Holds, IsExclusive, StandsInWayOfShare, StandsInWayOfOwn, Nobody, IsLeastOrNone};
 
-use std::alloc::{AllocError, Global};
-use std::collections::BTreeSet;
+use crate::client_set::ClientSet;
 use std::marker::Model;
 
 /// Who holds an object. Where it is owned, nobody but its owner holds it.
 #[derive(Debug, Drop)]
 pub(crate) struct ObjectLock {
     owner: Option<u8>,
-    sharers: BTreeSet<u8>,
+    sharers: ClientSet,
 }
 
 impl Model for ObjectLock {
     ghost use Rattle.strict_locks.specs.Locks.{Holders, IsExclusive};
+    ghost use Rattle.strict_locks.specs.ClientSet.{members};
 
     ghost Value = { Holders };
 
-    ghost view = { λ a. record { owner = a.owner; sharers = a.sharers.keys } };
+    ghost view = { λ a. record { owner = a.owner; sharers = members a.sharers } };
 
-    ghost invariant = { λ a. IsExclusive (record { owner = a.owner; sharers = a.sharers.keys }) };
+    ghost invariant = { λ a. IsExclusive (record { owner = a.owner; sharers = members a.sharers }) };
 }
 
-/// The least client of the set, but for this one.
-fn least_but(clients: &BTreeSet<u8>, pass: u8) -> Option<u8>
-    ensures { IsLeastOrNone (λ p. (p ≢ pass) × (contains nat_cmp clients.now p ≡ true)) result }
-{
-    for client in clients.iter() {
-        if *client != pass {
-            return Some(*client);
-        }
-    }
-    None
-}
-
+#[tactic(auto, using(crate::proofs::ClientSetLaws::has_members))]
 impl ObjectLock {
     /// The lock of an object that this client alone shares.
-    pub(crate) fn shared_by(alloc: Global, pass: u8) -> Result<ObjectLock, AllocError>
-        ensures { IfOk result (λ lock. lock ≡ record { owner = None; sharers = pass ∷ [] }) }
+    pub(crate) fn shared_by(pass: u8) -> ObjectLock
+        ensures owner { result.owner ≡ None }
+        ensures sharers { (p : ℕ) → is_sharer result p ≡ (p == pass) }
     {
-        let mut sharers = BTreeSet::new(alloc);
-        sharers.insert(pass)?;
-        Ok(ObjectLock {
+        let mut sharers = ClientSet::new();
+        sharers.insert(pass);
+        ObjectLock {
             owner: None,
             sharers,
-        })
+        }
     }
 
     /// The lock of an object that this client owns.
-    pub(crate) fn owned_by(alloc: Global, pass: u8) -> ObjectLock
+    pub(crate) fn owned_by(pass: u8) -> ObjectLock
         ensures { result ≡ record { owner = Some pass; sharers = [] } }
     {
         ObjectLock {
             owner: Some(pass),
-            sharers: BTreeSet::new(alloc),
+            sharers: ClientSet::new(),
         }
     }
 
@@ -64,7 +52,7 @@ impl ObjectLock {
     pub(crate) fn is_held_by(&self, pass: u8) -> bool
         ensures { result ≡ is_holder self.now pass }
     {
-        self.owner == Some(pass) || self.sharers.contains(&pass)
+        self.owner == Some(pass) || self.sharers.contains(pass)
     }
 
     /// The client that keeps this one from sharing the object.
@@ -83,7 +71,7 @@ impl ObjectLock {
     {
         match self.owner {
             Some(owner) if owner != pass => Some(owner),
-            _ => least_but(&self.sharers, pass),
+            _ => self.sharers.first_but(pass),
         }
     }
 
@@ -94,19 +82,17 @@ impl ObjectLock {
     {
         match self.owner {
             Some(owner) => Some(owner),
-            None => self.sharers.first().copied(),
+            None => self.sharers.first(),
         }
     }
 
-    /// Adds the client to those that share the object. Out of memory leaves the lock as it was.
-    pub(crate) fn share(&mut self, pass: u8) -> Result<(), AllocError>
+    /// Adds the client to those that share the object.
+    pub(crate) fn share(&mut self, pass: u8)
         requires { Nobody (StandsInWayOfShare self.old pass) }
         ensures owner { self.new.owner ≡ self.old.owner }
-        ensures sharers { OnOk result ((p : ℕ) → is_sharer self.new p ≡ (p == pass || is_sharer self.old p)) }
-        ensures err { OnErr result (self.new ≡ self.old) }
+        ensures sharers { (p : ℕ) → is_sharer self.new p ≡ (p == pass || is_sharer self.old p) }
     {
-        self.sharers.insert(pass)?;
-        Ok(())
+        self.sharers.insert(pass);
     }
 
     /// Makes the client the owner of the object.
@@ -125,6 +111,6 @@ impl ObjectLock {
         if self.owner == Some(pass) {
             self.owner = None;
         }
-        self.sharers.remove(&pass);
+        self.sharers.remove(pass);
     }
 }

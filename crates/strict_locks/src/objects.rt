@@ -4,7 +4,7 @@ ghost use Rattle.strict_locks.specs.Locks.{holders_of, is_holder, Holds, IsExclu
 ghost use Rattle.strict_locks.specs.Clients.{NamesHeld};
 
 use crate::object_lock::ObjectLock;
-use std::alloc::{AllocError, Global};
+use std::alloc::AllocError;
 use std::collections::BTreeMap;
 
 /// Whether the client owns or shares the object.
@@ -42,7 +42,6 @@ pub(crate) fn least_holder(locks: &BTreeMap<u32, ObjectLock>, id: u32) -> Option
 /// Adds the client to those that share the object. Out of memory leaves the locks as they were.
 pub(crate) fn share(
     locks: &mut BTreeMap<u32, ObjectLock>,
-    alloc: Global,
     pass: u8,
     id: u32,
 ) -> Result<(), AllocError>
@@ -52,10 +51,12 @@ pub(crate) fn share(
     ensures err { OnErr result (locks.new.entries ≡ locks.old.entries) }
 {
     match locks.get_mut(&id) {
-        Some(lock) => lock.share(pass),
+        Some(lock) => {
+            lock.share(pass);
+            Ok(())
+        }
         None => {
-            let lock = ObjectLock::shared_by(alloc, pass)?;
-            locks.insert(id, lock)?;
+            locks.insert(id, ObjectLock::shared_by(pass))?;
             Ok(())
         }
     }
@@ -64,7 +65,6 @@ pub(crate) fn share(
 /// Makes the client the owner of the object. Out of memory leaves the locks as they were.
 pub(crate) fn own(
     locks: &mut BTreeMap<u32, ObjectLock>,
-    alloc: Global,
     pass: u8,
     id: u32,
 ) -> Result<(), AllocError>
@@ -79,7 +79,7 @@ pub(crate) fn own(
             Ok(())
         }
         None => {
-            locks.insert(id, ObjectLock::owned_by(alloc, pass))?;
+            locks.insert(id, ObjectLock::owned_by(pass))?;
             Ok(())
         }
     }

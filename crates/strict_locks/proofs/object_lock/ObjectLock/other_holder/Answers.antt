@@ -1,5 +1,6 @@
+use Rattle.strict_locks.specs.ClientSet.{members}
 use Rattle.strict_locks.proofs.HoldersLaws.{least-other_owner}
 use Rattle.strict_locks.proofs.object_lock.ObjectLock.other_holder.Goals as goal
 
 pub returns-in-Some : goal.returns-in-Some
-returns-in-Some c = rw (← c.self.view_is) (least-other_owner (record { owner = c.self.inside.owner; sharers = c.self.inside.sharers.keys }) _ c.in-Some.owner c.self.invariant c.in-Some.is c.if-owner-pass.true)
+returns-in-Some c = rw (← c.self.view_is) (least-other_owner (record { owner = c.self.inside.owner; sharers = members c.self.inside.sharers }) _ c.in-Some.owner c.self.invariant c.in-Some.is c.if-owner-pass.true)
