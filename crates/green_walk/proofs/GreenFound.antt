@@ -97,6 +97,7 @@ module _ (slots limit : ℕ) (seeds : Ids) (done : ℕ) (live green : Ids) (at :
         copied_limit = k.copied_limit;
         most = k.most;
         few = k.few;
+        seeds_few = k.seeds_few;
         done_few = k.done_few;
         way = (omega arith, within.1, λ c. n);
         sound = subst (λ (v : Ids). IsGreening (greening_of slots limit seeds.ids done live.ids v.ids (stage.Into id 0 named) None walked changed current copied.slots)) (sym e) after;
@@ -129,6 +130,7 @@ module _ (slots limit : ℕ) (seeds : Ids) (done : ℕ) (live green : Ids) (at :
         copied_limit = k.copied_limit;
         most = k.most;
         few = k.few;
+        seeds_few = k.seeds_few;
         done_few = k.done_few;
         way = tt;
         sound = moves;

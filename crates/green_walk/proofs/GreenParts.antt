@@ -31,6 +31,7 @@ module _ (slots limit : ℕ) (seeds : Ids) (done : ℕ) (live green : Ids) (at :
     copied_limit = k.copied_limit;
     most = k.most;
     few = k.few;
+    seeds_few = k.seeds_few;
     done_few = k.done_few;
     way = tt;
     sound =
@@ -52,6 +53,7 @@ module _ (slots limit : ℕ) (seeds : Ids) (done : ℕ) (live green : Ids) (plac
     copied_limit = k.copied_limit;
     most = k.most;
     few = k.few;
+    seeds_few = k.seeds_few;
     done_few = (let some = done-some in omega (arith, some));
     way = tt;
     sound =

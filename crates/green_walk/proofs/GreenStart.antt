@@ -59,6 +59,7 @@ start-in-step slots limit j seeds live green copied current sl ll gl cl most sma
   copied_limit = cl;
   most = most;
   few = small;
+  seeds_few = subst (λ (xs : List ℕ). length xs ≤ limit) (sym s) (subst (λ n. length j.seeds ≤ n) same sk.most);
   done_few = omega arith;
   way = tt;
   sound =

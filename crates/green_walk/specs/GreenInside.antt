@@ -44,6 +44,7 @@ pub record AreInStep (slots limit : ℕ) (seeds : Ids) (done : ℕ) (live green 
   pub copied_limit : copied.limit ≡ limit
   pub most : copied.most ≡ limit * slots
   pub few : limit < 65536
+  pub seeds_few : length seeds.ids ≤ limit
   pub done_few : done ≤ length seeds.ids
   pub way : IsOnWay current copied.slots limit at
   pub sound : IsGreening (greening_of slots limit seeds.ids done live.ids green.ids at test walked changed current copied.slots)

@@ -3,7 +3,7 @@ use Rattle.std.specs.Prelude.{◌≡◌, ℕ, ◌+◌, ◌<◌, Bool, true, fals
 use Rattle.store_model.specs.Core.{Copy}
 use Rattle.store_model.specs.Verdict.{copied_names}
 use Rattle.ref_tables.specs.Refs.{Table, entries_of, Names}
-use Rattle.red_walk.specs.Ids.{Ids}
+use Rattle.red_walk.specs.Ids.{Ids, IsIdList}
 use Rattle.red_walk.specs.Walk.{Walk}
 
 -- what was judged, each list in the order of the round's
@@ -13,6 +13,12 @@ pub record Judged : Type 0 where
   pub condemned : List ℕ
   -- the greatest id
   pub limit : ℕ
+
+-- what holds of every verdict: no id stands twice in a list
+pub record IsJudged (j : Judged) : Type 0 where
+  pub seeds : IsIdList j.seeds j.limit
+  pub live : IsIdList j.live j.limit
+  pub condemned : IsIdList j.condemned j.limit
 
 -- the second list has those of the first that have the property, in its order
 pub data Picks (P : ℕ → Type 0) : List ℕ → List ℕ → Type 0 where

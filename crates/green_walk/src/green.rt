@@ -2,7 +2,7 @@
 ghost use Rattle.std.specs.Prelude.{◌≡◌, ℕ, ◌+◌, ◌<◌, ◌≤◌, not, true, drop, nat_lt, length, slice_index_or, Contains, IfOk, IfSome, if◌then◌else◌};
 ghost use Rattle.cell_page.specs.Format.{IsSlotCount};
 ghost use Rattle.red_walk.specs.Ids.{IsIdList};
-ghost use Rattle.red_walk.specs.Walk.{next as next_of_red};
+ghost use Rattle.red_walk.specs.Walk.{IsWalk, next as next_of_red};
 ghost use Rattle.green_walk.specs.Greening.{GreenStage, AtSeed, AtInto, AtOut, IsGreening, IsAnswer, IsTestable, next, found, found_in, settled, settled_into, settled_out, idle, started, waits, walking, testing, tested, again, are_none, first_seed, asked_at, seed_done};
 ghost use Rattle.green_walk.specs.GreenInside.{IsHead, IsFirstWaiting, IsFirstWaitingTo};
 ghost use Rattle.green_walk.specs.Linked.{IsNextNaming, target_at};
@@ -75,7 +75,8 @@ impl<const SLOTS: usize> Model for Green<SLOTS> {
 
 /// Whether an object of the round was touched.
 fn is_touched<const SLOTS: usize>(red: &Red<SLOTS>) -> bool
-    ensures { result ≡ not (are_none red.now.touched) }
+    ensures touched { result ≡ not (are_none red.now.touched) }
+    ensures sound { IsWalk SLOTS red.now }
 {
     for place in 0..red.list().len() {
         if red.touched(place) {
@@ -112,7 +113,8 @@ impl<const SLOTS: usize> Green<SLOTS> {
     pub fn new(alloc: Global, ids: u32) -> Result<Green<SLOTS>, Memory>
         requires size { IsSlotCount SLOTS }
         requires few { ids < 65536 }
-        ensures { IfOk result (λ green. green ≡ idle SLOTS ids) }
+        ensures idle { IfOk result (λ green. green ≡ idle SLOTS ids) }
+        ensures sound { IfOk result (λ green. IsGreening green) }
     {
         Ok(Green {
             limit: ids,
@@ -137,10 +139,10 @@ impl<const SLOTS: usize> Green<SLOTS> {
         requires limit { red.now.limit ≡ self.old.limit }
         requires judged { verdict.now.limit ≡ self.old.limit }
         requires seeds { (id : ℕ) → Contains verdict.now.seeds id → Contains verdict.now.live id }
-        ensures { self.new ≡ started SLOTS verdict.now red.now }
+        ensures started { self.new ≡ started SLOTS verdict.now red.now }
+        ensures sound { IsGreening self.new }
     {
-        // What holds of every walk is known from here on.
-        let _list = red.list();
+        self.current = !is_touched(red);
         take_over(&mut self.seeds, verdict.seeds());
         take_over(&mut self.live, verdict.live());
         self.green.clear();
@@ -150,7 +152,6 @@ impl<const SLOTS: usize> Green<SLOTS> {
         self.test = None;
         self.walked = 0;
         self.changed = false;
-        self.current = !is_touched(red);
     }
 
     /// Whether the object lives and isn't green.
@@ -220,7 +221,8 @@ impl<const SLOTS: usize> Green<SLOTS> {
     /// The green objects are walked, behind the seed in hand.
     fn walk(&mut self)
         requires some { 0 < length self.old.seeds }
-        ensures { self.new ≡ walking self.old }
+        ensures walking { self.new ≡ walking self.old }
+        ensures sound { IsGreening self.new }
     {
         self.stage = Stage::Out {
             place: self.walk_start(),
@@ -232,7 +234,8 @@ impl<const SLOTS: usize> Green<SLOTS> {
 
     /// The walk behind a flip begins where no slot is left that may lead to the flipped object.
     fn settle_into(&mut self)
-        ensures { self.new ≡ settled_into self.old }
+        ensures settled { self.new ≡ settled_into self.old }
+        ensures sound { IsGreening self.new }
     {
         if let Stage::Into {
             flipped,
@@ -248,11 +251,10 @@ impl<const SLOTS: usize> Green<SLOTS> {
 
     /// The seed in hand is done where no green object is left to walk.
     fn settle_out(&mut self)
-        ensures { self.new ≡ settled_out self.old }
+        ensures settled { self.new ≡ settled_out self.old }
+        ensures sound { IsGreening self.new }
     {
         if let Stage::Out { place, .. } = self.stage {
-            // That there are no more seeds than ids is known from here on.
-            let _seeds = self.seeds.ids();
             if place >= self.green.ids().len() {
                 self.done += 1;
                 self.walked = self.green.ids().len();
@@ -263,7 +265,8 @@ impl<const SLOTS: usize> Green<SLOTS> {
 
     /// Goes to where something is to be looked at.
     fn settle(&mut self)
-        ensures { self.new ≡ settled self.old }
+        ensures settled { self.new ≡ settled self.old }
+        ensures sound { IsGreening self.new }
     {
         self.settle_into();
         self.settle_out();
@@ -272,7 +275,8 @@ impl<const SLOTS: usize> Green<SLOTS> {
     /// A test of an object begins: whether a strong pointer leads out of it.
     pub fn begin_test(&mut self, id: u32)
         requires { IsTestable self.old (next self.old) id }
-        ensures { self.new ≡ testing self.old id }
+        ensures testing { self.new ≡ testing self.old id }
+        ensures sound { IsGreening self.new }
     {
         self.settle();
         self.test = Some(Test { id, slot: 0 });
@@ -281,7 +285,8 @@ impl<const SLOTS: usize> Green<SLOTS> {
     /// The test goes on: the slot holds no strong pointer.
     pub fn passed(&mut self)
         requires { IfSome self.old.test (λ t. t.slot < SLOTS) }
-        ensures { self.new ≡ tested self.old }
+        ensures tested { self.new ≡ tested self.old }
+        ensures sound { IsGreening self.new }
     {
         if let Some(test) = self.test {
             self.test = Some(Test {
@@ -294,7 +299,8 @@ impl<const SLOTS: usize> Green<SLOTS> {
     /// An event of a client or of an abort came: the test in hand goes back to its beginning, and looks that were saved
     /// for what was known before are made again.
     pub fn again(&mut self)
-        ensures { self.new ≡ again self.old }
+        ensures again { self.new ≡ again self.old }
+        ensures sound { IsGreening self.new }
     {
         self.test = None;
         self.changed = true;
@@ -305,7 +311,8 @@ impl<const SLOTS: usize> Green<SLOTS> {
     fn found_at_seed(&mut self, what: Found)
         requires at { self.old.stage ≡ AtSeed }
         requires answer { IsAnswer self.old (first_seed self.old.seeds) what }
-        ensures { self.new ≡ found_in self.old AtSeed what }
+        ensures found { self.new ≡ found_in self.old AtSeed what }
+        ensures sound { IsGreening self.new }
     {
         match what {
             Found::Nothing => self.walk(),
@@ -335,7 +342,8 @@ impl<const SLOTS: usize> Green<SLOTS> {
         requires within { rest ≤ length self.old.copied }
         requires small { flipped ≤ self.old.limit }
         requires way { self.old.current ≡ true → IsNextNaming self.old.copied flipped rest named }
-        ensures { (what : Found) → self.new ≡ found_in self.old (AtInto flipped (drop rest self.old.copied)) what }
+        ensures found { (what : Found) → self.new ≡ found_in self.old (AtInto flipped (drop rest self.old.copied)) what }
+        ensures sound { IsGreening self.new }
     {
         let place = self.head(flipped, rest, named);
         if place < self.copied.len() {
@@ -352,7 +360,8 @@ impl<const SLOTS: usize> Green<SLOTS> {
         requires at { self.old.stage ≡ AtOut place slot }
         requires settled { settled self.old ≡ self.old }
         requires answer { IsAnswer self.old (asked_at self.old (AtOut place slot)) what }
-        ensures { self.new ≡ found_in self.old (AtOut place slot) what }
+        ensures found { self.new ≡ found_in self.old (AtOut place slot) what }
+        ensures sound { IsGreening self.new }
     {
         if let Found::Made { id } = what {
             self.green.push(id);
@@ -374,7 +383,8 @@ impl<const SLOTS: usize> Green<SLOTS> {
     /// Takes the answer to what was asked for.
     pub fn found(&mut self, what: Found)
         requires { IsAnswer self.old (next self.old) what }
-        ensures { self.new ≡ found self.old what }
+        ensures found { self.new ≡ found self.old what }
+        ensures sound { IsGreening self.new }
     {
         self.settle();
         match self.stage {

@@ -1,6 +1,7 @@
 //! What copied slots name from the seeds on.
 ghost use Rattle.std.specs.Prelude.{◌≡◌, ℕ, ◌≤◌, [], ◌∷◌, ◌++◌, length, Contains};
 ghost use Rattle.red_walk.specs.Ids.{IsIdList};
+ghost use Rattle.red_walk.specs.Walk.{IsWalk};
 ghost use Rattle.green_walk.specs.Judged.{IsLive, Adds};
 
 use red_walk::{IdList, Red};
@@ -45,6 +46,7 @@ fn add_named<const SLOTS: usize>(reached: &mut IdList, red: &Red<SLOTS>, slots: 
 /// Reaches the least set of the round's objects that has the seeds and what a copied slot of one of it
 /// names. Each object is looked at once.
 pub(crate) fn reach<const SLOTS: usize>(reached: &mut IdList, red: &Red<SLOTS>, seeds: &[u32])
+    requires walk { IsWalk SLOTS red.now }
     requires limit { reached.old.limit ≡ red.now.limit }
     requires seeds { IsIdList seeds.now red.now.limit }
     requires listed { (id : ℕ) → Contains seeds.now id → Contains red.now.list id }
@@ -53,8 +55,6 @@ pub(crate) fn reach<const SLOTS: usize>(reached: &mut IdList, red: &Red<SLOTS>, 
     ensures all { (id : ℕ) → Contains red.now.list id → IsLive red.now (Contains seeds.now) id → Contains reached.new.ids id }
     ensures limit { reached.new.limit ≡ reached.old.limit }
 {
-    // What holds of every walk is known from here on.
-    let _list = red.list();
     begin_with(reached, seeds);
     let mut next = 0;
     while next < reached.ids().len() {

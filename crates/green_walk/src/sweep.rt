@@ -63,7 +63,8 @@ impl Model for Sweep {
 impl Sweep {
     /// Nothing to sweep, with room for the ids from 1 to `ids`. Out of memory is its only error.
     pub fn new(alloc: Global, ids: u32) -> Result<Sweep, Memory>
-        ensures { IfOk result (λ sweep. sweep ≡ started [] ids) }
+        ensures idle { IfOk result (λ sweep. sweep ≡ started [] ids) }
+        ensures sound { IfOk result (λ sweep. IsSweep sweep) }
     {
         let list = Vec::with_capacity(alloc, ids as usize)?;
         Ok(Sweep {
@@ -77,7 +78,8 @@ impl Sweep {
     /// Begins with what the verdict condemns.
     pub fn start(&mut self, verdict: &Verdict)
         requires { verdict.now.limit ≡ self.old.limit }
-        ensures { self.new ≡ started verdict.now.condemned self.old.limit }
+        ensures started { self.new ≡ started verdict.now.condemned self.old.limit }
+        ensures sound { IsSweep self.new }
     {
         self.list.clear();
         let _ = self.list.extend_from_slice(verdict.condemned());
@@ -122,7 +124,8 @@ impl Sweep {
     /// the object was freed.
     pub fn found(&mut self, what: Found)
         requires { IsAnswer (next self.old) what }
-        ensures { self.new ≡ found self.old what }
+        ensures found { self.new ≡ found self.old what }
+        ensures sound { IsSweep self.new }
     {
         match what {
             Found::Nothing => self.emptied += 1,

@@ -1,11 +1,11 @@
 //! A round of two objects that name each other.
-ghost use Rattle.std.specs.Prelude.{◌≡◌, length};
+ghost use Rattle.std.specs.Prelude.{◌≡◌};
 ghost use Rattle.green_walk.specs.Sweeping.{IsAnswer};
 
 use crate::{Found, Green, GreenAt, LockView, Sweep, SweepAt, Verdict};
 use cell_page::Seen;
 use red_walk::{Red, RedAt};
-use ref_tables::{Kind, TempRefs};
+use ref_tables::TempRefs;
 use std::alloc::Global;
 use std::process::Abort;
 
@@ -35,85 +35,28 @@ fn copy_both(red: &mut Red<6>, first: Seen<6>, second: Seen<6>)
     }
 }
 
-/// Marks 3, if it is to be.
-fn touch_if(red: &mut Red<6>, touched: bool)
-    ensures { red.new.limit ≡ red.old.limit }
-{
-    if touched {
-        red.touch(3);
-    }
-}
-
-/// The round of 2 and 3, to which so many pointers lead, all copied.
-fn round(rt: &impl Abort, alloc: Global, counts: [u32; 2], touched: bool) -> Red<6>
+/// The round of 2 and 3, all copied, to each of which one strong pointer leads.
+fn round(rt: &impl Abort, alloc: Global) -> Red<6>
     ensures { result.limit ≡ 8 }
 {
     let mut red = Red::<6>::new(alloc, 8).expect(rt, "room for eight ids");
     red.start(2);
     red.weakened(Some(3));
-    copy_both(&mut red, seen(3, counts[0]), seen(2, counts[1]));
-    touch_if(&mut red, touched);
+    copy_both(&mut red, seen(3, 1), seen(2, 1));
     red
 }
 
-/// The row in which 3 may be locked.
-fn row(rt: &impl Abort, alloc: Global, locked: bool) -> LockView
-    ensures { length result ≡ 8 }
-{
-    let mut locks = LockView::new(alloc, 8).expect(rt, "room for eight places");
-    locks.set(1, locked);
-    locks
-}
-
-/// The table that may name 3.
-fn table(rt: &impl Abort, alloc: Global, named: bool) -> TempRefs {
-    let mut refs = TempRefs::new(alloc);
-    if named {
-        refs.add(5, 3, Kind::Cut).expect(rt, "room for an entry");
-    }
-    refs
-}
-
-/// The verdict.
-fn judge(rt: &impl Abort, red: &Red<6>, locks: &LockView, refs: &TempRefs, alloc: Global) -> Verdict
-    requires limit { red.now.limit ≡ 8 }
-    requires locks { length locks.now ≡ 8 }
+/// The verdict on both, where no lock and no temporary reference holds one.
+fn judge(rt: &impl Abort, alloc: Global) -> Verdict
     ensures { result.limit ≡ 8 }
 {
+    let red = round(rt, alloc);
+    let locks = LockView::new(alloc, 8).expect(rt, "room for eight places");
+    let refs = TempRefs::new(alloc);
     let mut verdict = Verdict::new(alloc, 8).expect(rt, "room for eight ids");
     assert_eq!(rt; red.at(), RedAt::Verdict);
-    verdict.decide(red, locks, refs);
+    verdict.decide(&red, &locks, &refs);
     verdict
-}
-
-/// The verdict on 2 and 3, where 3 may be locked, touched or named.
-fn judge_with(
-    rt: &impl Abort,
-    alloc: Global,
-    counts: [u32; 2],
-    locked: bool,
-    touched: bool,
-    named: bool,
-) -> Verdict
-    ensures { result.limit ≡ 8 }
-{
-    let red = round(rt, alloc, counts, touched);
-    let locks = row(rt, alloc, locked);
-    let refs = table(rt, alloc, named);
-    judge(rt, &red, &locks, &refs, alloc)
-}
-
-/// Compares the three lists.
-fn expect_lists(
-    rt: &impl Abort,
-    verdict: &Verdict,
-    seeds: &[u32],
-    live: &[u32],
-    condemned: &[u32],
-) {
-    assert_eq!(rt; verdict.seeds(), seeds);
-    assert_eq!(rt; verdict.live(), live);
-    assert_eq!(rt; verdict.condemned(), condemned);
 }
 
 /// Compares what the sweep asks for, and answers.
@@ -126,14 +69,9 @@ fn step(rt: &impl Abort, sweep: &mut Sweep, wanted: SweepAt, what: Found)
 }
 
 #[test]
-fn a_cycle_that_nothing_holds_is_condemned(rt: HostRuntime) {
-    let verdict = judge_with(&rt, rt.alloc(), [1, 1], false, false, false);
-    expect_lists(&rt, &verdict, &[], &[], &[2, 3]);
-}
-
-#[test]
 fn what_is_condemned_is_emptied_and_then_freed(rt: HostRuntime) {
-    let verdict = judge_with(&rt, rt.alloc(), [1, 1], false, false, false);
+    let verdict = judge(&rt, rt.alloc());
+    assert_eq!(rt; verdict.condemned(), [2, 3].as_slice());
     let mut sweep = Sweep::new(rt.alloc(), 8).expect(&rt, "room for eight ids");
     assert_eq!(rt; sweep.next(), SweepAt::End);
     sweep.start(&verdict);
@@ -160,30 +98,6 @@ fn what_is_condemned_is_emptied_and_then_freed(rt: HostRuntime) {
         Found::Made { id: 3 },
     );
     assert_eq!(rt; sweep.next(), SweepAt::End);
-}
-
-#[test]
-fn a_pointer_from_outside_keeps_both(rt: HostRuntime) {
-    let verdict = judge_with(&rt, rt.alloc(), [2, 1], false, false, false);
-    expect_lists(&rt, &verdict, &[2], &[2, 3], &[]);
-}
-
-#[test]
-fn a_lock_makes_a_seed(rt: HostRuntime) {
-    let verdict = judge_with(&rt, rt.alloc(), [1, 1], true, false, false);
-    expect_lists(&rt, &verdict, &[3], &[2, 3], &[]);
-}
-
-#[test]
-fn a_mark_makes_a_seed(rt: HostRuntime) {
-    let verdict = judge_with(&rt, rt.alloc(), [1, 1], false, true, false);
-    expect_lists(&rt, &verdict, &[3], &[2, 3], &[]);
-}
-
-#[test]
-fn a_name_makes_a_seed(rt: HostRuntime) {
-    let verdict = judge_with(&rt, rt.alloc(), [1, 1], false, false, true);
-    expect_lists(&rt, &verdict, &[3], &[2, 3], &[]);
 }
 
 #[test]

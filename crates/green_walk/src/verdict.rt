@@ -2,7 +2,7 @@
 ghost use Rattle.std.specs.Prelude.{◌≡◌, ℕ, [], length, IfOk};
 ghost use Rattle.red_walk.specs.Ids.{IsIdList};
 ghost use Rattle.red_walk.specs.Walk.{next};
-ghost use Rattle.green_walk.specs.Judged.{IsSeed, IsLive, Picks};
+ghost use Rattle.green_walk.specs.Judged.{IsSeed, IsLive, IsJudged, Picks};
 
 use crate::lock_view::LockView;
 use crate::{Memory, counts, part, reach, seeds};
@@ -37,7 +37,8 @@ impl Model for Verdict {
 impl Verdict {
     /// No object judged, with room for the ids from 1 to `ids`. Out of memory is its only error.
     pub fn new(alloc: Global, ids: u32) -> Result<Verdict, Memory>
-        ensures { IfOk result (λ verdict. verdict ≡ record { seeds = []; live = []; condemned = []; limit = ids }) }
+        ensures empty { IfOk result (λ verdict. verdict ≡ record { seeds = []; live = []; condemned = []; limit = ids }) }
+        ensures sound { IfOk result (λ verdict. IsJudged verdict) }
     {
         let seeds = IdList::new(alloc, ids)?;
         let live = IdList::new(alloc, ids)?;
@@ -72,13 +73,13 @@ impl Verdict {
         ensures live { Picks (IsLive red.now (IsSeed red.now locks.now refs.now)) red.now.list self.new.live }
         ensures condemned { Picks (λ id. IsLive red.now (IsSeed red.now locks.now refs.now) id → ⊥) red.now.list self.new.condemned }
         ensures limit { self.new.limit ≡ self.old.limit }
+        ensures sound { IsJudged self.new }
     {
-        // What holds of every walk is known from here on.
-        let _list = red.list();
+        let list = red.list();
         counts::note_others(&mut self.others, red);
         seeds::pick_seeds(&mut self.seeds, red, locks, refs, &self.others);
         reach::reach(&mut self.reached, red, self.seeds.ids());
-        part::part(&mut self.live, &mut self.condemned, &self.reached, red);
+        part::part(&mut self.live, &mut self.condemned, &self.reached, list);
     }
 
     /// The seeds.

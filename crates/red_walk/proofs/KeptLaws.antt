@@ -1,5 +1,5 @@
 -- What keeps a walk a walk.
-use Rattle.std.proofs.Common.{◌≡◌, ℕ, ◌+◌, ◌≤◌, Bool, true, false, not, ◌&&◌, ◌||◌, ◌==◌, List, [], ◌∷◌, ◌++◌, length, map, take, refl, sym, ap, ◌∙◌, subst, arith, ⊎_elim, true≢false}
+use Rattle.std.proofs.Common.{◌≡◌, ◌≢◌, ℕ, ◌+◌, ◌≤◌, Bool, true, false, not, ◌&&◌, ◌||◌, ◌==◌, List, [], ◌∷◌, ◌++◌, length, map, take, refl, sym, ap, ◌∙◌, subst, arith, ⊎_elim, true≢false}
 use Rattle.std.specs.Prelude.{Contains}
 use Rattle.std.proofs.lemmas.List.{length_push, map_push, take_more}
 use Rattle.std.proofs.lemmas.List.Elements.{Contains-append_left, Contains-push, Contains-push_cases}
@@ -14,28 +14,36 @@ use Rattle.red_walk.proofs.Filters.{filter-among}
 use Rattle.red_walk.proofs.IdLaws.{most-of, at_push}
 use Rattle.red_walk.proofs.WalkLaws.{look-place, copy-place}
 
+-- the last slot of an object was looked at
+pub moved-on : (slots : ℕ) (w : Walk) → IsWalk slots w → IsWalk slots (record w { place = w.place + 1; slot = 0 })
+moved-on slots w k = record {
+  ids = k.ids;
+  slot_within = omega (arith, k.slot_within);
+  slot_count = k.slot_count;
+  left_listed = k.left_listed;
+  touched_listed = k.touched_listed;
+  in_order = k.in_order;
+  quiet = λ early. k.quiet (omega (arith, early));
+}
+
+-- another slot of it was
+pub moved-within : (slots : ℕ) (w : Walk) → IsWalk slots w → w.slot + 1 ≢ slots → IsWalk slots (record w { slot = w.slot + 1 })
+moved-within slots w k other = record {
+  ids = k.ids;
+  slot_within = omega (arith, k.slot_within, other);
+  slot_count = k.slot_count;
+  left_listed = k.left_listed;
+  touched_listed = k.touched_listed;
+  in_order = k.in_order;
+  quiet = k.quiet;
+}
+
 pub moved-walk-law : MovedWalkLaw
 moved-walk-law slots w k = by (w.slot + 1 == slots) refl
   where
     by : (last : Bool) → (w.slot + 1 == slots) ≡ last → IsWalk slots (moved slots w)
-    by true l = rw l (record {
-      ids = k.ids;
-      slot_within = omega (arith, k.slot_within);
-      slot_count = k.slot_count;
-      left_listed = k.left_listed;
-      touched_listed = k.touched_listed;
-      in_order = k.in_order;
-      quiet = λ early. k.quiet (omega (arith, early));
-    })
-    by false l = rw l (record {
-      ids = k.ids;
-      slot_within = grind (arith, nat_tests, l, k.slot_within);
-      slot_count = k.slot_count;
-      left_listed = k.left_listed;
-      touched_listed = k.touched_listed;
-      in_order = k.in_order;
-      quiet = k.quiet;
-    })
+    by true l = rw l (moved-on slots w k)
+    by false l = rw l (moved-within slots w k (grind (arith, nat_tests, l)))
 
 -- an object joins
 joined-walk : (slots : ℕ) (w : Walk) (id : ℕ) → IsWalk slots w → w.copies ≡ [] → 1 ≤ id → id ≤ w.limit → has w.list id ≡ false → IsWalk slots (joined w id)

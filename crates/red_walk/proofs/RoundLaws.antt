@@ -5,7 +5,7 @@ use Rattle.std.proofs.Math.Seq.{take-length}
 use Rattle.std.proofs.lemmas.List.{get_or_default, length-map, length-take, get_or-map, take-append-drop}
 use Rattle.std.proofs.lemmas.List.Elements.{Contains-append_left}
 use Rattle.cell_page.specs.Stored.{pointers_from}
-use Rattle.store_model.specs.Cells.{Pointer}
+use Rattle.cell_model.specs.Cells.{Pointer}
 use Rattle.store_model.specs.Core.{Copy}
 use Rattle.red_walk.specs.Ids.{has}
 use Rattle.red_walk.specs.Walk.{Walk, IsWalk, is_open, touched_at}

@@ -41,7 +41,8 @@ fn push_into_room(order: &mut Vec<u32>, id: u32)
 impl IdList {
     /// The empty list, with room for the ids from 1 to `ids`. Out of memory is its only error.
     pub fn new(alloc: Global, ids: u32) -> Result<IdList, Memory>
-        ensures { IfOk result (λ list. list ≡ record { ids = []; limit = ids }) }
+        ensures empty { IfOk result (λ list. list ≡ record { ids = []; limit = ids }) }
+        ensures sound { IfOk result (λ list. IsIdList list.ids list.limit) }
     {
         let order = Vec::with_capacity(alloc, ids as usize)?;
         let places = vec![in alloc; 0; ids as usize + 1]?;
@@ -54,7 +55,8 @@ impl IdList {
 
     /// Lets all ids go.
     pub fn clear(&mut self)
-        ensures { self.new ≡ record self.old { ids = [] } }
+        ensures empty { self.new ≡ record self.old { ids = [] } }
+        ensures sound { IsIdList self.new.ids self.new.limit }
     {
         self.order.clear();
     }

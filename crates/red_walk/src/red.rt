@@ -48,7 +48,8 @@ impl<const SLOTS: usize> Red<SLOTS> {
     /// No open round, with room for the ids from 1 to `ids`. Out of memory is its only error.
     pub fn new(alloc: Global, ids: u32) -> Result<Red<SLOTS>, Memory>
         requires { IsSlotCount SLOTS }
-        ensures { IfOk result (λ red. red ≡ closed ids) }
+        ensures closed { IfOk result (λ red. red ≡ closed ids) }
+        ensures sound { IfOk result (λ red. IsWalk SLOTS red) }
     {
         let list = IdList::new(alloc, ids)?;
         let copies = Vec::with_capacity(alloc, ids as usize)?;
@@ -67,7 +68,8 @@ impl<const SLOTS: usize> Red<SLOTS> {
 
     /// Closes the round.
     pub fn close(&mut self)
-        ensures { self.new ≡ closed self.old.limit }
+        ensures closed { self.new ≡ closed self.old.limit }
+        ensures sound { IsWalk SLOTS self.new }
     {
         self.list.clear();
         self.copies.clear();
@@ -79,7 +81,8 @@ impl<const SLOTS: usize> Red<SLOTS> {
     /// Opens a round with this object. What was left of an earlier round is forgotten.
     pub fn start(&mut self, x: u32)
         requires { (1 ≤ x) × (x ≤ self.old.limit) }
-        ensures { self.new ≡ opened self.old.limit x }
+        ensures opened { self.new ≡ opened self.old.limit x }
+        ensures sound { IsWalk SLOTS self.new }
     {
         self.close();
         self.join(x);
@@ -90,7 +93,8 @@ impl<const SLOTS: usize> Red<SLOTS> {
         requires within { (1 ≤ id) × (id ≤ self.old.limit) }
         requires new { has self.old.list id ≡ false }
         requires quiet { self.old.copies ≡ [] }
-        ensures { self.new ≡ joined self.old id }
+        ensures joined { self.new ≡ joined self.old id }
+        ensures sound { IsWalk SLOTS self.new }
     {
         self.list.push(id);
         self.touched[id as usize] = false;
@@ -123,6 +127,7 @@ impl<const SLOTS: usize> Red<SLOTS> {
         requires { IsLook (next self.old) }
         ensures moves { self.new ≡ moved SLOTS self.old }
         ensures quiet { self.new.copies ≡ [] }
+        ensures sound { IsWalk SLOTS self.new }
     {
         if self.slot as usize + 1 == SLOTS {
             self.place += 1;
@@ -137,7 +142,8 @@ impl<const SLOTS: usize> Red<SLOTS> {
     pub fn weakened(&mut self, joins: Option<u32>)
         requires look { IsLook (next self.old) }
         requires joins { IfSome joins (λ id. (1 ≤ id) × (id ≤ self.old.limit) × (has self.old.list id ≡ false)) }
-        ensures { self.new ≡ joined_by (moved SLOTS self.old) joins }
+        ensures moves { self.new ≡ joined_by (moved SLOTS self.old) joins }
+        ensures sound { IsWalk SLOTS self.new }
     {
         self.passed();
         if let Some(id) = joins {
@@ -148,14 +154,16 @@ impl<const SLOTS: usize> Red<SLOTS> {
     /// Takes the copy of the object that was asked for.
     pub fn scan(&mut self, id: u32, copy: Seen<SLOTS>)
         requires { next self.old ≡ RedAt.Copy id }
-        ensures { self.new ≡ copied self.old id (copy_of_seen copy.entry) }
+        ensures copied { self.new ≡ copied self.old id (copy_of_seen copy.entry) }
+        ensures sound { IsWalk SLOTS self.new }
     {
         let _ = self.copies.push(copy);
     }
 
     /// Marks the object as touched, where some object was copied and this one is in the round.
     pub fn touch(&mut self, id: u32)
-        ensures { self.new ≡ touched_at self.old id }
+        ensures touched { self.new ≡ touched_at self.old id }
+        ensures sound { IsWalk SLOTS self.new }
     {
         if !self.copies.is_empty() && self.holds(id) {
             self.touched[id as usize] = true;
@@ -164,7 +172,8 @@ impl<const SLOTS: usize> Red<SLOTS> {
 
     /// Takes an object out of the round that was freed. An id that isn't in the round changes nothing.
     pub fn remove(&mut self, id: u32)
-        ensures { self.new ≡ removed self.old id }
+        ensures removed { self.new ≡ removed self.old id }
+        ensures sound { IsWalk SLOTS self.new }
     {
         if self.holds(id) {
             self.freed[id as usize] = true;
@@ -200,7 +209,8 @@ impl<const SLOTS: usize> Red<SLOTS> {
 
     /// How many objects are in the round.
     pub fn len(&self) -> u32
-        ensures { result ≡ length self.now.left }
+        ensures length { result ≡ length self.now.left }
+        ensures few { result ≤ self.now.limit }
     {
         self.list.ids().len() as u32 - self.gone
     }

@@ -32,22 +32,6 @@ fn copy_next(red: &mut Red<6>) -> bool {
 }
 
 #[test]
-fn slots_are_looked_at_in_order(rt: HostRuntime) {
-    let mut red = Red::<6>::new(rt.alloc(), 8).expect(&rt, "room for eight ids");
-    assert_eq!(rt; red.at(), RedAt::Verdict);
-    red.start(3);
-    assert_eq!(rt; red.at(), RedAt::Look { id: 3, slot: 0 });
-    assert_eq!(rt; red.work_left(), 56);
-    red.weakened(Some(5));
-    assert_eq!(rt; red.at(), RedAt::Look { id: 3, slot: 1 });
-    red.weakened(None);
-    assert_eq!(rt; red.at(), RedAt::Look { id: 3, slot: 2 });
-    assert!(rt; red.holds(5));
-    assert!(rt; !red.holds(4));
-    assert_eq!(rt; red.len(), 2);
-}
-
-#[test]
 fn marks_count_from_the_first_copy_on(rt: HostRuntime) {
     let mut red = Red::<6>::new(rt.alloc(), 8).expect(&rt, "room for eight ids");
     red.start(3);
@@ -64,22 +48,4 @@ fn marks_count_from_the_first_copy_on(rt: HostRuntime) {
         red.touch(4);
         assert!(rt; red.list().len() == 1 && red.touched(0));
     }
-}
-
-#[test]
-fn what_is_freed_leaves_the_round(rt: HostRuntime) {
-    let mut red = Red::<6>::new(rt.alloc(), 8).expect(&rt, "room for eight ids");
-    red.start(8);
-    red.weakened(Some(1));
-    red.remove(8);
-    assert!(rt; !red.holds(8));
-    assert!(rt; red.holds(1));
-    assert_eq!(rt; red.place(8), Some(0));
-    assert_eq!(rt; red.len(), 1);
-    red.close();
-    assert!(rt; !red.holds(1));
-    assert_eq!(rt; red.len(), 0);
-    red.start(1);
-    assert!(rt; red.holds(1));
-    assert_eq!(rt; red.place(8), None);
 }

@@ -19,7 +19,7 @@ targets-requires g c = omega (arith, c.in-Some.ensures.found.0, c.requires.copie
 
 pub loop-next-preserved : goal.loop-next-preserved
 loop-next-preserved g c =
-    let sound = c.list-list.ensures.sound in
+    let sound = c.requires.walk in
     let kept = c.loop-next.invariant in
     let ids = c.ids-in-loop-next.ensures.ids in
     let early : c.loop-next.next < length c.loop-next.reached.ids = subst (λ xs. c.loop-next.next < length xs) c.ids.ensures.ids c.loop-next-test.true in
@@ -40,5 +40,5 @@ loop-next-preserved g c =
 
 pub returns-clause-all : goal.returns-clause-all
 returns-clause-all g c =
-    let sound = c.list-list.ensures.sound in
+    let sound = c.requires.walk in
     reached-all c.args.red.now (all-copied _ _ sound c.requires.copied) c.args.seeds.now c.loop-next.reached.ids c.loop-next.next c.loop-next.invariant.reached (grind (arith, c.ids.ensures.ids, c.loop-next-test.false))

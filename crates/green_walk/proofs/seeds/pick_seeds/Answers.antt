@@ -7,7 +7,7 @@ use Rattle.green_walk.proofs.seeds.pick_seeds.Goals.{then-is_seed, else-is_seed}
 
 pub loop-place-init : goal.loop-place-init
 loop-place-init g c = record {
-  picks = subst (λ (v : Ids). Picks (IsSeed c.args.red.now c.args.locks.now c.args.refs.now) [] v.ids) (sym c.clear.ensures) none;
+  picks = subst (λ (v : Ids). Picks (IsSeed c.args.red.now c.args.locks.now c.args.refs.now) [] v.ids) (sym c.clear.ensures.empty) none;
   limit = refl;
 }
 

@@ -6,7 +6,7 @@ use Rattle.green_walk.proofs.green.Green.begin_test.Goals as goal
 pub invariant_of-self : goal.invariant_of-self
 invariant_of-self g c =
     let k = c.self.invariant in
-    let same = c.self.view_is ∙ c.settle.ensures in
+    let same = c.self.view_is ∙ c.settle.ensures.settled in
     record {
       seeds_limit = k.seeds_limit;
       live_limit = k.live_limit;
@@ -14,6 +14,7 @@ invariant_of-self g c =
       copied_limit = k.copied_limit;
       most = k.most;
       few = k.few;
+      seeds_few = k.seeds_few;
       done_few = k.done_few;
       way = k.way;
       sound =

@@ -24,3 +24,6 @@ invariant_of-self g c =
             | else-slot v ↦ moves-within _ _ _ _ _ _ _ _ _ _ _ _ k c.args.place c.args.slot c.if-slot.self v.if-slot.false v.self-is
           ]))
     ]
+
+pub returns-clause-sound : goal.returns-clause-sound
+returns-clause-sound g c = (invariant_of-self g c).sound

@@ -15,8 +15,8 @@ invariant_of-self g c =
     (subst (λ at. AreInStep g.row.SLOTS i.limit i.seeds i.done i.live i.green at i.test i.walked i.changed i.current i.copied) c.in-Out.is c.self.invariant)
     end _ (ap length c.ids-then-place-ids.ensures.ids)
 
-pub returns-then-place-ids : goal.returns-then-place-ids
-returns-then-place-ids g c =
+pub returns-then-place-ids-clause-settled : goal.returns-then-place-ids-clause-settled
+returns-then-place-ids-clause-settled g c =
     let i = c.self.inside in
     let past = c.if-place-ids.true in
     let all = ap length c.ids.ensures.ids in
@@ -26,3 +26,6 @@ returns-then-place-ids g c =
     end _ (ap length c.ids-then-place-ids.ensures.ids)
     ∙ ap (λ at. settled_out (greening_of g.row.SLOTS i.limit i.seeds.ids i.done i.live.ids i.green.ids at i.test i.walked i.changed i.current i.copied.slots)) (sym c.in-Out.is)
     ∙ ap settled_out c.self.view_is
+
+pub returns-then-place-ids-clause-sound : goal.returns-then-place-ids-clause-sound
+returns-then-place-ids-clause-sound g c = (invariant_of-self g c).sound

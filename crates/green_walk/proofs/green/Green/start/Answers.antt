@@ -9,7 +9,7 @@ pub start-requires : goal.start-requires
 start-requires g c =
     let here : c.self.inside.limit ≡ c.args.self.now.limit = ap (λ (v : Greening). v.limit) c.self.view_is in
     let same : c.self.inside.limit ≡ c.args.red.now.limit = here ∙ sym c.requires.limit in
-    (search rules, (c.self.invariant.copied_limit ∙ same, (all-copied g.row.SLOTS c.args.red.now c.list-list.ensures.sound c.requires.at, (let most = c.self.invariant.most in let room = ap (λ n. n * g.row.SLOTS) same in omega (arith, most, room)))))
+    (search rules, (c.self.invariant.copied_limit ∙ same, (all-copied g.row.SLOTS c.args.red.now c.is_touched.ensures.sound c.requires.at, (let most = c.self.invariant.most in let room = ap (λ n. n * g.row.SLOTS) same in omega (arith, most, room)))))
 
 pub invariant_of-self : goal.invariant_of-self
 invariant_of-self g c =
@@ -19,13 +19,13 @@ invariant_of-self g c =
     start-in-step g.row.SLOTS c.self.inside.limit c.args.verdict.now c.take_over.new.list c.take_over-2.new.list c.clear.new.self c.start.new.self _
     (ap (λ (i : Ids). i.limit) c.take_over.ensures ∙ k.seeds_limit)
     (ap (λ (i : Ids). i.limit) c.take_over-2.ensures ∙ k.live_limit)
-    (ap (λ (i : Ids). i.limit) c.clear.ensures ∙ k.green_limit)
+    (ap (λ (i : Ids). i.limit) c.clear.ensures.empty ∙ k.green_limit)
     (ap (λ (s : SlotList). s.limit) c.start.ensures.slots ∙ k.copied_limit)
     (ap (λ (s : SlotList). s.most) c.start.ensures.slots ∙ k.most)
     k.few
     (ap (λ (i : Ids). i.ids) c.take_over.ensures ∙ c.seeds.ensures.ids)
     (ap (λ (i : Ids). i.ids) c.take_over-2.ensures ∙ c.live.ensures.ids)
-    (ap (λ (i : Ids). i.ids) c.clear.ensures)
+    (ap (λ (i : Ids). i.ids) c.clear.ensures.empty)
     k.sound.slot_count
     c.live.ensures.sound
     c.seeds.ensures.sound
@@ -33,3 +33,6 @@ invariant_of-self g c =
     c.requires.seeds
     (let few = c.start.ensures.few in omega (arith, few, room))
     c.start.ensures.within
+
+pub returns-clause-sound : goal.returns-clause-sound
+returns-clause-sound g c = (invariant_of-self g c).sound

@@ -1,7 +1,7 @@
 use Rattle.std.proofs.Common.{length, get_or, arith, sym, ap, ◌∙◌, subst, lit<}
 use Rattle.std.specs.Prelude.{Contains}
 use Rattle.red_walk.specs.Ids.{IsIdList}
-use Rattle.green_walk.specs.Judged.{Judged, IsSeed}
+use Rattle.green_walk.specs.Judged.{Judged, IsSeed, Picks}
 use Rattle.green_walk.proofs.PicksLaws.{picks-from}
 use Rattle.green_walk.proofs.SeedLaws.{all-copied, whole-copied}
 use Rattle.green_walk.proofs.DecideLaws.{live-picks, condemned-picks}
@@ -42,12 +42,15 @@ reach-requires g c =
     let ids = c.ids.ensures.ids in (
       lit< tt,
       (
-        c.self.invariant.reached_room ∙ limit,
+        sound,
         (
-          subst (λ xs. IsIdList xs c.args.red.now.limit) (sym ids) (subst (λ n. IsIdList c.pick_seeds.new.seeds.ids n) (c.pick_seeds.ensures.limit ∙ limit) c.ids.ensures.sound),
+          c.self.invariant.reached_room ∙ limit,
           (
-            λ id m. (picks-from (IsSeed c.args.red.now c.args.locks.now c.args.refs.now) c.pick_seeds.ensures.picks id (subst (λ xs. Contains xs id) ids m)).0,
-            whole-copied _ _ sound c.requires.at,
+            subst (λ xs. IsIdList xs c.args.red.now.limit) (sym ids) (subst (λ n. IsIdList c.pick_seeds.new.seeds.ids n) (c.pick_seeds.ensures.limit ∙ limit) c.ids.ensures.sound),
+            (
+              λ id m. (picks-from (IsSeed c.args.red.now c.args.locks.now c.args.refs.now) c.pick_seeds.ensures.picks id (subst (λ xs. Contains xs id) ids m)).0,
+              whole-copied _ _ sound c.requires.at,
+            ),
           ),
         ),
       ),
@@ -56,9 +59,9 @@ reach-requires g c =
 pub returns-clause-live : goal.returns-clause-live
 returns-clause-live g c =
     let sound = c.list-list.ensures.sound in
-    live-picks c.args.red.now (IsSeed c.args.red.now c.args.locks.now c.args.refs.now) (all-copied _ _ sound (whole-copied _ _ sound c.requires.at)) _ _ _ c.ids.ensures.ids c.pick_seeds.ensures.picks c.reach.ensures.only c.reach.ensures.all _ c.part.ensures.live
+    live-picks c.args.red.now (IsSeed c.args.red.now c.args.locks.now c.args.refs.now) (all-copied _ _ sound (whole-copied _ _ sound c.requires.at)) _ _ _ c.ids.ensures.ids c.pick_seeds.ensures.picks c.reach.ensures.only c.reach.ensures.all _ (subst (λ xs. Picks (Contains c.reach.new.reached.ids) xs c.part.new.live.ids) c.list-list.ensures.ids c.part.ensures.live)
 
 pub returns-clause-condemned : goal.returns-clause-condemned
 returns-clause-condemned g c =
     let sound = c.list-list.ensures.sound in
-    condemned-picks c.args.red.now (IsSeed c.args.red.now c.args.locks.now c.args.refs.now) (all-copied _ _ sound (whole-copied _ _ sound c.requires.at)) _ _ _ c.ids.ensures.ids c.pick_seeds.ensures.picks c.reach.ensures.only c.reach.ensures.all _ c.part.ensures.condemned
+    condemned-picks c.args.red.now (IsSeed c.args.red.now c.args.locks.now c.args.refs.now) (all-copied _ _ sound (whole-copied _ _ sound c.requires.at)) _ _ _ c.ids.ensures.ids c.pick_seeds.ensures.picks c.reach.ensures.only c.reach.ensures.all _ (subst (λ xs. Picks (λ id. Contains c.reach.new.reached.ids id → ⊥) xs c.part.new.condemned.ids) c.list-list.ensures.ids c.part.ensures.condemned)
