@@ -6,6 +6,7 @@ use Rattle.plain_model.specs.declared.calls.Reply.{Reply}
 use Rattle.plain_model.specs.declared.calls.Entry.TheVariants.{Call}
 use Rattle.plain_model.specs.Machine.{step, transaction_of}
 use Rattle.plain_model.specs.History.{end_of}
+use Rattle.log_record.specs.Spelling.{IsPass}
 use Rattle.log_record.specs.declared.cell_record.CellRecord.{CellRecord}
 use Rattle.core_store.specs.declared.journal.Journal.TheInside.{Inside}
 use Rattle.core_store.specs.declared.three.HeldFrame.{HeldFrame}
@@ -24,7 +25,7 @@ use Rattle.core_store.proofs.JournalLaws.{Happens}
 use Rattle.core_store.proofs.JournalSteps.{Grows, HasGrown, has-grown}
 
 module _ {slots : ℕ} (a b : Inside slots) (now : JournalView) (held new : List (HeldFrame slots)) (pass : ℕ) (call : TransactionCall) (reply : Reply) (logged : Option CellRecord) (left : ℕ) (s : IsSound a) (is : view_of a ≡ now) (agree : Agree (cells_of now) held)
-    (g : Grows a b (client_note (Call pass call reply) logged left)) (performs : Performs slots (tables_of a.tables) (tables_of b.tables) held new pass call reply logged) (out : call ≡ Abort → transaction_of (end_of now.history).state pass ≡ None)
+    (g : Grows a b (client_note (Call pass call reply) logged left)) (performs : Performs slots (tables_of a.tables) (tables_of b.tables) held new pass call reply logged) (numbered : IsPass pass) (out : call ≡ Abort → transaction_of (end_of now.history).state pass ≡ None)
     (within : is_past_limit now (entries_needed call) ≡ false) (more : b.tables.owed + 1 ≤ a.tables.owed + entries_needed call) where
   answers : Answers slots (tables_of a.tables) (tables_of b.tables) (core_of (view_of a)) held new pass call reply logged
   answers = performs (core_of (view_of a)) s.keeps.stands (subst (λ (j : JournalView). Agree (cells_of j) held) (sym is) agree)
@@ -33,7 +34,7 @@ module _ {slots : ℕ} (a b : Inside slots) (now : JournalView) (held new : List
   happens =
       let none = subst (λ (j : JournalView). call ≡ Abort → transaction_of (end_of j.history).state pass ≡ None) (sym is) out in
       let few = ap (λ (j : JournalView). is_past_limit j (entries_needed call)) is ∙ within in
-      happens-call (view_of a) (tables_of a.tables) (tables_of b.tables) held new pass call reply logged left s.keeps answers none (counted-within (view_of a) (tables_of a.tables) (tables_of b.tables) (entries_needed call) s.keeps few more)
+      happens-call (view_of a) (tables_of a.tables) (tables_of b.tables) held new pass call reply logged left s.keeps answers numbered none (counted-within (view_of a) (tables_of a.tables) (tables_of b.tables) (entries_needed call) s.keeps few more)
 
   pub called : HasGrown b now held new (client_note (Call pass call reply) logged left) (after_event slots (core_of now) (Call pass call reply) logged)
   called =

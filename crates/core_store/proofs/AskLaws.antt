@@ -10,6 +10,7 @@ use Rattle.std.proofs.lemmas.List.{length-map, append-nil}
 use Rattle.core_store.specs.declared.journal.Journal.TheInside.{Inside}
 use Rattle.core_store.specs.declared.note.Note.{Note}
 use Rattle.core_store.specs.declared.three.HeldFrame.{HeldFrame}
+use Rattle.core_store.specs.declared.trace.Trace.{Trace}
 use Rattle.core_store.specs.declared.want.Want.TheVariants.{Ready}
 use Rattle.core_store.specs.Collecting.{CanCollect, pages_to_collect}
 use Rattle.core_store.specs.Frames.{Agree, is_held, pages_held, page_of_id}
@@ -58,16 +59,31 @@ Keeps-marked j v needed k past few = record {
   bounded = k.bounded;
   entries = k.entries;
   consistent = k.consistent;
-  fit = k.fit;
   laid = k.laid;
   stands = k.stands;
   led = k.led;
+  safe = k.safe;
+  numbered = k.numbered;
+  spelled = k.spelled;
+  of_ids = k.of_ids;
+  red = k.red;
+  walked = k.walked;
   left = k.left;
   limits = k.limits;
   counted = k.counted;
   full = λ e. was-full j v needed k past few;
   unmarked = k.unmarked;
 }
+
+pub sound-marked : {slots : ℕ} (a : Inside slots) (t : Trace) (now : JournalView) (needed : ℕ) → IsSound a → view_of a ≡ now → t ≡ record a.trace { marks = record a.trace.marks { trace = true } } → is_past_limit now needed ≡ true → needed ≤ 2
+    → IsSound (record { alloc = a.alloc; opening = a.opening; trace = t; tables = a.tables })
+sound-marked {slots} a t now needed s is marked past few =
+    subst (λ (x : Trace). let b : Inside slots = record { alloc = a.alloc; opening = a.opening; trace = x; tables = a.tables } in IsSound b) (sym marked)
+    (record {
+      keeps = Keeps-marked (view_of a) (tables_of a.tables) needed s.keeps (ap (λ (j : JournalView). is_past_limit j needed) is ∙ past) few;
+      placed = s.placed;
+      room = s.room;
+    })
 
 -- ---- what a call asks for
 

@@ -13,7 +13,7 @@ use Rattle.plain_model.specs.History.{next}
 use Rattle.plain_laws.proofs.Ids.{test_same}
 use Rattle.plain_laws.proofs.Locks.{transaction_of-with_same, transaction_of-with_other}
 use Rattle.log_record.specs.declared.cell_record.CellRecord.TheVariants as logs
-use Rattle.store_model.specs.Cells.{Cell}
+use Rattle.cell_model.specs.Cells.{Cell}
 use Rattle.store_model.proofs.CallLaws.{call-begun}
 use Rattle.store_model.specs.Core.{Core}
 use Rattle.store_model.specs.Sound.{IsSound}

@@ -2,10 +2,10 @@
 use Rattle.std.proofs.Common.{◌≡◌, ◌≢◌, ℕ, ◌<◌, ◌≤◌, arith, length, get_or, List, ◌∷◌, Bool, true, false, not, None, Some, refl, sym, ap, ◌∙◌, subst, inl, inr, ◌⊎◌}
 use Rattle.std.specs.Prelude.{◌==◌, ◌&&◌, Contains}
 use Rattle.std.proofs.lemmas.Bool.{eqb-false}
-use Rattle.store_model.specs.Cells.{cell_at, is_live}
+use Rattle.cell_model.specs.Cells.{cell_at, is_live}
 use Rattle.store_model.specs.Core.{Core, is_named}
 use Rattle.store_model.specs.Steps.{opened_round, after_look}
-use Rattle.store_model.proofs.EditLaws.{live-there, live-within}
+use Rattle.cell_model.proofs.EditLaws.{live-there, live-within}
 use Rattle.store_model.proofs.Lists.{Contains-here}
 use Rattle.store_model.proofs.CollectSound.{skip-sound, start-sound}
 use Rattle.red_walk.specs.Walk.{opened}
@@ -37,9 +37,9 @@ module _ (slots : ℕ) (v : TablesView) (c : Core) (id : ℕ) (rest : List ℕ) 
 
   pub first-within : (1 ≤ id) × (id ≤ v.ids)
   first-within =
-      let some = live-there c.cells id h.sound.exact.none first-live in
+      let some = live-there c.cells id h.sound.consistent.exact.none first-live in
       let within = live-within c.cells id first-live in
-      let long = h.sound.sized in
+      let long = h.sound.consistent.sized in
       let ids = h.ids in
       (omega (arith, some), omega (arith, within, long, ids))
 

@@ -9,7 +9,7 @@ use Rattle.plain_model.specs.ActiveTransaction.{ActiveTransaction}
 use Rattle.plain_model.specs.Machine.{State, transaction_of, is_among}
 use Rattle.plain_laws.proofs.Entries.{same_or_apart}
 use Rattle.strict_locks.specs.Locks.{holders_of, is_owner, is_sharer}
-use Rattle.store_model.specs.Cells.{is_live}
+use Rattle.cell_model.specs.Cells.{is_live}
 use Rattle.store_model.specs.Core.{Core}
 use Rattle.store_model.specs.Sound.{IsSound}
 use Rattle.core_store.specs.Changes.{has_no_strong}

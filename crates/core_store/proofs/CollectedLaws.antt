@@ -1,8 +1,8 @@
 -- What tables stand for after an event of the collector that frees nothing.
 use Rattle.std.proofs.Common.{◌≡◌, ℕ, ◌+◌, ◌<◌, ◌==◌, if◌then◌else◌, IfSome, sym, subst, List, length, get_or, map, Bool, true, false, ap, ◌∙◌, Option, None, refl}
 use Rattle.std.proofs.lemmas.List.{get_or-map, length-map}
-use Rattle.store_model.specs.Cells.{Cell, blank_cell, cell_at, is_live}
-use Rattle.store_model.proofs.EditLaws.{live-within}
+use Rattle.cell_model.specs.Cells.{Cell, blank_cell, cell_at, is_live}
+use Rattle.cell_model.proofs.EditLaws.{live-within}
 use Rattle.store_model.specs.Core.{Round, Core}
 use Rattle.store_model.specs.Sound.{IsSound}
 use Rattle.store_model.specs.Steps.{after_look, after_collect}

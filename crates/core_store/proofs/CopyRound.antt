@@ -5,7 +5,7 @@ use Rattle.std.proofs.lemmas.List.{take-append-drop}
 use Rattle.cell_page.specs.declared.cell.Cell.{Cell as HeldCell}
 use Rattle.cell_page.specs.declared.cell.Seen.{Seen}
 use Rattle.cell_page.specs.Stored.{cell_of}
-use Rattle.store_model.specs.Cells.{Cell, cell_at}
+use Rattle.cell_model.specs.Cells.{Cell, cell_at}
 use Rattle.store_model.specs.Core.{Copy, Round, Core}
 use Rattle.store_model.specs.Steps.{with_copy, after_look}
 use Rattle.store_model.proofs.CollectSound.{copy-sound}

@@ -4,13 +4,13 @@ use Rattle.std.specs.Prelude.{◌==◌, ◌&&◌, Contains, Option, if◌then◌
 use Rattle.std.specs.Option.{option_map_or}
 use Rattle.std.proofs.lemmas.Bool.{and_parts, and_cases, and_right, not-true, not-false, eqb-false, cases_eq, cases_Bool}
 use Rattle.plain_model.specs.Graphs.{root}
-use Rattle.store_model.specs.Cells.{Pointer, Cell, null, cell_at, pointer_at, is_live, is_strong, same, relinked, hits, counted}
-use Rattle.store_model.specs.Records.{CutDead as CutDeadRecord, HasPointer, Fits}
+use Rattle.cell_model.specs.Cells.{Pointer, Cell, null, cell_at, pointer_at, is_live, is_strong, same, relinked, hits, counted}
+use Rattle.cell_model.specs.Records.{CutDead as CutDeadRecord, HasPointer, Fits}
 use Rattle.store_model.specs.Core.{Round, Core, is_named}
 use Rattle.store_model.specs.Sound.{IsSound}
 use Rattle.store_model.specs.Steps.{IsQuiet, IsTracked, after_collect}
-use Rattle.store_model.proofs.CountLaws.{relinked-live, relinked-bit, relinked-length, relinked-slot, relinked-counted, relinked-which}
-use Rattle.store_model.proofs.EditLaws.{live-there, live-within}
+use Rattle.cell_model.proofs.CountLaws.{relinked-live, relinked-bit, relinked-length, relinked-slot, relinked-counted, relinked-which}
+use Rattle.cell_model.proofs.EditLaws.{live-there, live-within}
 use Rattle.store_model.proofs.StoreSound.{same-self}
 use Rattle.store_model.proofs.WalkSound.{cut-sound, cut_joins-sound}
 use Rattle.ref_tables.specs.Queue.{has, joined}
@@ -159,7 +159,7 @@ module _ {slots : ℕ} {v : TablesView} {c : Core} {held new : List (HeldFrame s
   cut-within = one-live h target (live-id h target target-live)
 
   some-id : id ≢ 0
-  some-id = live-there c.cells id h.sound.exact.none k.live
+  some-id = live-there c.cells id h.sound.consistent.exact.none k.live
 
   module _ (w : Walk) (s : Sweep) (g : Greening) (is : v.round ≡ Sweeping w s slot g) (at : next_of_sweep s ≡ sweep.Slots id) where
     sweeping : IsSweeping slots v.ids w s slot g
@@ -258,7 +258,7 @@ module _ {slots : ℕ} {v : TablesView} {c : Core} {held new : List (HeldFrame s
           after = refl;
           collects = record { of = swept w s; there = there; behind = refl; condemned = condemned; queue_is = refl; round_is = there };
           stands = Stands-collected slots v c later queue c.round marks (next_slot slots w s slot g) h sound (relinked-live c.cells id slot null) (k.changed.marks_are h.zeros) (round-next_slot slots w s slot g id at ∙ sym there) step
-              (emptied-later (sound.slotted id (relinked-live c.cells id slot null id ∙ k.live) ∙ h.slots_are))
+              (emptied-later (sound.consistent.slotted id (relinked-live c.cells id slot null id ∙ k.live) ∙ h.slots_are))
               (tested-next_slot slots later w s slot g (rests-at_slots slots v.ids w s g id sweeping.greens at));
         }
 

@@ -5,10 +5,10 @@ use Rattle.std.specs.Option.{option_map_or}
 use Rattle.std.proofs.lemmas.List.{get_or-drop, get_or_default, length-drop}
 use Rattle.plain_model.specs.ActiveTransaction.{ActiveTransaction}
 use Rattle.plain_model.specs.History.{holds}
-use Rattle.store_model.specs.Cells.{Cell, Pointer, pointer_at, relinked}
+use Rattle.cell_model.specs.Cells.{Cell, Pointer, pointer_at, relinked}
 use Rattle.store_model.specs.Core.{Round, Core, IsActive}
 use Rattle.store_model.specs.Sound.{condemned_of, IsSound}
-use Rattle.store_model.proofs.CountLaws.{relinked-other}
+use Rattle.cell_model.proofs.CountLaws.{relinked-other}
 use Rattle.green_walk.specs.Sweeping.{unfreed}
 use Rattle.core_store.specs.RoundView.{RoundView, Closed, Walking, Sweeping, round_of, touched_in, IsInStep}
 use Rattle.core_store.specs.Stands.{IsEmptied, IsTested}

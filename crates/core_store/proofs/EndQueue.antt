@@ -11,7 +11,7 @@ use Rattle.plain_model.specs.Graphs.{root}
 use Rattle.ref_tables.specs.Queue.{has}
 use Rattle.red_walk.proofs.Members.{Contains-has, has-Contains, absent}
 use Rattle.red_walk.proofs.Filters.{filter-same, filter-passes, among-filter, once-filter, filter-among}
-use Rattle.store_model.specs.Cells.{blank_cell, cell_at, is_live}
+use Rattle.cell_model.specs.Cells.{blank_cell, cell_at, is_live}
 use Rattle.store_model.specs.Core.{Ref, Round, Core, names, is_named}
 use Rattle.store_model.specs.Sound.{by_name, by_pass, start, in_round, IsSound}
 use Rattle.store_model.specs.Steps.{references_left, IsQueueLeft, Joins}
@@ -98,10 +98,10 @@ named-live c s p id h =
 
 module _ (slots : ℕ) (v : TablesView) (c : Core) (h : Stands slots v c) where
   pub marks-sized : length v.zeros ≡ v.ids + 1
-  marks-sized = let n = ap length h.zeros ∙ length-map c.cells has_no_strong in let k = h.sound.sized in let i = h.ids in omega (arith, n, k, i)
+  marks-sized = let n = ap length h.zeros ∙ length-map c.cells has_no_strong in let k = h.sound.consistent.sized in let i = h.ids in omega (arith, n, k, i)
 
   pub mark-at : (id : ℕ) → is_live c.cells id ≡ true → get_or v.zeros id false ≡ has_no_strong (cell_at c.cells id)
-  mark-at id live = ap (λ zs. get_or zs id false) h.zeros ∙ get_or-map has_no_strong c.cells id (blank_cell false 0) false (let l = (live-id h id live).within in let k = h.sound.sized in omega (arith, l, k))
+  mark-at id live = ap (λ zs. get_or zs id false) h.zeros ∙ get_or-map has_no_strong c.cells id (blank_cell false 0) false (let l = (live-id h id live).within in let k = h.sound.consistent.sized in omega (arith, l, k))
 
   pub not-free : (id : ℕ) → is_live c.cells id ≡ true → list_any (is_at (nat_cmp id)) v.free ≡ false
   not-free id live = h.free id ∙ (ap (λ b. nat_lt 0 id && nat_le id c.moment.state.ids && not b) (h.sound.stored id ∙ live) ∙ none (nat_lt 0 id) (nat_le id c.moment.state.ids))

@@ -10,7 +10,7 @@ use Rattle.red_walk.proofs.Filters.{filter-same, filter-both, among-filter, once
 use Rattle.green_walk.specs.declared.sweep.SweepAt.TheVariants as sweep
 use Rattle.green_walk.specs.Sweeping.{Sweeping as Sweep, next, unfreed}
 use Rattle.green_walk.specs.Greening.{Greening}
-use Rattle.store_model.specs.Cells.{cell_at}
+use Rattle.cell_model.specs.Cells.{cell_at}
 use Rattle.store_model.specs.Core.{Core, Round, is_named}
 use Rattle.store_model.specs.Sound.{in_round, IsSound}
 use Rattle.store_model.specs.Steps.{after_look}

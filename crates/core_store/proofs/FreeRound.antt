@@ -15,17 +15,17 @@ use Rattle.plain_model.specs.Machine.{transaction_of, is_stored}
 use Rattle.plain_model.specs.History.{holds, next, after_delete}
 use Rattle.plain_laws.proofs.Ids.{at_eq}
 use Rattle.plain_laws.proofs.Locks.{stored-remove}
-use Rattle.store_model.specs.Cells.{Cell, blank_cell, cell_at, pointer_in, pointer_at, is_live, edit, pointers_to, own_strong}
-use Rattle.store_model.specs.Records.{Free, Fits, HasNoPointer}
+use Rattle.cell_model.specs.Cells.{Cell, blank_cell, cell_at, pointer_in, pointer_at, is_live, edit, pointers_to, own_strong}
+use Rattle.cell_model.specs.Records.{Free, Fits, HasNoPointer}
 use Rattle.store_model.specs.Core.{Round, Core, names}
 use Rattle.store_model.specs.Sound.{condemned_of, IsOnce, IsSound}
 use Rattle.store_model.specs.Steps.{after_free}
 use Rattle.store_model.proofs.DeletionLaws.{unnamed}
-use Rattle.store_model.proofs.EditLaws.{live-there, live-within, edit-here, edit-other}
+use Rattle.cell_model.proofs.EditLaws.{live-there, live-within, edit-here, edit-other}
 use Rattle.store_model.proofs.EndLaws.{transaction-active}
 use Rattle.store_model.proofs.FreeSound.{free-sound}
 use Rattle.store_model.proofs.MomentSound.{delete-earlier}
-use Rattle.store_model.proofs.RecordLaws.{pointers_to-none, blank-target}
+use Rattle.cell_model.proofs.RecordLaws.{pointers_to-none, blank-target}
 use Rattle.store_model.proofs.CollectSound.{list-is, condemned-is}
 use Rattle.red_walk.specs.Walk.{Walk, removed}
 use Rattle.red_walk.specs.Rounds.{round_of as walked}
@@ -145,7 +145,7 @@ module _ (slots : ℕ) (v : TablesView) (c : Core) (h : Stands slots v c) (w : W
   freed-live = h.sound.condemned.live id freed-condemned
 
   some : id ≢ 0
-  some = live-there c.cells id h.sound.exact.none freed-live
+  some = live-there c.cells id h.sound.consistent.exact.none freed-live
 
   within : id < length c.cells
   within = live-within c.cells id freed-live
@@ -164,13 +164,13 @@ module _ (slots : ℕ) (v : TablesView) (c : Core) (h : Stands slots v c) (w : W
 
   strong-none : (cell_at c.cells id).strong ≡ 0
   strong-none =
-      let counts = (h.sound.exact.counts id freed-live).strong in
+      let counts = (h.sound.consistent.exact.counts id freed-live).strong in
       let none = none-to (cell_at c.cells id).bit in
       let own : own_strong id ≡ 0 = ap (λ b. cond b 1 0) (ne_eqb id 1 (h.sound.condemned.not_root id freed-condemned)) in
       omega (arith, counts, none, own)
 
   pub freed-fits : Fits c.cells (Free id)
-  freed-fits = (freed-live, h.sound.condemned.not_root id freed-condemned, all-emptied id chosen, strong-none, (h.sound.exact.counts id freed-live).weak ∙ none-to (not (cell_at c.cells id).bit))
+  freed-fits = (freed-live, h.sound.condemned.not_root id freed-condemned, all-emptied id chosen, strong-none, (h.sound.consistent.exact.counts id freed-live).weak ∙ none-to (not (cell_at c.cells id).bit))
 
   -- ---- what transactions replaced
 
@@ -219,7 +219,7 @@ module _ (slots : ℕ) (v : TablesView) (c : Core) (h : Stands slots v c) (w : W
 
     free-is : (k : ℕ) → list_any (is_at (nat_cmp k)) ids ≡ is_free (after_delete c.moment.state id) k
     free-is k =
-        let size = h.sound.sized in
+        let size = h.sound.consistent.sized in
         joined k
         ∙ (free-joined k id c.moment.state.ids (list_any (is_at (nat_cmp k)) v.free) (is_stored c.moment.state.stored k) (nonzero-above id some) (omega (arith, size, within)) (h.free k)
         ∙ ap (λ b. (nat_lt 0 k && nat_le k c.moment.state.ids) && not b) (sym (stored-remove c.moment.state.stored id k h.sound.state.ascend)))

@@ -2,6 +2,7 @@
 use Rattle.std.proofs.Common.{◌≡◌, ◌≢◌, ℕ, suc, ◌-◌, ◌*◌, ◌<◌, ◌≤◌, List, [], ◌∷◌, true, false, refl, sym, ap, ◌∙◌, subst, Some, None, arith, map, ne_eqb, ⊎_elim}
 use Rattle.std.specs.Prelude.{◌==◌}
 use Rattle.std.specs.List.{flat_map}
+use Rattle.std.proofs.lemmas.List.Elements.{All-nil}
 use Rattle.plain_model.specs.declared.object.Object.{Object}
 use Rattle.plain_model.specs.Graphs.{root, blank, has_object}
 use Rattle.plain_model.specs.History.{IsId}
@@ -9,17 +10,23 @@ use Rattle.plain_laws.proofs.Entries.{same_or_apart}
 use Rattle.plain_laws.proofs.Legal.{sound-root_proof}
 use Rattle.strict_locks.specs.Locks.{holders_of, is_owner, is_sharer}
 use Rattle.cell_page.specs.Format.{IsSlotCount}
-use Rattle.store_model.specs.Cells.{Cell}
+use Rattle.cell_model.specs.Cells.{Cell}
+use Rattle.cell_page.specs.declared.cell.Cell.{Cell as PageCell}
 use Rattle.store_model.specs.Fresh.{fresh_cells, fresh_core}
-use Rattle.store_model.proofs.FreshSound.{fresh-cells_sound, fresh-sound}
+use Rattle.store_model.proofs.FreshSound.{fresh-sound}
 use Rattle.core_store.specs.declared.frame.Frame.{Frame}
 use Rattle.core_store.specs.declared.limits.Limits.{Limits}
 use Rattle.core_store.specs.declared.marks.Marks.{Marks}
 use Rattle.core_store.specs.declared.note.Note.{Note}
-use Rattle.core_store.specs.Fresh.{fresh_history, store_of, graph_of, AreFresh}
-use Rattle.core_store.specs.JournalView.{JournalView}
+use Rattle.core_store.specs.declared.trace.Trace.{Trace}
+use Rattle.cell_model.specs.Graph.{graph_of}
+use Rattle.restart_laws.proofs.RestartableLaws.{starts}
+use Rattle.core_store.specs.Fresh.{fresh_history, store_of, AreFresh}
+use Rattle.core_store.specs.JournalView.{JournalView, core_of, opening_of}
 use Rattle.core_store.specs.Journal.{Keeps}
 use Rattle.core_store.specs.Tables.{TablesView}
+use Rattle.core_store.specs.RedWalks.{no_walk}
+use Rattle.core_store.specs.RedCursor.{IsRedWalk}
 use Rattle.core_store.specs.Limited.{AreLimits}
 use Rattle.core_store.specs.RoundView.{RoundView, Closed, round_of, IsInStep}
 use Rattle.core_store.specs.Transactions.{Running, running_at}
@@ -77,11 +84,16 @@ fresh-keeps slots more limits v count few limited f = record {
   opened = sound-root_proof slots;
   bounded = λ id e. root-alone slots (suc more) id (omega arith) e;
   entries = refl;
-  consistent = (fresh-cells_sound slots more).consistent;
-  fit = tt;
+  consistent = (fresh-sound slots more).consistent;
   laid = tt;
   stands = fresh-stands slots more v count few f;
   led = refl;
+  safe = starts (opening_of (fresh_view slots more limits)) (core_of (fresh_view slots more limits)) (fresh-sound slots more) refl refl refl;
+  numbered = λ pass active. absurd (cc);
+  spelled = All-nil _;
+  of_ids = All-nil _;
+  red = subst (λ (r : RoundView). IsRedWalk (fresh_cells slots more) no_walk r) (sym f.round) refl;
+  walked = tt;
   left = omega arith;
   limits = limited;
   counted = omega arith;
@@ -93,6 +105,12 @@ fresh-keeps slots more limits v count few limited f = record {
 abbrev pub seen_of : ℕ → ℕ → List Cell → List Note → Limits → List ℕ → RoundView → JournalView
 seen_of slots ids cells notes limits queue round =
     record { history = record { ids = ids; slots = slots; opening = graph_of cells; entries = map (λ n. n.entry) notes }; opening = cells; notes = notes; limits = limits; marks = no_marks; queue = queue; round = round }
+
+-- a trace with these limits and no marks is seen so
+pub trace-new : {slots : ℕ} (ids : ℕ) (cells : List (PageCell slots)) (t : Trace) (limits : Limits) (queue : List ℕ) (round : RoundView) → t.limits ≡ limits → t.marks ≡ no_marks
+    → (let j : JournalView = record { history = record { ids = ids; slots = slots; opening = graph_of (store_of cells); entries = map (λ n. n.entry) t.notes.items }; opening = store_of cells; notes = t.notes.items; limits = t.limits; marks = t.marks; queue = queue; round = round } in j)
+    ≡ seen_of slots ids (store_of cells) t.notes.items limits queue round
+trace-new ids cells t limits queue round l m = cc
 
 -- the journal over the cells of fresh frames
 module _ {slots : ℕ} (pages : ℕ) (frames : List (Frame slots)) (fresh : AreFresh pages frames) (above : 0 < pages) where

@@ -11,7 +11,7 @@ use Rattle.std.proofs.lemmas.List.Concat.{flat_map-cons}
 use Rattle.std.proofs.lemmas.Option.{slice_get_cases, get_or_from_slice_get}
 use Rattle.plain_model.specs.declared.object.Object.{Object}
 use Rattle.plain_model.specs.Graphs.{root, blank}
-use Rattle.store_model.specs.Cells.{Pointer, Cell as StoredCell, blank_cell, object_of}
+use Rattle.cell_model.specs.Cells.{Pointer, Cell as StoredCell, blank_cell, object_of}
 use Rattle.store_model.specs.Fresh.{fresh_root, fresh_cells, fresh_moment}
 use Rattle.store_model.proofs.StepLaws.{cmp-above}
 use Rattle.store_model.proofs.MakeLaws.{blank-object}
@@ -20,7 +20,8 @@ use Rattle.cell_page.specs.Format.{IsPage, first_id, free_cell, fresh_cell, fres
 use Rattle.cell_page.specs.Stored.{cell_of, HoldsPage}
 use Rattle.cell_page.proofs.PointerLemmas.{pointers_from-replicate}
 use Rattle.core_store.specs.declared.frame.Frame.{Frame}
-use Rattle.core_store.specs.Fresh.{AreFresh, store_of, graph_from, graph_of}
+use Rattle.cell_model.specs.Graph.{graph_from, graph_of}
+use Rattle.core_store.specs.Fresh.{AreFresh, store_of}
 use Rattle.core_store.specs.Frames.{AllAgree}
 use Rattle.core_store.specs.Changes.{has_no_strong}
 use Rattle.core_store.specs.Stands.{is_free}

@@ -1,6 +1,6 @@
 -- What the calls leave that make the events of the green walk.
 use Rattle.std.proofs.Common.{◌≡◌, ℕ, List, Bool, true, Some, sym, subst}
-use Rattle.store_model.specs.Cells.{pointer_at}
+use Rattle.cell_model.specs.Cells.{pointer_at}
 use Rattle.store_model.specs.Core.{Core}
 use Rattle.red_walk.specs.Walk.{Walk}
 use Rattle.green_walk.specs.declared.sweep.SweepAt.TheVariants as sweep

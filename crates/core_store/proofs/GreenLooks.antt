@@ -2,7 +2,7 @@
 use Rattle.std.proofs.Common.{◌≡◌, ℕ, ◌<◌, ◌≤◌, List, Bool, true, false, refl, sym, ap, ◌∙◌, subst, arith, IfSome, ⊎_elim}
 use Rattle.std.specs.Prelude.{◌&&◌, ◌+◌, if◌then◌else◌, Contains, Option, Some, None}
 use Rattle.std.proofs.lemmas.Bool.{cases_lt}
-use Rattle.store_model.specs.Cells.{Cell, cell_at, pointer_at}
+use Rattle.cell_model.specs.Cells.{Cell, cell_at, pointer_at}
 use Rattle.red_walk.specs.Walk.{Walk}
 use Rattle.green_walk.specs.declared.sweep.SweepAt.TheVariants as sweep
 use Rattle.green_walk.specs.declared.sweep.Found.{Found}

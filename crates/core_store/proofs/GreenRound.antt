@@ -4,16 +4,16 @@ use Rattle.std.specs.Prelude.{◌==◌, ◌&&◌, Contains, Option}
 use Rattle.std.specs.Option.{option_map_or}
 use Rattle.std.proofs.lemmas.Bool.{and_parts, eqb-true, cases_lt}
 use Rattle.std.proofs.lemmas.List.{get_or_past}
-use Rattle.store_model.specs.Cells.{Pointer, Cell, null, cell_at, pointer_at, is_live, is_strong, same, counted, edit, relinked, other_strength, flipped}
-use Rattle.store_model.specs.Records.{HasPointer, Fits, IsWellLaid, Flip as FlipRecord, Weaken as WeakenRecord, Strengthen as StrengthenRecord}
-use Rattle.store_model.specs.Strong.{HasNoStrongOut}
+use Rattle.cell_model.specs.Cells.{Pointer, Cell, null, cell_at, pointer_at, is_live, is_strong, same, counted, edit, relinked, other_strength, flipped}
+use Rattle.cell_model.specs.Records.{HasPointer, Fits, IsWellLaid, Flip as FlipRecord, Weaken as WeakenRecord, Strengthen as StrengthenRecord}
+use Rattle.cell_model.specs.Strong.{HasNoStrongOut}
 use Rattle.store_model.specs.Core.{Round, Core}
 use Rattle.store_model.specs.Sound.{in_round, IsSound}
 use Rattle.store_model.specs.Steps.{IsQuiet, IsTracked, after_collect}
-use Rattle.store_model.proofs.EditLaws.{live-there, live-within}
-use Rattle.store_model.proofs.CountLaws.{relinked-live, relinked-which}
-use Rattle.store_model.proofs.FlipLaws.{flip-live, flip-target}
-use Rattle.store_model.proofs.RecordLaws.{target-counts}
+use Rattle.cell_model.proofs.EditLaws.{live-there, live-within}
+use Rattle.cell_model.proofs.CountLaws.{relinked-live, relinked-which}
+use Rattle.cell_model.proofs.FlipLaws.{flip-live, flip-target}
+use Rattle.cell_model.proofs.RecordLaws.{target-counts}
 use Rattle.store_model.proofs.WalkSound.{weaken-sound, strengthen-sound, flip-sound}
 use Rattle.red_walk.specs.Walk.{Walk}
 use Rattle.red_walk.specs.Rounds.{round_of as walked}
@@ -89,7 +89,7 @@ weak-at slots v c h u k to live is some zero =
     let p = pointer_at c.cells u k in
     let some_at : p.target ≢ 0 = subst (λ (n : ℕ). n ≢ 0) (sym is) some in
     let none : (cell_at c.cells p.target).strong ≡ 0 = ap (λ (n : ℕ). (cell_at c.cells n).strong) is ∙ eqb-true (cell_at c.cells to).strong 0 zero in
-    let weak : is_strong c.cells p ≡ false = weak-of (cell_at c.cells p.target) p.bit (target-counts c.cells h.sound.exact u k live some_at) none in
+    let weak : is_strong c.cells p ≡ false = weak-of (cell_at c.cells p.target) p.bit (target-counts c.cells h.sound.consistent.exact u k live some_at) none in
     ap (λ (b : Bool). not b && not (is_strong c.cells p)) (ne_eqb p.target 0 some_at) ∙ ap not weak
   where
     weak-of : (d : Cell) (bit : Bool) → 1 ≤ counted bit d → d.strong ≡ 0 → same d.bit bit ≡ false
@@ -134,7 +134,7 @@ module _ (slots : ℕ) (v : TablesView) (c : Core) (h : Stands slots v c) (w : W
   within k l = subst (λ (n : ℕ). k < n) sweeping.greens.green_slots l
 
   long : (id : ℕ) → is_live c.cells id ≡ true → length (cell_at c.cells id).pointers ≡ slots
-  long id l = h.sound.slotted id l ∙ h.slots_are
+  long id l = h.sound.consistent.slotted id l ∙ h.slots_are
 
   -- what a test has found
   tested : (t : Test) → g.test ≡ Some t → IsTestedIn c.cells g t
@@ -200,7 +200,7 @@ module _ (slots : ℕ) (v : TablesView) (c : Core) (h : Stands slots v c) (w : W
         record { consistent = null.consistent; few = null.few; live = flip-live_is; not_root = (h.sound.round_live id (among id flip-among)).1; zero = flip-zero }
 
     flip-fits : Fits c.cells (FlipRecord id)
-    flip-fits = (flip-live_is, flip-zero, self-few c.cells id h.sound.exact flip-live_is flip-zero)
+    flip-fits = (flip-live_is, flip-zero, self-few c.cells id h.sound.consistent.exact flip-live_is flip-zero)
 
     pub flip-collected : asked v.round ≡ at.Flip id → (held new : List (HeldFrame slots)) (marks : List Bool) → IsChanged c.cells (edit c.cells id (flipped id)) held new v.zeros marks → IsInStep slots v.ids (behind id)
         → Collected slots v (record v { zeros = marks; round = behind id }) c held new act.Change (Some (logs.Flip id))
@@ -213,7 +213,7 @@ module _ (slots : ℕ) (v : TablesView) (c : Core) (h : Stands slots v c) (w : W
           core = after_collect c later c.queue c.round;
           after = refl;
           collects = record { greens = greens id flip-among; white = flip-white };
-          stands = greened-stands id later marks flip-answer (flip-sound c h.sound swept there quiet id flip-fits flip-white.none_out) (flip-live c.cells id h.sound.exact flip-live_is) (flip-target c.cells id h.sound.exact flip-live_is) (changed.marks_are h.zeros) step;
+          stands = greened-stands id later marks flip-answer (flip-sound c h.sound swept there quiet id flip-fits flip-white.none_out) (flip-live c.cells id h.sound.consistent.exact flip-live_is) (flip-target c.cells id h.sound.consistent.exact flip-live_is) (changed.marks_are h.zeros) step;
         }
 
   -- ---- a pointer to the flipped object becomes weak
@@ -256,7 +256,7 @@ module _ (slots : ℕ) (v : TablesView) (c : Core) (h : Stands slots v c) (w : W
     into-collected asks held new marks changed step =
         let p = other_strength (pointer_at c.cells «from» k) in
         let later = relinked c.cells «from» k p in
-        let targets = turned-targets c.cells «from» k (live-there c.cells «from» h.sound.exact.none into-live) (live-within c.cells «from» into-live) into-fits.0.within in
+        let targets = turned-targets c.cells «from» k (live-there c.cells «from» h.sound.consistent.exact.none into-live) (live-within c.cells «from» into-live) into-fits.0.within in
         record {
           proceeds = proceeds-behind act.Change (Some (logs.Weaken «from» k to)) «from» (into w s slot «from» k to g (asked-here (at.Into «from» k to) asks));
           begins = λ e. absurd (cc);
@@ -289,7 +289,7 @@ module _ (slots : ℕ) (v : TablesView) (c : Core) (h : Stands slots v c) (w : W
     strengthen-target = (tested t test).named «from» k look ∙ own
 
     strengthen-some : to ≢ 0
-    strengthen-some = live-there c.cells to h.sound.exact.none (live to strengthen-among)
+    strengthen-some = live-there c.cells to h.sound.consistent.exact.none (live to strengthen-among)
 
     strengthen-white : IsWhite c to
     strengthen-white = subst (IsWhite c) own (white t test all (subst (Contains g.live) (sym own) strengthen-among))
@@ -317,7 +317,7 @@ module _ (slots : ℕ) (v : TablesView) (c : Core) (h : Stands slots v c) (w : W
     strengthen-collected asks held new marks changed step =
         let p = other_strength (pointer_at c.cells «from» k) in
         let later = relinked c.cells «from» k p in
-        let targets = turned-targets c.cells «from» k (live-there c.cells «from» h.sound.exact.none strengthen-live) (live-within c.cells «from» strengthen-live) strengthen-fits.0.within in
+        let targets = turned-targets c.cells «from» k (live-there c.cells «from» h.sound.consistent.exact.none strengthen-live) (live-within c.cells «from» strengthen-live) strengthen-fits.0.within in
         record {
           proceeds = proceeds-behind act.Change (Some (logs.Strengthen «from» k to)) to (strengthen w s slot «from» k to g (asked-here (at.Strengthen «from» k to) asks));
           begins = λ e. absurd (cc);

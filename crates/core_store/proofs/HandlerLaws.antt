@@ -16,10 +16,9 @@ use Rattle.strict_locks.specs.Locks.{Table, holders_of, is_sharer, StandsInWayOf
 use Rattle.log_record.specs.declared.cell_record.CellRecord.TheVariants as logs
 use Rattle.cell_page.specs.declared.cell.Cell.{Cell}
 use Rattle.cell_page.specs.Stored.{cell_of}
-use Rattle.store_model.specs.Cells.{Cell as StoredCell, cell_at, pointer_at, pointer_in, is_live, edit, pays, blank_cell}
+use Rattle.cell_model.specs.Cells.{Cell as StoredCell, cell_at, pointer_at, pointer_in, is_live, edit, pays, blank_cell}
 use Rattle.store_model.specs.Core.{Core}
-use Rattle.store_model.specs.SoundCells.{AreConsistent}
-use Rattle.store_model.proofs.ConsistentLaws.{consistent_of}
+use Rattle.cell_model.specs.Consistent.{AreConsistent}
 use Rattle.strength_counts.proofs.Slots.{target_in-pointers}
 use Rattle.core_store.specs.declared.three.HeldFrame.{HeldFrame}
 use Rattle.core_store.specs.declared.plan.Plan.TheVariants as plan
@@ -74,7 +73,7 @@ module _ {slots : ℕ} (v : TablesView) (held : List (HeldFrame slots)) (pass : 
   -- a store can change its slot
   pub can-store : (core : Core) (id slot target r : ℕ) (source : Option ℕ) → (h : Stands slots v core) → slot < slots → GrantsStore slots v core.cells core.moment pass r slot source id target → CanChange slots v.ids core.cells id slot target
   can-store core id slot target r source h within g = record {
-    consistent = subst (λ n. AreConsistent n v.ids core.cells) h.slots_are (subst (λ n. AreConsistent core.moment.state.slots n core.cells) h.ids (consistent_of core h.sound));
+    consistent = subst (λ n. AreConsistent n v.ids core.cells) h.slots_are (subst (λ n. AreConsistent core.moment.state.slots n core.cells) h.ids h.sound.consistent);
     few = h.few;
     live = g.names.there.live;
     within = within;
@@ -146,8 +145,8 @@ module _ {slots : ℕ} (v : TablesView) (held : List (HeldFrame slots)) (pass : 
       let cells = core.cells in
       let bottom = g.is.0 in
       let top = g.is.1 in
-      let sized = h.sound.sized in
-      let blank = h.sound.empty id (omega (arith, top, sized)) g.not_live in
+      let sized = h.sound.consistent.sized in
+      let blank = h.sound.consistent.empty id (omega (arith, top, sized)) g.not_live in
       let zero : (cell_at cells id).strong ≡ 0 = ap (λ (x : StoredCell). x.strong) blank in
       subst (λ (c : TransactionCall). Answers slots v (record v { free = free; locks = locks; transactions = changed_at pass (loaded into (Some id)) v.transactions; references = references }) core held new pass c (reply.Id id) (Some (logs.Make pass id))) (sym w.0)
       (answers-make slots v core held new h locks free references pass into id g.grants.kept g.grants.transaction adds nobody (serves g.grants) g.id_is (λ e. absurd (omega (arith, bottom, e))) removed noted (stored cells agree) (elsewhere-edit cells held id (λ _. blank_cell true slots) page) (h.zeros ∙ sym (make-marks slots cells id zero)))

@@ -1,6 +1,19 @@
 -- What happens to a journal at a call, at a step of an abort and at an event of the collector.
-use Rattle.std.proofs.Common.{◌≡◌, ℕ, ◌+◌, ◌≤◌, List, [], true, false, length, refl, sym, ap, ◌∙◌, subst, Option, Some, None, inl, arith}
-use Rattle.std.specs.Prelude.{Contains}
+use Rattle.std.proofs.Common.{◌≡◌, ◌≢◌, ℕ, ◌+◌, ◌<◌, ◌≤◌, List, [], ◌∷◌, true, false, length, take, refl, sym, ap, ◌∙◌, subst, Option, Some, None, ◌⊎◌, inl, inr, arith, ⊎_elim}
+use Rattle.std.specs.Prelude.{Contains, option_map, unwrap_or, is_some, IsSome, IfSome}
+use Rattle.std.specs.List.{last_or}
+use Rattle.plain_model.specs.declared.write.Write.{Write}
+use Rattle.plain_model.specs.ActiveTransaction.{ActiveTransaction}
+use Rattle.log_record.specs.Spelling.{IsPass}
+use Rattle.core_store.specs.Logged.{logged_by_undo}
+use Rattle.core_store.specs.Replaced.{replaced, next_to_restore}
+use Rattle.core_store.specs.Transactions.{Running, running_at}
+use Rattle.core_store.proofs.ClientNumbers.{numbered-collector}
+use Rattle.core_store.proofs.SpelledLaws.{IsOfClient, call-client, undo-client, collect-client}
+use Rattle.core_store.proofs.UndoneLaws.{next-kept}
+use Rattle.core_store.specs.RedCursor.{red_of}
+use Rattle.core_store.proofs.RedStrengths.{IsByClient, call-by, undo-by}
+use Rattle.core_store.proofs.RedEvents.{red-client, red-collected, copied-over}
 use Rattle.std.specs.Option.{option_map_or}
 use Rattle.std.proofs.lemmas.Bool.Decides.{nat_tests}
 use Rattle.plain_model.specs.declared.calls.Call.{Call as TransactionCall}
@@ -10,15 +23,18 @@ use Rattle.plain_model.specs.declared.calls.Reply.TheVariants.{Done}
 use Rattle.plain_model.specs.declared.calls.Entry.{Entry}
 use Rattle.plain_model.specs.declared.calls.Entry.TheVariants.{Call, Undo}
 use Rattle.plain_model.specs.Machine.{State, step, transaction_of}
-use Rattle.plain_model.specs.History.{Moment, IsAllowed, next, end_of, is_stopped}
+use Rattle.plain_model.specs.History.{Moment, IsAllowed, next, end_of, is_stopped, left_to_undo}
 use Rattle.plain_model.specs.Outcomes.{IsReachableInSomeOutcome}
-use Rattle.plain_model.proofs.StepLaws.{is_stopped-call, step-plain, is_plain}
+use Rattle.plain_model.proofs.StepLaws.{is_stopped-call, step-plain, is_plain, end_of-slots}
 use Rattle.plain_model.proofs.StepLemmas.{step-out}
 use Rattle.store_model.specs.Core.{Core, Round}
 use Rattle.store_model.specs.Sound.{IsSound, condemned_of}
-use Rattle.store_model.proofs.Lists.{Contains-here}
+use Rattle.store_model.proofs.Lists.{Contains-here, Contains-later}
 use Rattle.store_model.proofs.DeletionLaws.{deletion}
 use Rattle.store_model.proofs.AllowedLaws.{no_reason-allowed}
+use Rattle.restart_laws.specs.Told.{told, HavePlaces}
+use Rattle.restart_laws.specs.Logged.{Logs}
+use Rattle.log_record.specs.Records.{record_of, payload_place}
 use Rattle.log_record.specs.declared.cell_record.CellRecord.{CellRecord}
 use Rattle.log_record.specs.declared.cell_record.CellRecord.TheVariants as logs
 use Rattle.core_store.specs.declared.act.Act.{Act}
@@ -31,9 +47,10 @@ use Rattle.core_store.specs.Events.{after_event}
 use Rattle.core_store.specs.JournalView.{JournalView, core_of}
 use Rattle.core_store.specs.Journal.{Keeps}
 use Rattle.core_store.specs.Limited.{is_past_limit, entries_counted}
-use Rattle.core_store.specs.Stands.{Answers, Undoes, Ended}
+use Rattle.core_store.specs.Stands.{Matches, CanLay, Answers, Undoes, Ended}
 use Rattle.core_store.specs.Tables.{TablesView}
 use Rattle.core_store.proofs.LedLaws.{turns-collector}
+use Rattle.core_store.proofs.LogsLaws.{call-logs, undo-logs, end-logs, collect-logs}
 use Rattle.core_store.proofs.JournalLaws.{Happens}
 
 -- ---- the limit
@@ -64,8 +81,8 @@ abbrev pub client_note : Entry → Option CellRecord → ℕ → Note
 client_note entry logged left = record { entry = entry; logged = logged; left = left; act = act.Other }
 
 pub happens-call : (j : JournalView) (v w : TablesView) (held new : List (HeldFrame j.history.slots)) (pass : ℕ) (call : TransactionCall) (reply : Reply) (logged : Option CellRecord) (left : ℕ) → Keeps j v → Answers j.history.slots v w (core_of j) held new pass call reply logged
-    → (call ≡ Abort → transaction_of (end_of j.history).state pass ≡ None) → length j.history.entries + 1 + w.owed ≤ j.limits.trace → Happens j w (client_note (Call pass call reply) logged left) (after_event j.history.slots (core_of j) (Call pass call reply) logged)
-happens-call j v w held new pass call reply logged left k a out counted =
+    → IsPass pass → (call ≡ Abort → transaction_of (end_of j.history).state pass ≡ None) → length j.history.entries + 1 + w.owed ≤ j.limits.trace → Happens j w (client_note (Call pass call reply) logged left) (after_event j.history.slots (core_of j) (Call pass call reply) logged)
+happens-call j v w held new pass call reply logged left k a numbered out counted =
     let m = end_of j.history in
     let plain : is_plain reply ≡ true = ap is_plain a.machine ∙ step-plain m.state pass call in
     record {
@@ -74,32 +91,96 @@ happens-call j v w held new pass call reply logged left k a out counted =
       fits = a.moves.fits;
       lays = a.moves.lays;
       after = refl;
-      turns = (tt, refl, refl);
+      turns = ((λ e. absurd (e.1 (out e.0)), λ e. a.record_is), refl, refl);
+      logs = subst (λ l. Logs (core_of j) (Call pass call reply) (option_map record_of l)) (sym a.record_is) (call-logs (core_of j) pass call reply out);
       stands = a.stands;
       counted = counted;
+      numbered = numbered;
+      of_client = subst (λ l. IfSome l IsOfClient) (sym a.record_is) (call-client m.state (core_of j).cells pass call numbered);
+      red = red-client j.history.slots v w (core_of j) (red_of j) logged k.stands a.moves.fits (subst (λ l. IfSome l IsByClient) (sym a.record_is) (call-by m.state (core_of j).cells pass call)) a.round k.red;
+      copied = λ e. absurd (cc);
     }
 
 -- ---- the steps of an abort
+
+-- slots are below the number that stands for the payload
+slots-below : (j : JournalView) (v : TablesView) → Keeps j v → (end_of j.history).state.slots < payload_place
+slots-below j v k =
+    let same = k.stands.slots_are in
+    ⊎_elim (λ (six : j.history.slots ≡ 6). omega (arith, same, six)) (λ (more : j.history.slots ≡ 14). omega (arith, same, more)) k.stands.counted
+
+-- the client of an undo is active, and what is laid again is a write of a slot or of the payload
+last-in : (w : Write) (o : Option Write) (xs : List Write) → last_or o xs ≡ Some w → (o ≡ Some w) ⊎ Contains xs w
+last-in w o [] e = inl e
+last-in w o (x ∷ xs) e = ⊎_elim (λ (h : Some x ≡ Some w). inr (subst (λ (y : Write). Contains (y ∷ xs) w) (sym (ap (λ (p : Option Write). unwrap_or p x) h)) (Contains-here w xs))) (λ (m : Contains xs w). inr (Contains-later x xs w m)) (last-in w (Some x) xs e)
+
+laid-again : (j : JournalView) (v : TablesView) (pass : ℕ) (w : Write) → Keeps j v → next_to_restore (end_of j.history) pass ≡ Some w → IsSome (transaction_of (end_of j.history).state pass) × CanLay j.history.slots (core_of j).cells w
+laid-again j v pass w k e = by (transaction_of (end_of j.history).state pass) refl (running_at v.transactions pass) refl (k.stands.running pass)
+  where
+    by : (t : Option ActiveTransaction) → transaction_of (end_of j.history).state pass ≡ t → (o : Option Running) → running_at v.transactions pass ≡ o → Matches j.history.slots (end_of j.history).state.committed o t ((end_of j.history).undone pass) → IsSome (transaction_of (end_of j.history).state pass) × CanLay j.history.slots (core_of j).cells w
+    by None f o r h = absurd (let none : None ≡ Some w = sym (ap (λ (o : Option ActiveTransaction). last_or None (option_map_or (λ (t : ActiveTransaction). take (left_to_undo (end_of j.history) pass) (replaced (end_of j.history).state.slots (end_of j.history).state.committed t.writes)) o [])) f) ∙ e in cc)
+    by (Some t) f None r h = absurd h
+    by (Some t) f (Some kept) r h =
+        let is : last_or None kept.replaced ≡ Some w = sym (next-kept j.history.slots (end_of j.history) pass kept t k.stands.slots_are f h) ∙ e in
+        (ap is_some f, ⊎_elim (λ (no : None ≡ Some w). absurd (cc)) (λ (c : Contains kept.replaced w). k.stands.restorable pass kept r w c) (last-in w None kept.replaced is))
+
+undo-records : (j : JournalView) (v : TablesView) (pass : ℕ) (logged : CellRecord) → Keeps j v → Some logged ≡ option_map (logged_by_undo (core_of j).cells pass) (next_to_restore (end_of j.history) pass) → IsPass pass × IsOfClient logged
+undo-records j v pass logged k e = by (next_to_restore (end_of j.history) pass) refl e
+  where
+    by : (o : Option Write) → next_to_restore (end_of j.history) pass ≡ o → Some logged ≡ option_map (logged_by_undo (core_of j).cells pass) o → IsPass pass × IsOfClient logged
+    by None n f = absurd (cc)
+    by (Some w) n f =
+        let again = laid-again j v pass w k n in
+        let numbered = k.numbered pass again.0 in
+        let below = slots-below j v k in
+        let same = k.stands.slots_are in
+        let few : j.history.slots < payload_place = omega (arith, below, same) in
+        (numbered, subst IsOfClient (sym (ap (λ (p : Option CellRecord). unwrap_or p logged) f)) (undo-client j.history.slots (core_of j).cells pass w.id w.place w.value few numbered again.1))
 
 pub happens-undo : (j : JournalView) (v w : TablesView) (held new : List (HeldFrame j.history.slots)) (pass : ℕ) (logged : CellRecord) (left : ℕ) → Keeps j v → Undoes j.history.slots v w (core_of j) held new pass logged
     → length j.history.entries + 1 + w.owed ≤ j.limits.trace → Happens j w (client_note (Undo pass) (Some logged) left) (after_event j.history.slots (core_of j) (Undo pass) (Some logged))
 happens-undo j v w held new pass logged left k a counted =
     let some = a.some_left in
-    record { allowed = (k.running, omega (arith, some)); going = k.running; fits = a.moves.fits; lays = a.moves.lays; after = refl; turns = (tt, refl, refl); stands = a.stands; counted = counted }
+    let places = subst (λ x. HavePlaces x (told (end_of j.history))) (sym (end_of-slots j.history)) k.safe.places in
+    record {
+      allowed = (k.running, omega (arith, some));
+      going = k.running;
+      fits = a.moves.fits;
+      lays = a.moves.lays;
+      after = refl;
+      turns = (a.record_is, refl, refl);
+      logs = subst (λ l. Logs (core_of j) (Undo pass) (option_map record_of l)) (sym a.record_is) (undo-logs (core_of j) k.stands.sound places (slots-below j v k) pass some);
+      stands = a.stands;
+      counted = counted;
+      numbered = (undo-records j v pass logged k a.record_is).0;
+      of_client = (undo-records j v pass logged k a.record_is).1;
+      red = red-client j.history.slots v w (core_of j) (red_of j) (Some logged) k.stands a.moves.fits (undo-by (core_of j).cells pass logged (next_to_restore (end_of j.history) pass) a.record_is) a.round k.red;
+      copied = λ e. absurd (cc);
+    }
+
+some-there : (o : Option ActiveTransaction) → o ≢ None → IsSome o
+some-there None n = absurd (n refl)
+some-there (Some t) n = refl
 
 pub happens-ended : (j : JournalView) (v w : TablesView) (pass left : ℕ) → Keeps j v → Ended j.history.slots v w (core_of j) pass → length j.history.entries + 1 + w.owed ≤ j.limits.trace
     → Happens j w (client_note (Call pass Abort Done) (Some (logs.AbortEnd pass)) left) (after_event j.history.slots (core_of j) (Call pass Abort Done) (Some (logs.AbortEnd pass)))
 happens-ended j v w pass left k a counted =
     let m = end_of j.history in
+    let active : transaction_of m.state pass ≢ None = λ none. done_abort m.state pass Done a.machine none refl in
     record {
       allowed = (k.running, record { machine = inl a.machine; undone = λ c d. a.all_undone });
       going = is_stopped-call m pass Abort Done k.running refl;
       fits = tt;
       lays = tt;
       after = refl;
-      turns = (tt, refl, refl);
+      turns = ((λ e. refl, λ n. absurd (n (refl, active))), refl, refl);
+      logs = end-logs (core_of j) pass active;
       stands = a.stands;
       counted = counted;
+      numbered = k.numbered pass (some-there (transaction_of m.state pass) active);
+      of_client = k.numbered pass (some-there (transaction_of m.state pass) active);
+      red = red-client j.history.slots v w (core_of j) (red_of j) (Some (logs.AbortEnd pass)) k.stands tt tt a.round k.red;
+      copied = λ e. absurd (cc);
     }
 
 -- ---- an event of the collector
@@ -159,6 +240,11 @@ happens-collector j v w held new a logged left k t counted = record {
   lays = t.moves.lays;
   after = t.after;
   turns = turns-collector j.history.slots (core_of j) a logged left t.core.queue t.core.round t.collects;
+  logs = collect-logs j.history.slots (core_of j) a logged t.core.queue t.core.round t.collects;
   stands = t.stands;
   counted = counted;
+  numbered = numbered-collector logged;
+  of_client = collect-client j.history.slots (core_of j) a logged t.core.queue t.core.round t.collects;
+  red = red-collected j.history.slots v w (core_of j) (red_of j) held new k.stands a logged left t k.red;
+  copied = copied-over j.history.slots v w (core_of j) (red_of j) held new k.stands a logged t.proceeds k.red;
 }

@@ -3,7 +3,7 @@ use Rattle.std.proofs.Common.{◌≡◌, ℕ, ◌+◌, ◌<◌, List, [], ◌∷
 use Rattle.std.specs.Prelude.{◌==◌, ◌&&◌, ◌||◌}
 use Rattle.std.proofs.lemmas.Bool.{eqb-true, eqb-false}
 use Rattle.std.proofs.lemmas.List.{get_or-take, get_or-drop}
-use Rattle.store_model.specs.Cells.{Cell, Pointer, blank_cell, cell_at, pointer_in, pointer_at, same}
+use Rattle.cell_model.specs.Cells.{Cell, Pointer, blank_cell, cell_at, pointer_in, pointer_at, same}
 use Rattle.cell_page.specs.Format.{first_id, place_of}
 use Rattle.cell_page.specs.Stored.{page_of}
 use Rattle.core_store.specs.declared.three.HeldFrame.{HeldFrame}

@@ -11,11 +11,14 @@ use Rattle.plain_model.specs.History.{Moment, IsAllowed, next, with_entry, end_o
 use Rattle.plain_model.proofs.HistoryLemmas.{IsLegal-with_entry, end_of-with_entry}
 use Rattle.log_record.specs.declared.cell_record.CellRecord.{CellRecord}
 use Rattle.log_record.specs.Records.{record_of, FitsCells, LaysWell}
-use Rattle.store_model.specs.Cells.{Cell}
+use Rattle.cell_model.specs.Cells.{Cell}
 use Rattle.store_model.specs.Core.{Core, Ref, Round}
-use Rattle.store_model.specs.Records.{Record, Fits, IsWellLaid, after_record, cells_after, AllFit, AllWellLaid}
-use Rattle.store_model.specs.SoundCells.{AreConsistent}
-use Rattle.store_model.proofs.ConsistentLaws.{consistent-after}
+use Rattle.cell_model.specs.Records.{Record, Fits, IsWellLaid, after_record, cells_after, AllFit, AllWellLaid}
+use Rattle.cell_model.specs.Consistent.{AreConsistent}
+use Rattle.cell_model.proofs.ConsistentLaws.{consistent-after}
+use Rattle.restart_laws.specs.Logged.{Logs}
+use Rattle.restart_laws.specs.Restartable.{IsRestartable}
+use Rattle.restart_laws.proofs.RestartableLaws.{events}
 use Rattle.core_store.specs.declared.note.Note.{Note}
 use Rattle.core_store.specs.Events.{core_after}
 use Rattle.core_store.specs.JournalView.{JournalView, cells_of, cells_after_notes, core_of, opening_of, logged_in}
@@ -26,10 +29,21 @@ use Rattle.core_store.specs.Logged.{after_logged}
 use Rattle.core_store.specs.Owed.{entries_owed}
 use Rattle.core_store.specs.References.{references_of}
 use Rattle.core_store.specs.RoundView.{RoundView, round_of, left_of}
+use Rattle.core_store.specs.Safe.{IsSafe}
 use Rattle.core_store.specs.Tables.{TablesView}
 use Rattle.core_store.specs.Transactions.{Running, running_at}
 use Rattle.core_store.specs.Stands.{Matches, Stands}
 use Rattle.core_store.proofs.LedLaws.{AreLed-push, references-push, last_left-push, left-told}
+use Rattle.core_store.specs.Clients.{AreNumbered, IsNumbered}
+use Rattle.core_store.specs.Spelled.{AreSpelled, AreOfIds, IsOfIds}
+use Rattle.core_store.specs.RedWalks.{RedWalk, no_walk, walk_after, IsOver, is_first_copy}
+use Rattle.core_store.specs.RedCursor.{IsRedWalk, red_of}
+use Rattle.core_store.proofs.RedNotes.{walk-push, AreWalked-push}
+use Rattle.core_store.proofs.ClientNumbers.{numbered-next}
+use Rattle.core_store.proofs.SpelledLaws.{IsOfClient, IsSpelledIn, spelled-logged}
+use Rattle.log_record.specs.Spelling.{HasCellSpelling}
+use Rattle.plain_model.proofs.StepLaws.{end_of-ids}
+use Rattle.std.proofs.lemmas.List.Elements.{All-push}
 
 -- the journal with one note more, and what its tables have of the collector then
 abbrev pub grown : JournalView → Note → List ℕ → RoundView → JournalView
@@ -58,12 +72,6 @@ core-grown j n queue round d after q r =
     core-with (cells_of (grown j n queue round)) (after_logged j.history.slots (cells_of j) n.logged) (end_of (with_entry j.history n.entry)) (next (end_of j.history) n.entry) (references_of (j.notes ++ n ∷ [])) (core_after j.history.slots (core_of j) n.entry n.logged d.queue d.round).refs queue d.queue (round_of round) d.round
     (cells-grown j n queue round) (end_of-with_entry j.history n.entry) (references-push j.notes n) q r
     ∙ sym after
-
-pub AllFit-push : (slots : ℕ) (cells : List Cell) (records : List (Option Record)) (r : Option Record) → AllFit slots cells records → IfSome r (Fits (cells_after slots cells records)) → AllFit slots cells (records ++ r ∷ [])
-AllFit-push slots cells [] None all one = tt
-AllFit-push slots cells [] (Some r) all one = (one, tt)
-AllFit-push slots cells (Some x ∷ xs) r all one = (all.0, AllFit-push slots (after_record slots cells x) xs r all.1 one)
-AllFit-push slots cells (None ∷ xs) r all one = AllFit-push slots cells xs r all one
 
 pub AllWellLaid-push : (slots : ℕ) (cells : List Cell) (records : List (Option Record)) (r : Option Record) → AllWellLaid slots cells records → IfSome r (IsWellLaid (cells_after slots cells records)) → AllWellLaid slots cells (records ++ r ∷ [])
 AllWellLaid-push slots cells [] None all one = tt
@@ -99,11 +107,46 @@ pub record Happens (j : JournalView) (w : TablesView) (n : Note) (d : Core) : Ty
   pub lays : IfSome n.logged (LaysWell (cells_of j))
   pub after : d ≡ core_after j.history.slots (core_of j) n.entry n.logged d.queue d.round
   pub turns : Turns j.history.slots (core_of j) n d.queue d.round
+  -- and it logs what restart asks for
+  pub logs : Logs (core_of j) n.entry (option_map record_of n.logged)
   pub stands : Stands j.history.slots w d
   pub counted : length j.history.entries + 1 + w.owed ≤ j.limits.trace
+  -- where it is of a client, that is told by a number from 1 to 64
+  pub numbered : IsNumbered n.entry
+  pub of_client : IfSome n.logged IsOfClient
+  -- the red walk goes on as the tables' walk does, and is over where something is copied first
+  pub red : IsRedWalk (after_logged j.history.slots (cells_of j) n.logged) (walk_after (after_logged j.history.slots (cells_of j) n.logged) (red_of j) n) w.round
+  pub copied : is_first_copy (red_of j) n.act ≡ true → IsOver (cells_of j) (red_of j)
 
 pub core-happened : (j : JournalView) (w : TablesView) (n : Note) (d : Core) → Happens j w n d → core_of (grown j n w.queue w.round) ≡ d
 core-happened j w n d h = core-grown j n w.queue w.round d h.after h.stands.queue h.stands.round
+
+-- a crash stays safe
+safe-grown : (j : JournalView) (w : TablesView) (n : Note) (d : Core) → IsSafe j → Happens j w n d → IsSafe (grown j n w.queue w.round)
+safe-grown j w n d safe h =
+    let slots = j.history.slots in
+    let r = option_map record_of n.logged in
+    let moment = ap (λ (c : Core). c.moment) h.after in
+    let cells = ap (λ (c : Core). c.cells) h.after ∙ sym (after-one slots (cells_of j) n.logged) in
+    let done = events (opening_of j) (core_of j) d j.history.entries (logged_in j.notes) safe n.entry r h.allowed h.logs (some-fits (cells_of j) n.logged h.fits) h.stands.sound moment cells in
+    subst (λ (c : Core). IsRestartable (opening_of j) (with_entry j.history n.entry).entries (logged_in (j.notes ++ n ∷ [])) c) (sym (core-happened j w n d h))
+    (subst (λ rs. IsRestartable (opening_of j) (with_entry j.history n.entry).entries rs d) (sym (logged-push j.notes n)) done)
+
+-- its record has a spelling, and its ids are the store's
+spelled-now : (j : JournalView) (v w : TablesView) (n : Note) (d : Core) → Keeps j v → Happens j w n d → IfSome n.logged (IsSpelledIn j.history.slots j.history.ids)
+spelled-now j v w n d k h =
+    let m = end_of j.history in
+    let few : m.state.ids ≤ 8192 = (let same = k.stands.ids in let most = k.stands.few in omega (arith, same, most)) in
+    subst (λ s. IfSome n.logged (IsSpelledIn s j.history.ids)) k.stands.slots_are
+    (subst (λ i. IfSome n.logged (IsSpelledIn m.state.slots i)) (end_of-ids j.history) (spelled-logged m.state.slots m.state.ids (cells_of j) k.stands.sound.consistent few n.logged h.fits h.of_client))
+
+spelling-of : (slots ids : ℕ) (logged : Option CellRecord) → IfSome logged (IsSpelledIn slots ids) → IfSome logged (HasCellSpelling slots)
+spelling-of slots ids None s = tt
+spelling-of slots ids (Some r) s = s.0
+
+ids-of : (slots ids : ℕ) (logged : Option CellRecord) → IfSome logged (IsSpelledIn slots ids) → IfSome logged (IsOfIds ids)
+ids-of slots ids None s = tt
+ids-of slots ids (Some r) s = s.1
 
 -- a history that was full stays so
 full-push : (j : JournalView) (n : Note) (queue : List ℕ) (round : RoundView) → WasFull j → WasFull (grown j n queue round)
@@ -121,10 +164,16 @@ Keeps-note j v w n d k h left =
       bounded = k.bounded;
       entries = map-append (λ (x : Note). x.entry) j.notes (n ∷ []) ∙ ap (λ es. es ++ n.entry ∷ []) k.entries;
       consistent = k.consistent;
-      fit = subst (AllFit slots j.opening) (sym (logged-push j.notes n)) (AllFit-push slots j.opening (logged_in j.notes) (option_map record_of n.logged) k.fit (some-fits (cells_of j) n.logged h.fits));
       laid = subst (AllWellLaid slots j.opening) (sym (logged-push j.notes n)) (AllWellLaid-push slots j.opening (logged_in j.notes) (option_map record_of n.logged) k.laid (some-lays (cells_of j) n.logged h.lays));
       stands = subst (λ (c : Core). Stands slots w c) (sym core) h.stands;
       led = subst (λ (c : Core). AreLed slots (opening_of j) (j.notes ++ n ∷ []) c) (sym core) (AreLed-push slots (opening_of j) (core_of j) d j.notes n k.led (record { after = h.after; turns = h.turns; left = told }));
+      safe = safe-grown j w n d k.safe h;
+      numbered = subst AreNumbered (sym (end_of-with_entry j.history n.entry)) (numbered-next (end_of j.history) n.entry k.numbered h.numbered);
+      spelled = All-push (λ (x : Note). IfSome x.logged (HasCellSpelling slots)) j.notes n k.spelled (spelling-of slots j.history.ids n.logged (spelled-now j v w n d k h));
+      of_ids = All-push (λ (x : Note). IfSome x.logged (IsOfIds j.history.ids)) j.notes n k.of_ids (ids-of slots j.history.ids n.logged (spelled-now j v w n d k h));
+      red = subst (λ (cs : List Cell). IsRedWalk cs (red_of (grown j n w.queue w.round)) w.round) (sym (cells-grown j n w.queue w.round))
+          (subst (λ (r : RedWalk). IsRedWalk (after_logged slots (cells_of j) n.logged) r w.round) (sym (walk-push slots j.opening no_walk j.notes n)) h.red);
+      walked = AreWalked-push slots j.opening no_walk j.notes n k.walked h.copied;
       left = subst (λ m. left_of slots w.round ≤ m) (sym (last_left-push j.notes n)) (omega (arith, left));
       limits = k.limits;
       counted =
@@ -142,7 +191,7 @@ pub consistent-front : (j : JournalView) (v : TablesView) → Keeps j v → (fro
 consistent-front j v k front rest e =
     let parts : logged_in j.notes ≡ logged_in front ++ logged_in rest = ap logged_in e ∙ map-append (λ (n : Note). option_map record_of n.logged) front rest in
     consistent-after j.history.slots j.history.ids j.opening (logged_in front)
-    (AllFit-front j.history.slots j.opening (logged_in front) (logged_in rest) (subst (AllFit j.history.slots j.opening) parts k.fit))
+    (AllFit-front j.history.slots j.opening (logged_in front) (logged_in rest) (subst (AllFit j.history.slots j.opening) parts k.safe.fit))
     (AllWellLaid-front j.history.slots j.opening (logged_in front) (logged_in rest) (subst (AllWellLaid j.history.slots j.opening) parts k.laid))
     k.consistent
 

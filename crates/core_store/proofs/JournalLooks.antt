@@ -2,25 +2,32 @@
 use Rattle.std.proofs.Common.{◌≡◌, ℕ, ◌<◌, ◌≤◌, List, sym, ap, ◌∙◌, subst, arith, ⊎_elim}
 use Rattle.std.specs.Prelude.{◌⊎◌}
 use Rattle.store_model.specs.Core.{Core, Round}
+use Rattle.restart_laws.specs.Restartable.{IsRestartable}
 use Rattle.std.proofs.Common.{Option}
 use Rattle.core_store.specs.declared.journal.Journal.TheInside.{Inside}
 use Rattle.core_store.specs.declared.tables.Tables.{Tables}
 use Rattle.core_store.specs.declared.three.HeldFrame.{HeldFrame}
 use Rattle.core_store.specs.Frames.{Agree}
-use Rattle.core_store.specs.JournalView.{JournalView, cells_of, core_of, opening_of}
+use Rattle.core_store.specs.JournalView.{JournalView, cells_of, core_of, opening_of, logged_in}
 use Rattle.core_store.specs.Journal.{view_of, Keeps, IsSound}
+use Rattle.core_store.specs.Fresh.{AreByIds}
 use Rattle.core_store.specs.Leads.{AreLed}
 use Rattle.core_store.specs.RoundView.{left_of, Passes}
 use Rattle.core_store.specs.Stands.{Stands}
 use Rattle.core_store.specs.Tables.{TablesView}
 use Rattle.core_store.specs.Views.{view_of as tables_of}
 use Rattle.core_store.proofs.LeftLaws.{left-passes}
+use Rattle.plain_model.specs.History.{end_of}
+use Rattle.cell_model.specs.Consistent.{AreConsistent}
+use Rattle.core_store.specs.RedCursor.{red_of}
+use Rattle.core_store.proofs.RedCursors.{red-passes}
+use Rattle.core_store.proofs.RedEvents.{walk-live}
 
 core-looked : (j : JournalView) (w : TablesView) → Stands j.history.slots w (core_of j) → core_of (record j { round = w.round }) ≡ core_of j
 core-looked j w h = ap (λ (r : Option Round). let c : Core = record (core_of j) { round = r } in c) h.round
 
-Keeps-looked : (j : JournalView) (v w : TablesView) → Keeps j v → Stands j.history.slots w (core_of j) → left_of j.history.slots w.round ≤ left_of j.history.slots j.round → Keeps (record j { round = w.round }) w
-Keeps-looked j v w k h less =
+Keeps-looked : (j : JournalView) (v w : TablesView) → Keeps j v → Stands j.history.slots w (core_of j) → Passes j.history.slots (cells_of j) v.round w.round → left_of j.history.slots w.round ≤ left_of j.history.slots j.round → Keeps (record j { round = w.round }) w
+Keeps-looked j v w k h passes less =
     let core = core-looked j w h in
     record {
       legal = k.legal;
@@ -29,10 +36,16 @@ Keeps-looked j v w k h less =
       bounded = k.bounded;
       entries = k.entries;
       consistent = k.consistent;
-      fit = k.fit;
       laid = k.laid;
       stands = subst (λ (c : Core). Stands j.history.slots w c) (sym core) h;
       led = subst (λ (c : Core). AreLed j.history.slots (opening_of j) j.notes c) (sym core) k.led;
+      safe = subst (λ (c : Core). IsRestartable (opening_of j) j.history.entries (logged_in j.notes) c) (sym core) k.safe;
+      numbered = k.numbered;
+      spelled = k.spelled;
+      of_ids = k.of_ids;
+      red = red-passes j.history.slots (end_of j.history).state.ids (cells_of j) (subst (λ (n : ℕ). AreConsistent n (end_of j.history).state.ids (cells_of j)) k.stands.slots_are k.stands.sound.consistent) (red_of j)
+          (walk-live j.history.slots v (core_of j) (red_of j) k.stands k.red) v.round w.round k.red passes;
+      walked = k.walked;
       left = (let most = k.left in omega (arith, less, most));
       limits = k.limits;
       counted = k.counted;
@@ -43,7 +56,7 @@ Keeps-looked j v w k h less =
 module _ {slots : ℕ} (a : Inside slots) (t : Tables slots) (now : JournalView) (held : List (HeldFrame slots)) (s : IsSound a) (is : view_of a ≡ now) (agree : Agree (cells_of now) held) (same : tables_of t ≡ record (tables_of a.tables) { round = t.round.view })
     (stands : (c : Core) → Stands slots (tables_of a.tables) c → Agree c.cells held → Stands slots (tables_of t) c) (passes : (c : Core) → Stands slots (tables_of a.tables) c → Agree c.cells held → Passes slots c.cells a.tables.round.view t.round.view) where
   abbrev looked : Inside slots
-  looked = record { alloc = a.alloc; opening = a.opening; trace = a.trace; limits = a.limits; marks = a.marks; tables = t }
+  looked = record { alloc = a.alloc; opening = a.opening; trace = a.trace; tables = t }
 
   agree_a : Agree (cells_of (view_of a)) held
   agree_a = subst (λ (j : JournalView). Agree (cells_of j) held) (sym is) agree
@@ -68,7 +81,8 @@ module _ {slots : ℕ} (a : Inside slots) (t : Tables slots) (now : JournalView)
 
   pub looked-sound : IsSound looked
   looked-sound = record {
-    keeps = subst (λ j. Keeps j (tables_of t)) (sym seen) (Keeps-looked (view_of a) (tables_of a.tables) (tables_of t) s.keeps stands_a most);
+    keeps = subst (λ j. Keeps j (tables_of t)) (sym seen) (Keeps-looked (view_of a) (tables_of a.tables) (tables_of t) s.keeps stands_a (passes (core_of (view_of a)) s.keeps.stands agree_a) most);
+    placed = subst (λ n. AreByIds n a.opening.items) (sym looked-ids) s.placed;
     room = (let owed : t.owed ≡ a.tables.owed = ap (λ (v : TablesView). v.owed) same in let room = s.room in omega (arith, owed, room));
   }
 

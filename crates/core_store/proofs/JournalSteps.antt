@@ -3,7 +3,7 @@ use Rattle.std.proofs.Common.{◌≡◌, ℕ, ◌+◌, ◌≤◌, List, [], ◌�
 use Rattle.std.specs.Prelude.{vec_len, vec_capacity}
 use Rattle.std.proofs.lemmas.List.{map-append}
 use Rattle.plain_model.proofs.StepLaws.{end_of-ids}
-use Rattle.store_model.specs.Cells.{Cell as StoredCell}
+use Rattle.cell_model.specs.Cells.{Cell as StoredCell}
 use Rattle.store_model.specs.Core.{Core}
 use Rattle.core_store.specs.declared.note.Note.{Note}
 use Rattle.core_store.specs.declared.journal.Journal.TheInside.{Inside}
@@ -11,6 +11,7 @@ use Rattle.core_store.specs.declared.three.HeldFrame.{HeldFrame}
 use Rattle.core_store.specs.Frames.{Agree, IsSameElsewhere}
 use Rattle.core_store.specs.JournalView.{JournalView, cells_of, core_of}
 use Rattle.core_store.specs.Journal.{view_of, Keeps, IsSound}
+use Rattle.core_store.specs.Fresh.{AreByIds}
 use Rattle.core_store.specs.Logged.{after_logged}
 use Rattle.core_store.specs.RoundView.{left_of}
 use Rattle.core_store.specs.Stands.{Moves}
@@ -25,14 +26,14 @@ ids-same j w k = sym k.stands.ids ∙ end_of-ids j.history
 -- the trace has one note more, which tells what is left of the round
 pub record Grows {slots : ℕ} (a b : Inside slots) (n : Note) : Type 0 where
   pub opening : b.opening ≡ a.opening
-  pub limits : b.limits ≡ a.limits
-  pub marks : b.marks ≡ a.marks
-  pub trace : b.trace.items ≡ a.trace.items ++ n ∷ []
+  pub limits : b.trace.limits ≡ a.trace.limits
+  pub marks : b.trace.marks ≡ a.trace.marks
+  pub trace : b.trace.notes.items ≡ a.trace.notes.items ++ n ∷ []
   pub left : n.left ≡ left_of slots b.tables.round.view
 
 -- the journal has this note more and stands for this now, and the held pages are those of its cells
 pub record HasGrown {slots : ℕ} (b : Inside slots) (now : JournalView) (held new : List (HeldFrame slots)) (n : Note) (d : Core) : Type 0 where
-  pub sound : vec_len b.trace + b.tables.owed ≤ vec_capacity b.trace → IsSound b
+  pub sound : vec_len b.trace.notes + b.tables.owed ≤ vec_capacity b.trace.notes → IsSound b
   pub view_is : view_of b ≡ grown now n b.tables.queue.ids b.tables.round.view
   pub core_is : core_of (view_of b) ≡ d
   pub agree : Agree (cells_of (view_of b)) new
@@ -45,8 +46,11 @@ module _ {slots : ℕ} (a b : Inside slots) (n : Note) (d : Core) (s : IsSound a
   pub grown-ids : b.tables.ids ≡ a.tables.ids
   grown-ids = ids-same (grown (view_of a) n b.tables.queue.ids b.tables.round.view) (tables_of b.tables) keeps
 
-  entries : map (λ (x : Note). x.entry) b.trace.items ≡ map (λ (x : Note). x.entry) a.trace.items ++ n.entry ∷ []
-  entries = ap (map (λ (x : Note). x.entry)) g.trace ∙ map-append (λ (x : Note). x.entry) a.trace.items (n ∷ [])
+  entries : map (λ (x : Note). x.entry) b.trace.notes.items ≡ map (λ (x : Note). x.entry) a.trace.notes.items ++ n.entry ∷ []
+  entries = ap (map (λ (x : Note). x.entry)) g.trace ∙ map-append (λ (x : Note). x.entry) a.trace.notes.items (n ∷ [])
+
+  placed : AreByIds b.tables.ids b.opening.items
+  placed = subst (λ o. AreByIds b.tables.ids o.items) (sym g.opening) (subst (λ n. AreByIds n a.opening.items) (sym grown-ids) s.placed)
 
   seen : view_of b ≡ grown (view_of a) n b.tables.queue.ids b.tables.round.view
   seen =
@@ -66,7 +70,7 @@ module _ {slots : ℕ} (a b : Inside slots) (n : Note) (d : Core) (s : IsSound a
 
   pub has-grown : (now : JournalView) (held new : List (HeldFrame slots)) → view_of a ≡ now → Moves slots (cells_of (view_of a)) held new n.logged → HasGrown b now held new n d
   has-grown now held new is moves = record {
-    sound = λ room. record { keeps = subst (λ j. Keeps j (tables_of b.tables)) (sym seen) keeps; room = room };
+    sound = λ room. record { keeps = subst (λ j. Keeps j (tables_of b.tables)) (sym seen) keeps; placed = placed; room = room };
     view_is = seen ∙ ap (λ (j : JournalView). grown j n b.tables.queue.ids b.tables.round.view) is;
     core_is = core-is;
     agree = subst (λ (cs : List StoredCell). Agree cs new) (sym cells) moves.agree;

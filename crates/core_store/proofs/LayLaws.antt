@@ -4,7 +4,7 @@ use Rattle.std.specs.Prelude.{Contains}
 use Rattle.plain_model.specs.declared.write.Place.{Place}
 use Rattle.plain_model.specs.declared.write.Place.TheVariants.{Slot, Payload, Whole}
 use Rattle.plain_model.specs.declared.write.Write.{Write}
-use Rattle.store_model.specs.Cells.{Cell, is_live}
+use Rattle.cell_model.specs.Cells.{Cell, is_live}
 use Rattle.std.proofs.lemmas.List.{length-take-le, get_or-take}
 use Rattle.core_store.specs.Transactions.{without_last}
 use Rattle.core_store.specs.Stands.{CanLay}

@@ -5,16 +5,13 @@ use Rattle.std.specs.List.{last_or}
 use Rattle.std.specs.Option.{option_map_or}
 use Rattle.std.proofs.lemmas.List.{map-append}
 use Rattle.std.proofs.lemmas.List.Sums.{fold-append}
-use Rattle.plain_model.specs.declared.calls.Entry.{Entry}
 use Rattle.store_model.specs.Core.{Core, Round}
 use Rattle.log_record.specs.declared.cell_record.CellRecord.{CellRecord}
 use Rattle.core_store.specs.declared.note.Note.{Note}
 use Rattle.core_store.specs.declared.act.Act.{Act}
 use Rattle.core_store.specs.declared.act.Act.TheVariants as act
 use Rattle.core_store.specs.References.{references_after, references_of}
-use Rattle.core_store.specs.Leads.{IsOfClient, Turns, Leads, AreLed}
-use Rattle.core_store.specs.Queued.{queue_after}
-use Rattle.core_store.specs.Touched.{objects_touched, round_after}
+use Rattle.core_store.specs.Leads.{Turns, Leads, AreLed}
 use Rattle.core_store.specs.Collects.{Collects, entry_of}
 use Rattle.core_store.specs.JournalView.{last_left}
 use Rattle.core_store.specs.RoundView.{RoundView, Closed, Walking, Sweeping, round_of, left_of}
@@ -46,11 +43,7 @@ left-none slots (Sweeping w s slot g) = (λ e. absurd (omega (arith, e)), λ e. 
 pub left-told : (slots left : ℕ) (r : RoundView) (round : Option Round) → left ≡ left_of slots r → round_of r ≡ round → (left ≡ 0) ↔ (round ≡ None)
 left-told slots left r round e f = let l = left-none slots r in (λ z. sym f ∙ l.0 (sym e ∙ z), λ z. e ∙ l.1 (f ∙ z))
 
--- ---- what a note makes of the queue and the round
-
-pub turns-client : (slots : ℕ) (c : Core) (entry : Entry) (logged : Option CellRecord) (left : ℕ) (queue : List ℕ) (round : Option Round) → IsOfClient entry → queue ≡ queue_after c logged → round ≡ round_after c.round (objects_touched logged)
-    → Turns slots c (record { entry = entry; logged = logged; left = left; act = act.Other }) queue round
-turns-client slots c entry logged left queue round of q r = (of, q, r)
+-- ---- what a note of the collector makes of the queue and the round
 
 pub turns-collector : (slots : ℕ) (c : Core) (a : Act) (logged : Option CellRecord) (left : ℕ) (queue : List ℕ) (round : Option Round) → Collects slots c a logged queue round → Turns slots c (record { entry = entry_of logged; logged = logged; left = left; act = a }) queue round
 turns-collector slots c (act.Skip id) logged left queue round h = (refl, h)

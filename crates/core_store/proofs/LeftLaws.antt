@@ -4,7 +4,7 @@ use Rattle.std.specs.Prelude.{◌⊎◌, ◌≢◌}
 use Rattle.std.proofs.Math.Nat.{mul-le-mul_left}
 use Rattle.std.proofs.lemmas.List.{length-drop}
 use Rattle.std.proofs.lemmas.Bool.Decides.{nat_tests}
-use Rattle.store_model.specs.Cells.{Cell}
+use Rattle.cell_model.specs.Cells.{Cell}
 use Rattle.red_walk.specs.Walk.{Walk, next, moved, joined_by, copied, removed, work_left}
 use Rattle.red_walk.specs.declared.red_at.RedAt.{RedAt}
 use Rattle.red_walk.specs.declared.red_at.RedAt.TheVariants as red
@@ -139,7 +139,7 @@ module _ (slots ids : ℕ) (cells : List Cell) (w : Walk) (s : Sweep) (slot : �
       let kept = looks-keep cells g behind k.greens.greening looks in
       record { walk = k.walk; limit = k.limit; sweep = k.sweep; sweep_limit = k.sweep_limit; within = k.within; greens = greens-kept slots ids w s g behind k.greens rest kept.0 kept.1 }
 
-look-asked : (cells : List Cell) (r : RedAt) → is_event cells (asked_by_walk r) ≡ false → (id : ℕ) × (slot : ℕ) × (r ≡ red.Look id slot)
+pub look-asked : (cells : List Cell) (r : RedAt) → is_event cells (asked_by_walk r) ≡ false → (id : ℕ) × (slot : ℕ) × (r ≡ red.Look id slot)
 look-asked cells (red.Look id slot) h = (id, slot, refl)
 look-asked cells (red.Copy id) h = absurd (cc)
 look-asked cells red.Verdict h = absurd (cc)

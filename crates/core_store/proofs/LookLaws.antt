@@ -2,7 +2,7 @@
 use mathlib.Core.Bool.{beq}
 use Rattle.std.proofs.Common.{◌≡◌, ◌≢◌, ℕ, List, Bool, true, false, not, refl, sym, ap, ◌∙◌, ne_eqb, eq-eqb}
 use Rattle.std.specs.Prelude.{◌==◌, ◌&&◌}
-use Rattle.store_model.specs.Cells.{Cell as StoredCell, cell_at, pointer_in, pointer_at, is_strong, same}
+use Rattle.cell_model.specs.Cells.{Cell as StoredCell, cell_at, pointer_in, pointer_at, is_strong, same}
 use Rattle.cell_page.specs.declared.cell.Cell.{Cell}
 use Rattle.cell_page.specs.Stored.{cell_of}
 use Rattle.core_store.specs.Changes.{is_counted_strong}

@@ -15,12 +15,12 @@ use Rattle.plain_model.specs.Machine.{State, with_register, with_owned, with_wri
 use Rattle.plain_model.specs.History.{next, can_be_undone}
 use Rattle.plain_laws.proofs.Entries.{same_or_apart}
 use Rattle.plain_laws.proofs.Ids.{at_eq}
-use Rattle.store_model.proofs.EditLaws.{there, edit-here, edit-none, edit-other}
+use Rattle.cell_model.proofs.EditLaws.{there, edit-here, edit-none, edit-other}
 use Rattle.core_store.proofs.LayLaws.{CanLay-later}
 use Rattle.plain_laws.proofs.Locks.{transaction_of-with_same, transaction_of-with_other, stored-insert}
 use Rattle.strict_locks.specs.Locks.{Table, holders_of, StandsInWayOfOwn, Nobody, AddsOwner}
 use Rattle.log_record.specs.declared.cell_record.CellRecord.TheVariants as logs
-use Rattle.store_model.specs.Cells.{Cell, cell_at, edit, blank_cell, is_live, pointer_in}
+use Rattle.cell_model.specs.Cells.{Cell, cell_at, edit, blank_cell, is_live, pointer_in}
 use Rattle.store_model.specs.Core.{Core, Made}
 use Rattle.store_model.specs.Sound.{IsSound}
 use Rattle.store_model.proofs.CallLaws.{call-granted}
@@ -78,7 +78,7 @@ alive-made cells id slots x e =
     (same_or_apart x id)
 
 -- a cell that is made was free and blank: it becomes live, and all else stays
-links-made : (cells : List Cell) (id slots : ℕ) → id ≢ 0 → id < length cells → cell_at cells id ≡ blank_cell false slots → HasSameLinks cells (edit cells id (λ _. blank_cell true slots))
+pub links-made : (cells : List Cell) (id slots : ℕ) → id ≢ 0 → id < length cells → cell_at cells id ≡ blank_cell false slots → HasSameLinks cells (edit cells id (λ _. blank_cell true slots))
 links-made cells id slots some within free = record {
   pointers = λ x k. kept (λ (c : Cell). pointer_in c k) refl x;
   bits = kept (λ (c : Cell). c.bit) refl;
@@ -106,7 +106,7 @@ answers-make slots v c held new h locks free references pass into id kept t adds
     let put = puts-changed pass (loaded into (Some id)) kept v.transactions s.here in
     let locked = Locked-own slots v c h pass t u s.found locks id adds nobody refl refl in
     let sound = make-call c h.sound pass t s.found into s.granted (Id id) in
-    let fits = subst (λ (k : ℕ). Rattle.store_model.specs.Records.Fits c.cells (Rattle.store_model.specs.Records.Make pass k)) is sound.0 in
+    let fits = subst (λ (k : ℕ). Rattle.cell_model.specs.Records.Fits c.cells (Rattle.cell_model.specs.Records.Make pass k)) is sound.0 in
     let later = edit c.cells id (λ _. blank_cell true slots) in
     let state : (next m (Call pass (Make into) (Id id))).state ≡ made m.state pass t into id =
     after-granted m pass (Make into) (Id id) t s.found s.granted ∙ ap (λ (k : ℕ). made m.state pass t into k) is in
@@ -146,7 +146,7 @@ answers-make slots v c held new h locks free references pass into id kept t adds
           (HasRest-with slots v w c d h refl refl refl refl (round-same c.round)
           (owed-changed slots c d (made m.state pass t into id) pass (loaded into (Some id) kept) u h.sound all_sound state refl here others (λ q n. refl) runs kept t s.found s.runs v.owed v.owed h.owed refl)
           (λ p. noted p ∙ (named_more-same v.references (named_by c.refs) pass id p (h.references p) ∙ sym (named_by-noted c.refs (record { pass = pass; target = id; kind = Made }) p some)))
-          (links-made c.cells id slots some fits.1 (subst (λ (n : ℕ). cell_at c.cells id ≡ blank_cell false n) h.slots_are (h.sound.empty id fits.1 fits.2))));
+          (links-made c.cells id slots some fits.1 (subst (λ (n : ℕ). cell_at c.cells id ≡ blank_cell false n) h.slots_are (h.sound.consistent.empty id fits.1 fits.2))));
       round = refl;
     }
 

@@ -7,7 +7,7 @@ use Rattle.plain_model.specs.declared.write.Place.TheVariants.{Slot, Payload, Wh
 use Rattle.plain_model.specs.declared.write.Write.{Write}
 use Rattle.plain_model.specs.declared.calls.Call.{Call as TransactionCall}
 use Rattle.plain_laws.proofs.Entries.{same_or_apart}
-use Rattle.store_model.specs.Cells.{Cell, pointer_at, is_live}
+use Rattle.cell_model.specs.Cells.{Cell, pointer_at, is_live}
 use Rattle.store_model.specs.Core.{Core}
 use Rattle.core_store.specs.declared.plan.Plan.{Plan}
 use Rattle.core_store.specs.declared.plan.Plan.TheVariants as plan
@@ -63,7 +63,7 @@ module _ {slots : ℕ} {v : TablesView} {core : Core} (h : Stands slots v core) 
   few-one id k = record { few = omega arith; within = (k, tt) }
 
   old-live : (id slot : ℕ) → is_live core.cells id ≡ true → (pointer_at core.cells id slot).target ≢ 0 → (0 < (pointer_at core.cells id slot).target) × ((pointer_at core.cells id slot).target ≤ v.ids)
-  old-live id slot live n = one-live (pointer_at core.cells id slot).target (live-id h (pointer_at core.cells id slot).target (h.sound.exact.closed id slot live n))
+  old-live id slot live n = one-live (pointer_at core.cells id slot).target (live-id h (pointer_at core.cells id slot).target (h.sound.consistent.exact.closed id slot live n))
 
   pub few-plan : (pass : ℕ) (c : TransactionCall) (p : Plan) → IsGranted v pass c p → AreFew v.ids (objects_of_plan core.cells p)
   few-plan pass c plan.Begin w = record { few = omega arith; within = tt }

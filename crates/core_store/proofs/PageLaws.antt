@@ -5,7 +5,7 @@ use Rattle.std.proofs.lemmas.Bool.{ne_eqb, eq-eqb, cases_Bool, cases_lt, cases_e
 use Rattle.std.proofs.Math.Bool.{or-false, or_assoc}
 use Rattle.std.proofs.lemmas.List.{map-append, drop-set-lt, drop-set-add, take-set-le}
 use Rattle.std.proofs.lemmas.List.Folds.{list_any_at}
-use Rattle.store_model.specs.Cells.{Cell as StoredCell, cell_at, edit}
+use Rattle.cell_model.specs.Cells.{Cell as StoredCell, cell_at, edit}
 use Rattle.cell_page.specs.Format.{first_id}
 use Rattle.cell_page.specs.Stored.{page_of, HoldsPage}
 use Rattle.cell_page.proofs.HeldPages.{HoldsPage-other}

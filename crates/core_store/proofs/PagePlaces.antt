@@ -4,7 +4,7 @@ use Rattle.std.specs.Prelude.{◌==◌}
 use Rattle.std.proofs.Math.Seq.{take-set-lt}
 use Rattle.std.proofs.lemmas.List.{length-take, get_or-take, length-set}
 use Rattle.std.proofs.lemmas.List.Elements.{All-from_recursion}
-use Rattle.store_model.specs.Cells.{Cell as StoredCell, cell_at, edit}
+use Rattle.cell_model.specs.Cells.{Cell as StoredCell, cell_at, edit}
 use Rattle.cell_page.specs.declared.cell.Cell.{Cell}
 use Rattle.cell_page.specs.Format.{IsCell, HasId, first_id, place_of}
 use Rattle.cell_page.specs.Stored.{cell_of, HoldsPage}

@@ -3,7 +3,7 @@ use Rattle.std.proofs.Common.{◌≡◌, ℕ, ◌+◌, ◌<◌, ◌≤◌, List,
 use Rattle.std.specs.Prelude.{◌==◌, if◌then◌else◌, slice_index}
 use Rattle.std.proofs.lemmas.Bool.{eqb-true, cases_lt}
 use Rattle.std.proofs.lemmas.List.{get_or_past, get_or-drop}
-use Rattle.store_model.specs.Cells.{Cell, Pointer, null, cell_at, pointer_at}
+use Rattle.cell_model.specs.Cells.{Cell, Pointer, null, cell_at, pointer_at}
 use Rattle.store_model.specs.Core.{Round, Core}
 use Rattle.red_walk.specs.Walk.{Walk}
 use Rattle.green_walk.specs.declared.sweep.SweepAt.{SweepAt}
@@ -111,7 +111,7 @@ module _ (slots : ℕ) (v : TablesView) (c : Core) (h : Stands slots v c) (nothi
       let there = subst (IsThere slots c.cells) is (asked-there h) in
       record {
         round = round-next_slot slots w s slot g id n;
-        emptied = IsEmptied-next_slot slots c.cells w s slot g id n (h.sound.slotted id there.0 ∙ h.slots_are)
+        emptied = IsEmptied-next_slot slots c.cells w s slot g id n (h.sound.consistent.slotted id there.0 ∙ h.slots_are)
             (null-at (pointer_at c.cells id slot).target (subst (λ (a : RoundAt). is_event c.cells a ≡ false) is nothing)) (subst (IsEmptied c.cells) e h.emptied);
         tested = tested-next_slot slots c.cells w s slot g (subst (IsTested c.cells) e h.tested);
       }

@@ -10,9 +10,9 @@ use Rattle.plain_model.specs.ActiveTransaction.{ActiveTransaction}
 use Rattle.plain_model.specs.Machine.{State, is_stored, transaction_of, register, register_id, free_id, refusal_of, refusal_in, refusal_out, or_else, if_aborting, if_empty, if_busy, blocks_sharing, blocks_owning}
 use Rattle.plain_model.specs.History.{Moment, IsId}
 use Rattle.plain_laws.proofs.Legal.{registers-stored_proof, not_empty}
-use Rattle.store_model.specs.Cells.{Cell, is_live}
+use Rattle.cell_model.specs.Cells.{Cell, is_live}
 use Rattle.store_model.specs.Core.{Core}
-use Rattle.store_model.proofs.EditLaws.{live-within, live-there}
+use Rattle.cell_model.proofs.EditLaws.{live-within, live-there}
 use Rattle.store_model.proofs.ActiveLaws.{register-contained}
 use Rattle.core_store.specs.FreeIds.{IsLeastOf}
 use Rattle.core_store.specs.Transactions.{Running, running_at}
@@ -108,8 +108,8 @@ module _ {slots : ℕ} {v : TablesView} {core : Core} (h : Stands slots v core) 
   pub live-id : (id : ℕ) → is_live core.cells id ≡ true → IsLiveId core.cells core.moment.state.ids id
   live-id id l =
       let k = live-within core.cells id l in
-      let z = live-there core.cells id h.sound.exact.none l in
-      let n = h.sound.sized in
+      let z = live-there core.cells id h.sound.consistent.exact.none l in
+      let n = h.sound.consistent.sized in
       let few = h.few in
       let same = h.ids in
       record { live = l; above = omega (arith, z); within = omega (arith, k, n); few = omega (arith, k, n, few, same) }

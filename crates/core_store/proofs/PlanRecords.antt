@@ -7,7 +7,7 @@ use Rattle.plain_model.specs.declared.calls.Reply.{Reply}
 use Rattle.plain_model.specs.ActiveTransaction.{ActiveTransaction}
 use Rattle.plain_model.specs.Machine.{State, transaction_of, refusal_of, IsInRange}
 use Rattle.plain_model.specs.History.{Moment}
-use Rattle.store_model.specs.Cells.{Cell, cell_at}
+use Rattle.cell_model.specs.Cells.{Cell, cell_at}
 use Rattle.store_model.specs.Core.{Core}
 use Rattle.log_record.specs.declared.cell_record.CellRecord.{CellRecord}
 use Rattle.log_record.specs.declared.cell_record.CellRecord.TheVariants as logs

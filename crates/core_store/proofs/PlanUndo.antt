@@ -10,7 +10,7 @@ use Rattle.plain_model.specs.ActiveTransaction.{ActiveTransaction}
 use Rattle.plain_model.specs.Graphs.{FitsPlace}
 use Rattle.plain_model.specs.History.{left_to_undo}
 use Rattle.plain_laws.proofs.Entries.{same_or_apart}
-use Rattle.store_model.specs.Cells.{Cell}
+use Rattle.cell_model.specs.Cells.{Cell}
 use Rattle.store_model.specs.Core.{Core}
 use Rattle.core_store.specs.Frames.{page_of_id}
 use Rattle.core_store.specs.Logged.{objects_of_undo, pages_for_undo}

@@ -6,7 +6,7 @@ use Rattle.plain_model.specs.declared.calls.Call.TheVariants as call
 use Rattle.plain_model.specs.Machine.{IsInRange}
 use Rattle.plain_laws.proofs.Entries.{same_or_apart}
 use Rattle.plain_laws.proofs.Ids.{true_or_false}
-use Rattle.store_model.specs.Cells.{Pointer, Cell, null, blank_cell, cell_at, pointer_in, pointer_at, is_live}
+use Rattle.cell_model.specs.Cells.{Pointer, Cell, null, blank_cell, cell_at, pointer_in, pointer_at, is_live}
 use Rattle.store_model.specs.Core.{Core}
 use Rattle.core_store.specs.declared.plan.Plan.{Plan}
 use Rattle.core_store.specs.declared.plan.Plan.TheVariants as plan
@@ -35,7 +35,7 @@ module _ {slots : ℕ} {v : TablesView} {core : Core} (h : Stands slots v core) 
   free_target : (id slot : ℕ) → is_live core.cells id ≡ false → (pointer_at core.cells id slot).target ≡ 0
   free_target id slot n =
       ⊎_elim
-      (λ (l : id < length core.cells). ap (λ (c : Cell). (pointer_in c slot).target) (h.sound.empty id l n) ∙ blank_target core.moment.state.slots slot)
+      (λ (l : id < length core.cells). ap (λ (c : Cell). (pointer_in c slot).target) (h.sound.consistent.empty id l n) ∙ blank_target core.moment.state.slots slot)
       (λ (l : length core.cells ≤ id). ap (λ (c : Cell). (pointer_in c slot).target) (past core.cells id l) ∙ blank_target 0 slot)
       (cases_lt id (length core.cells))
 
@@ -46,7 +46,7 @@ module _ {slots : ℕ} {v : TablesView} {core : Core} (h : Stands slots v core) 
       (λ (a : is_live core.cells id ≡ true).
       ⊎_elim
       (λ (z : (pointer_at core.cells id slot).target ≡ 0). omega (arith, z))
-      (λ n. (let few = (live-id h (pointer_at core.cells id slot).target (h.sound.exact.closed id slot a n)).few in omega (arith, few)))
+      (λ n. (let few = (live-id h (pointer_at core.cells id slot).target (h.sound.consistent.exact.closed id slot a n)).few in omega (arith, few)))
       (same_or_apart (pointer_at core.cells id slot).target 0))
       (λ (a : is_live core.cells id ≡ false). let z = free_target id slot a in omega (arith, z))
       (true_or_false (is_live core.cells id))

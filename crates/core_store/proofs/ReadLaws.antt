@@ -9,7 +9,7 @@ use Rattle.plain_model.specs.ActiveTransaction.{ActiveTransaction}
 use Rattle.plain_model.specs.Machine.{State, step, register_id, nonzero, seen_slot, with_register, with_shared, with_transaction}
 use Rattle.plain_model.specs.History.{next}
 use Rattle.strict_locks.specs.Locks.{Table, AddsShare}
-use Rattle.store_model.specs.Cells.{cell_at, pointer_at}
+use Rattle.cell_model.specs.Cells.{cell_at, pointer_at}
 use Rattle.store_model.specs.Core.{Core}
 use Rattle.store_model.specs.Sound.{IsSound}
 use Rattle.store_model.proofs.CallLaws.{call-granted}

@@ -3,7 +3,7 @@ use Rattle.std.proofs.Common.{◌≡◌, ◌≢◌, ℕ, ◌<◌, ◌≤◌, Lis
 use Rattle.std.specs.Prelude.{Contains, Option, Some}
 use Rattle.std.specs.Option.{option_map_or}
 use Rattle.std.specs.List.{AllByRecursion}
-use Rattle.store_model.specs.Cells.{Cell, pointer_at, is_live}
+use Rattle.cell_model.specs.Cells.{Cell, pointer_at, is_live}
 use Rattle.store_model.specs.Core.{Round, Core}
 use Rattle.red_walk.specs.declared.red_at.RedAt.{RedAt}
 use Rattle.red_walk.specs.declared.red_at.RedAt.TheVariants as red
@@ -51,7 +51,7 @@ IsThere slots cells (at.Out «from» slot) = (is_live cells «from» ≡ true) �
 IsThere slots cells (at.Strengthen «from» slot to) = (is_live cells «from» ≡ true) × (slot < slots) × (is_live cells to ≡ true)
 IsThere slots cells _ = Unit {0}
 
-look-slot : (xs : List ℕ) (k : ℕ) (ys : List ℕ) (id slot : ℕ) → first_of xs k ys ≡ red.Look id slot → k ≡ slot
+pub look-slot : (xs : List ℕ) (k : ℕ) (ys : List ℕ) (id slot : ℕ) → first_of xs k ys ≡ red.Look id slot → k ≡ slot
 look-slot [] k [] id slot e = absurd (cc)
 look-slot [] k (y ∷ ys) id slot e = absurd (cc)
 look-slot (x ∷ xs) k ys id slot e = cc
@@ -165,7 +165,7 @@ module _ {slots : ℕ} {v : TablesView} {c : Core} (h : Stands slots v c) where
   few-slot : (id slot : ℕ) → is_live c.cells id ≡ true → AreFew v.ids (objects_at c.cells (at.Look id slot))
   few-slot id slot l =
       let old = (pointer_at c.cells id slot).target in
-      few-change v.ids c.cells id slot 0 (one-live h id (live-id h id l)) (λ n. one-live h old (live-id h old (h.sound.exact.closed id slot l n))) (λ n. absurd (n refl))
+      few-change v.ids c.cells id slot 0 (one-live h id (live-id h id l)) (λ n. one-live h old (live-id h old (h.sound.consistent.exact.closed id slot l n))) (λ n. absurd (n refl))
 
   few-on : (r : RoundAt) → IsThere slots c.cells r → AreFew v.ids (objects_at c.cells r)
   few-on (at.Look id slot) t = few-slot id slot t.0

@@ -13,7 +13,8 @@ use Rattle.plain_model.specs.declared.write.Write.{Write}
 use Rattle.plain_model.specs.Graphs.{object_at, after_write, applied}
 use Rattle.plain_model.specs.History.{can_be_undone}
 use Rattle.store_model.proofs.Lists.{Contains-here, Contains-later}
-use Rattle.core_store.specs.Replaced.{value_in, before_write, replaced}
+use Rattle.restart_laws.specs.Told.{value_in}
+use Rattle.core_store.specs.Replaced.{before_write, replaced}
 use Rattle.core_store.proofs.ReplacedLists.{last_or-push, take-front_one}
 
 -- what one write replaced, where it can be undone

@@ -18,7 +18,8 @@ use Rattle.store_model.proofs.EndLaws.{transaction-active}
 use Rattle.store_model.proofs.Lists.{Contains-here, each}
 use Rattle.store_model.proofs.OnceLaws.{nothing-in}
 use Rattle.store_model.proofs.SlotLaws.{after_writes-value}
-use Rattle.core_store.specs.Replaced.{value_in, before_write, replaced}
+use Rattle.restart_laws.specs.Told.{value_in}
+use Rattle.core_store.specs.Replaced.{before_write, replaced}
 use Rattle.core_store.specs.Transactions.{Running}
 use Rattle.core_store.specs.Stands.{IsRunning}
 use Rattle.core_store.proofs.LayLaws.{only_item}

@@ -2,10 +2,10 @@
 use Rattle.std.proofs.Common.{◌≡◌, ℕ, ◌&&◌, ◌==◌, Bool, not, List, [], refl, sym, ap, ◌∙◌, subst, Option, Some, None}
 use Rattle.std.specs.Prelude.{IfSome}
 use Rattle.green_walk.specs.declared.green_at.Test.{Test}
-use Rattle.store_model.specs.Cells.{Cell, Pointer, cell_at, pointer_in, pointer_at, edit, pays, same}
+use Rattle.cell_model.specs.Cells.{Cell, Pointer, cell_at, pointer_in, pointer_at, edit, pays, same}
 use Rattle.store_model.specs.Core.{Ref, Round, Core}
 use Rattle.store_model.specs.Sound.{IsSound}
-use Rattle.store_model.proofs.EditLaws.{edit-keeps}
+use Rattle.cell_model.proofs.EditLaws.{edit-keeps}
 use Rattle.core_store.specs.Changes.{is_counted_strong}
 use Rattle.core_store.specs.Owed.{entries_owed}
 use Rattle.core_store.specs.References.{named_by}

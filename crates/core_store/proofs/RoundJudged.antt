@@ -4,8 +4,8 @@ use Rattle.std.specs.Prelude.{Contains}
 use Rattle.red_walk.specs.declared.red_at.RedAt.TheVariants as red
 use Rattle.red_walk.specs.Walk.{Walk, next}
 use Rattle.green_walk.specs.Judged.{Judged, Picks}
-use Rattle.green_walk.specs.Sweeping.{Sweeping as Sweep, started}
-use Rattle.green_walk.specs.Greening.{Greening, started as green_started}
+use Rattle.green_walk.specs.Sweeping.{Sweeping as Sweep, IsSweep, started}
+use Rattle.green_walk.specs.Greening.{Greening, IsGreening, started as green_started}
 use Rattle.green_walk.proofs.PicksLaws.{picks-from}
 use Rattle.core_store.specs.declared.round.Stage.{Stage}
 use Rattle.core_store.specs.declared.round.Stage.TheVariants as stage
@@ -31,10 +31,13 @@ judge-asked stage.Sweeping w s slot g e = let x = asked-judge (Sweeping w s slot
 
 -- the sweep and the green walk begin
 pub judged-in-step : (slots ids : ℕ) (a : Stage) (w : Walk) (locked row : List Bool) (i j : Judged) (s : Sweep) (slot : ℕ) (g : Greening) (P : ℕ → Type 0)
-    → AreInStep slots ids a w locked i s slot g → a ≡ stage.Walking → length row ≡ ids → j.limit ≡ ids → Picks P w.list j.live → Picks (λ id. P id → ⊥) w.list j.condemned
+    → AreInStep slots ids a w locked i s slot g → IsSweep (started j.condemned ids) → IsGreening (green_started slots j w) → a ≡ stage.Walking → length row ≡ ids → j.limit ≡ ids → Picks P w.list j.live → Picks (λ id. P id → ⊥) w.list j.condemned
     → AreInStep slots ids stage.Sweeping w row j (started j.condemned ids) 0 (green_started slots j w)
-judged-in-step slots ids a w locked row i j s slot g P k walks room limit live condemned =
+judged-in-step slots ids a w locked row i j s slot g P k sweeps greens walks room limit live condemned =
     record {
+      walk_sound = k.walk_sound;
+      sweep_sound = sweeps;
+      green_sound = greens;
       walk_limit = k.walk_limit;
       locked_limit = room;
       verdict_limit = limit;

@@ -1,13 +1,11 @@
 -- How the parts of a round are read off what is seen of it, and that each change keeps them in step.
-use Rattle.std.proofs.Common.{◌≡◌, ◌≢◌, ℕ, ◌+◌, ◌-◌, ◌*◌, ◌<◌, ◌≤◌, ◌==◌, ◌&&◌, ◌||◌, if◌then◌else◌, Bool, true, false, not, List, length, drop, filter, Option, Some, None, refl, sym, ap, ◌∙◌, subst, arith, ne_eqb, ⊎_elim}
+use Rattle.std.proofs.Common.{◌≡◌, ◌≢◌, ℕ, ◌+◌, ◌-◌, ◌*◌, ◌<◌, ◌≤◌, ◌==◌, Bool, not, List, length, drop, Option, Some, None, refl, sym, ap, ◌∙◌, subst, arith, ne_eqb, ⊎_elim}
 use Rattle.std.specs.Prelude.{Contains, IfSome}
-use Rattle.std.proofs.lemmas.List.Filters.{length-filter_both}
 use Rattle.std.proofs.lemmas.Nat.{mul-le}
 use Rattle.std.proofs.lemmas.List.{length-drop}
 use Rattle.std.proofs.Math.Arith.{lt_of_le-ne}
 use Rattle.cell_page.specs.Format.{IsSlotCount}
-use Rattle.red_walk.specs.Ids.{has}
-use Rattle.red_walk.specs.Walk.{Walk, IsWalk, removed, touched_at, is_open}
+use Rattle.red_walk.specs.Walk.{Walk, IsWalk, removed}
 use Rattle.red_walk.proofs.Filters.{among-filter}
 use Rattle.green_walk.specs.declared.sweep.SweepAt.TheVariants as sweep
 use Rattle.green_walk.specs.declared.sweep.Found.{Found}
@@ -39,15 +37,6 @@ pub sweeping-of : (a : Stage) (w v : Walk) (s t : Sweep) (slot k : ℕ) (g h : G
 sweeping-of stage.Closed w v s t slot k g h e = absurd (cc)
 sweeping-of stage.Walking w v s t slot k g h e = absurd (cc)
 sweeping-of stage.Sweeping w v s t slot k g h e = (refl, cc, cc, cc, cc)
-
--- there are no more objects than ids
-pub few-left : (slots : ℕ) (w : Walk) (list : List ℕ) → IsWalk slots w → list ≡ w.list → filter (λ id. has w.left id) list ≡ w.left → length w.left ≤ w.limit
-few-left slots w list k e f =
-    let l : length w.left ≡ length (filter (λ id. has w.left id) list) = ap length (sym f) in
-    let m = length-filter_both (λ id. has w.left id) (λ id. not (has w.left id)) (λ id. refl) list in
-    let n : length list ≡ length w.list = ap length e in
-    let most = k.ids.most in
-    omega (arith, l, m, n, most)
 
 -- ---- what is asked for
 
@@ -96,23 +85,26 @@ testable-of stage.Sweeping w s slot g id h = h
 -- ---- the parts stay in step
 
 -- what holds of every open round
-pub open-in-step : (slots ids : ℕ) (a : Stage) (w : Walk) (locked : List Bool) (j : Judged) (s : Sweep) (slot : ℕ) (g : Greening) → AreInStep slots ids a w locked j s slot g → IsWalk slots w → IsSweep s → IsGreening g → IsInStep slots ids (view_of_round a w s slot g)
-open-in-step slots ids stage.Closed w locked j s slot g k walk swept green = tt
-open-in-step slots ids stage.Walking w locked j s slot g k walk swept green = record { walk = walk; limit = k.walk_limit; whole = k.whole refl }
-open-in-step slots ids stage.Sweeping w locked j s slot g k walk swept green =
+pub open-in-step : (slots ids : ℕ) (a : Stage) (w : Walk) (locked : List Bool) (j : Judged) (s : Sweep) (slot : ℕ) (g : Greening) → AreInStep slots ids a w locked j s slot g → IsInStep slots ids (view_of_round a w s slot g)
+open-in-step slots ids stage.Closed w locked j s slot g k = tt
+open-in-step slots ids stage.Walking w locked j s slot g k = record { walk = k.walk_sound; limit = k.walk_limit; whole = k.whole refl }
+open-in-step slots ids stage.Sweeping w locked j s slot g k =
     record {
-      walk = walk;
+      walk = k.walk_sound;
       limit = k.walk_limit;
-      sweep = swept;
+      sweep = k.sweep_sound;
       sweep_limit = k.sweep_limit;
       within = k.within;
-      greens = record { greening = green; green_limit = k.green_limit; green_slots = k.green_slots; left = k.left refl; spared = k.spared refl; at_rest = k.at_rest refl };
+      greens = record { greening = k.green_sound; green_limit = k.green_limit; green_slots = k.green_slots; left = k.left refl; spared = k.spared refl; at_rest = k.at_rest refl };
     }
 
 -- another green walk of the same objects
-green-in-step : (slots ids : ℕ) (a : Stage) (w : Walk) (locked : List Bool) (j : Judged) (s : Sweep) (slot : ℕ) (g h : Greening) → AreInStep slots ids a w locked j s slot g → IsSameWalk g h → (next_of_sweep s ≢ sweep.End → h.test ≡ None) → AreInStep slots ids a w locked j s slot h
-green-in-step slots ids a w locked j s slot g h k same rest =
+green-in-step : (slots ids : ℕ) (a : Stage) (w : Walk) (locked : List Bool) (j : Judged) (s : Sweep) (slot : ℕ) (g h : Greening) → AreInStep slots ids a w locked j s slot g → IsGreening h → IsSameWalk g h → (next_of_sweep s ≢ sweep.End → h.test ≡ None) → AreInStep slots ids a w locked j s slot h
+green-in-step slots ids a w locked j s slot g h k sound same rest =
     record {
+      walk_sound = k.walk_sound;
+      sweep_sound = k.sweep_sound;
+      green_sound = sound;
       walk_limit = k.walk_limit;
       locked_limit = k.locked_limit;
       verdict_limit = k.verdict_limit;
@@ -127,53 +119,31 @@ green-in-step slots ids a w locked j s slot g h k same rest =
       at_rest = λ e. rest;
     }
 
-pub found-in-step : (slots ids : ℕ) (a : Stage) (w : Walk) (locked : List Bool) (j : Judged) (s : Sweep) (slot : ℕ) (g : Greening) (what : Found) → AreInStep slots ids a w locked j s slot g → IsGreening g → IsGreenAnswer (view_of_round a w s slot g) what → AreInStep slots ids a w locked j s slot (found_by_green g what)
-found-in-step slots ids a w locked j s slot g what k sound h =
+pub found-in-step : (slots ids : ℕ) (a : Stage) (w : Walk) (locked : List Bool) (j : Judged) (s : Sweep) (slot : ℕ) (g : Greening) (what : Found) → AreInStep slots ids a w locked j s slot g → IsGreening (found_by_green g what) → IsGreenAnswer (view_of_round a w s slot g) what → AreInStep slots ids a w locked j s slot (found_by_green g what)
+found-in-step slots ids a w locked j s slot g what k after h =
     let answer = answer-of a w s slot g what h in
-    green-in-step slots ids a w locked j s slot g (found_by_green g what) k (found-law g what sound answer.1).0 (λ other. absurd (other answer.0))
+    green-in-step slots ids a w locked j s slot g (found_by_green g what) k after (found-law g what k.green_sound answer.1).0 (λ other. absurd (other answer.0))
 
-pub testing-in-step : (slots ids : ℕ) (a : Stage) (w : Walk) (locked : List Bool) (j : Judged) (s : Sweep) (slot : ℕ) (g : Greening) (id : ℕ) → AreInStep slots ids a w locked j s slot g → IsGreening g → IsGreenTestable (view_of_round a w s slot g) id → AreInStep slots ids a w locked j s slot (testing g id)
-testing-in-step slots ids a w locked j s slot g id k sound h =
+pub testing-in-step : (slots ids : ℕ) (a : Stage) (w : Walk) (locked : List Bool) (j : Judged) (s : Sweep) (slot : ℕ) (g : Greening) (id : ℕ) → AreInStep slots ids a w locked j s slot g → IsGreening (testing g id) → IsGreenTestable (view_of_round a w s slot g) id → AreInStep slots ids a w locked j s slot (testing g id)
+testing-in-step slots ids a w locked j s slot g id k after h =
     let there = testable-of a w s slot g id h in
-    green-in-step slots ids a w locked j s slot g (testing g id) k (testing-law g id sound there.1).0 (λ other. absurd (other there.0))
+    green-in-step slots ids a w locked j s slot g (testing g id) k after (testing-law g id k.green_sound there.1).0 (λ other. absurd (other there.0))
 
-pub tested-in-step : (slots ids : ℕ) (a : Stage) (w : Walk) (locked : List Bool) (j : Judged) (s : Sweep) (slot id n : ℕ) (g : Greening) → AreInStep slots ids a w locked j s slot g → IsGreening g → asked (view_of_round a w s slot g) ≡ at.Test id n → AreInStep slots ids a w locked j s slot (tested g)
-tested-in-step slots ids a w locked j s slot id n g k sound e =
-    let x = test-asked a w s slot id n g sound e in
-    green-in-step slots ids a w locked j s slot g (tested g) k (tested-law g x.1 sound x.2 x.3).0 (λ other. absurd (other x.0))
+pub tested-in-step : (slots ids : ℕ) (a : Stage) (w : Walk) (locked : List Bool) (j : Judged) (s : Sweep) (slot id n : ℕ) (g : Greening) → AreInStep slots ids a w locked j s slot g → IsGreening (tested g) → asked (view_of_round a w s slot g) ≡ at.Test id n → AreInStep slots ids a w locked j s slot (tested g)
+tested-in-step slots ids a w locked j s slot id n g k after e =
+    let x = test-asked a w s slot id n g k.green_sound e in
+    green-in-step slots ids a w locked j s slot g (tested g) k after (tested-law g x.1 k.green_sound x.2 x.3).0 (λ other. absurd (other x.0))
 
-pub again-in-step : (slots ids : ℕ) (a : Stage) (w : Walk) (locked : List Bool) (j : Judged) (s : Sweep) (slot : ℕ) (g : Greening) → AreInStep slots ids a w locked j s slot g → AreInStep slots ids a w locked j s slot (again g)
-again-in-step slots ids a w locked j s slot g k = green-in-step slots ids a w locked j s slot g (again g) k (record { live = refl; slots = refl; limit = refl }) (λ other. refl)
-
--- an object is touched
-touched-to : (slots ids : ℕ) (a : Stage) (w : Walk) (locked : List Bool) (j : Judged) (s : Sweep) (slot : ℕ) (g : Greening) (touched : List ℕ) → AreInStep slots ids a w locked j s slot g → AreInStep slots ids a (record w { touched = touched }) locked j s slot g
-touched-to slots ids a w locked j s slot g touched k =
-    record {
-      walk_limit = k.walk_limit;
-      locked_limit = k.locked_limit;
-      verdict_limit = k.verdict_limit;
-      sweep_limit = k.sweep_limit;
-      few = k.few;
-      within = k.within;
-      whole = k.whole;
-      green_limit = k.green_limit;
-      green_slots = k.green_slots;
-      left = k.left;
-      spared = k.spared;
-      at_rest = k.at_rest;
-    }
-
-pub touched-in-step : (slots ids : ℕ) (a : Stage) (w : Walk) (locked : List Bool) (j : Judged) (s : Sweep) (slot : ℕ) (g : Greening) (id : ℕ) → AreInStep slots ids a w locked j s slot g → AreInStep slots ids a (touched_at w id) locked j s slot g
-touched-in-step slots ids a w locked j s slot g id k = by (is_open w && has w.left id)
-  where
-    by : (b : Bool) → AreInStep slots ids a (if b then record w { touched = filter (λ x. (x == id) || has w.touched x) w.list } else w) locked j s slot g
-    by true = touched-to slots ids a w locked j s slot g (filter (λ x. (x == id) || has w.touched x) w.list) k
-    by false = k
+pub again-in-step : (slots ids : ℕ) (a : Stage) (w : Walk) (locked : List Bool) (j : Judged) (s : Sweep) (slot : ℕ) (g : Greening) → AreInStep slots ids a w locked j s slot g → IsGreening (again g) → AreInStep slots ids a w locked j s slot (again g)
+again-in-step slots ids a w locked j s slot g k after = green-in-step slots ids a w locked j s slot g (again g) k after (record { live = refl; slots = refl; limit = refl }) (λ other. refl)
 
 -- the sweep goes on behind an object
-pub cut-in-step : (slots ids : ℕ) (a : Stage) (w : Walk) (locked : List Bool) (j : Judged) (s : Sweep) (slot id : ℕ) (g : Greening) → AreInStep slots ids a w locked j s slot g → next_of_sweep s ≡ sweep.Slots id → AreInStep slots ids a w locked j (found s Nothing) 0 g
-cut-in-step slots ids a w locked j s slot id g k e =
+pub cut-in-step : (slots ids : ℕ) (a : Stage) (w : Walk) (locked : List Bool) (j : Judged) (s : Sweep) (slot id : ℕ) (g : Greening) → AreInStep slots ids a w locked j s slot g → IsSweep (found s Nothing) → next_of_sweep s ≡ sweep.Slots id → AreInStep slots ids a w locked j (found s Nothing) 0 g
+cut-in-step slots ids a w locked j s slot id g k after e =
     subst (λ (t : Sweep). AreInStep slots ids a w locked j t 0 g) (sym (ap (λ n. found_at s n Nothing) e)) (record {
+      walk_sound = k.walk_sound;
+      sweep_sound = subst IsSweep (ap (λ n. found_at s n Nothing) e) after;
+      green_sound = k.green_sound;
       walk_limit = k.walk_limit;
       locked_limit = k.locked_limit;
       verdict_limit = k.verdict_limit;
@@ -197,6 +167,9 @@ slot-in-step slots ids a w locked j s slot g k other =
     let below = k.within in
     let behind : slot + 1 ≤ slots = omega (arith, below) in
     record {
+      walk_sound = k.walk_sound;
+      sweep_sound = k.sweep_sound;
+      green_sound = k.green_sound;
       walk_limit = k.walk_limit;
       locked_limit = k.locked_limit;
       verdict_limit = k.verdict_limit;
@@ -212,9 +185,12 @@ slot-in-step slots ids a w locked j s slot g k other =
     }
 
 -- an object is freed, which is none of those that live
-pub freed-in-step : (slots ids : ℕ) (a : Stage) (w : Walk) (locked : List Bool) (j : Judged) (s : Sweep) (slot id : ℕ) (g : Greening) → AreInStep slots ids a w locked j s slot g → IsSweep s → a ≡ stage.Sweeping → next_of_sweep s ≡ sweep.Free id → AreInStep slots ids a (removed w id) locked j (found s (Made id)) slot g
-freed-in-step slots ids a w locked j s slot id g k swept sweeps e =
+pub freed-in-step : (slots ids : ℕ) (a : Stage) (w : Walk) (locked : List Bool) (j : Judged) (s : Sweep) (slot id : ℕ) (g : Greening) → AreInStep slots ids a w locked j s slot g → IsWalk slots (removed w id) → IsSweep (found s (Made id)) → a ≡ stage.Sweeping → next_of_sweep s ≡ sweep.Free id → AreInStep slots ids a (removed w id) locked j (found s (Made id)) slot g
+freed-in-step slots ids a w locked j s slot id g k walks_on swept sweeps e =
     subst (λ (t : Sweep). AreInStep slots ids a (removed w id) locked j t slot g) (sym (ap (λ n. found_at s n (Made id)) e)) (record {
+      walk_sound = walks_on;
+      sweep_sound = subst IsSweep (ap (λ n. found_at s n (Made id)) e) swept;
+      green_sound = k.green_sound;
       walk_limit = k.walk_limit;
       locked_limit = k.locked_limit;
       verdict_limit = k.verdict_limit;
@@ -230,7 +206,7 @@ freed-in-step slots ids a w locked j s slot id g k swept sweeps e =
     })
   where
     condemned : Contains s.list id
-    condemned = Contains-drop s.freed s.list id (free-law s id swept e).0
+    condemned = Contains-drop s.freed s.list id (free-law s id k.sweep_sound e).0
 
 -- ---- how much is left
 

@@ -8,7 +8,7 @@ use Rattle.plain_model.specs.declared.write.Write.{Write}
 use Rattle.plain_model.specs.ActiveTransaction.{ActiveTransaction}
 use Rattle.plain_model.specs.Graphs.{applied}
 use Rattle.plain_model.specs.History.{can_be_undone}
-use Rattle.store_model.specs.Cells.{Cell, is_live}
+use Rattle.cell_model.specs.Cells.{Cell, is_live}
 use Rattle.core_store.specs.Replaced.{replaced, before_write}
 use Rattle.core_store.specs.Transactions.{Running, writing}
 use Rattle.core_store.specs.Stands.{IsRunning, CanLay}

@@ -1,9 +1,9 @@
 -- The looks of the green walk, as they are made.
 use Rattle.std.proofs.Common.{◌≡◌, ℕ, ◌<◌, List, length, Bool, true, false, refl, sym, ap, ◌∙◌, subst, IfSome}
 use Rattle.std.specs.Prelude.{◌&&◌, if◌then◌else◌}
-use Rattle.store_model.specs.Cells.{Cell, cell_at, pointer_at, is_live}
+use Rattle.cell_model.specs.Cells.{Cell, cell_at, pointer_at, is_live}
 use Rattle.store_model.specs.Core.{Core}
-use Rattle.store_model.proofs.EditLaws.{live-within}
+use Rattle.cell_model.proofs.EditLaws.{live-within}
 use Rattle.red_walk.specs.Walk.{Walk}
 use Rattle.green_walk.specs.declared.sweep.SweepAt.TheVariants as sweep
 use Rattle.green_walk.specs.declared.sweep.Found.{Found}

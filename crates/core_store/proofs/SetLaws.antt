@@ -13,12 +13,12 @@ use Rattle.plain_model.specs.Machine.{State, register_id, with_write, with_owned
 use Rattle.plain_model.specs.History.{next}
 use Rattle.strict_locks.specs.Locks.{Table, holders_of, StandsInWayOfOwn, Nobody, AddsOwner}
 use Rattle.log_record.specs.declared.cell_record.CellRecord.TheVariants as logs
-use Rattle.store_model.specs.Cells.{Cell, cell_at, edit, pays, is_live}
+use Rattle.cell_model.specs.Cells.{Cell, cell_at, edit, pays, is_live}
 use Rattle.store_model.specs.Core.{Core, payload_in}
 use Rattle.store_model.specs.Sound.{IsSound}
 use Rattle.store_model.proofs.CallLaws.{call-granted}
 use Rattle.store_model.proofs.CallSound.{set-call, old-payload}
-use Rattle.store_model.proofs.EditLaws.{edit-keeps}
+use Rattle.cell_model.proofs.EditLaws.{edit-keeps}
 use Rattle.store_model.proofs.EndLaws.{transaction-active}
 use Rattle.store_model.proofs.GrantLaws.{served}
 use Rattle.core_store.specs.declared.three.HeldFrame.{HeldFrame}

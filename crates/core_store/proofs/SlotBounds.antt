@@ -4,10 +4,10 @@ use Rattle.std.specs.Prelude.{◌==◌, count_by}
 use Rattle.std.proofs.lemmas.Bool.{cond-true}
 use Rattle.std.proofs.lemmas.List.Sums.{sum_by-le, count_by-le-length, get_or-le-sum_by}
 use Rattle.std.proofs.lemmas.List.{get_or_default}
-use Rattle.store_model.specs.Cells.{Cell, blank_cell, cell_at, is_live, aims, aims_in, hits, pointers_to, own_strong, self_pointers, IsExact}
-use Rattle.store_model.specs.SoundCells.{AreConsistent}
-use Rattle.store_model.proofs.EditLaws.{live-within}
-use Rattle.store_model.proofs.FlipLaws.{sum_by-plus, hits-both}
+use Rattle.cell_model.specs.Cells.{Cell, blank_cell, cell_at, is_live, aims, aims_in, hits, pointers_to, own_strong, self_pointers, IsExact}
+use Rattle.cell_model.specs.Consistent.{AreConsistent}
+use Rattle.cell_model.proofs.EditLaws.{live-within}
+use Rattle.cell_model.proofs.FlipLaws.{sum_by-plus, hits-both}
 use Rattle.cell_page.specs.Format.{IsSlotCount}
 
 -- a cell has no more pointers than slots

@@ -3,11 +3,11 @@ use Rattle.std.proofs.Common.{◌≡◌, ◌≢◌, ℕ, ◌<◌, List, [], ◌�
 use Rattle.std.specs.Prelude.{◌==◌}
 use Rattle.std.specs.List.{list_any, AllByRecursion}
 use Rattle.std.proofs.lemmas.Bool.{cases_eq, or_left, or_right, or_cases, eqb-true, eq-eqb}
-use Rattle.store_model.specs.Cells.{Pointer, Cell, null, cell_at, pointer_at, same, is_live, relinked}
-use Rattle.store_model.specs.Records.{Store as SlotRecord}
-use Rattle.store_model.proofs.EditLaws.{live-there, live-within}
-use Rattle.store_model.proofs.CountLaws.{relinked-live, relinked-bit, relinked-slot}
-use Rattle.store_model.proofs.ConsistentLaws.{consistent-kept}
+use Rattle.cell_model.specs.Cells.{Pointer, Cell, null, cell_at, pointer_at, same, is_live, relinked}
+use Rattle.cell_model.specs.Records.{Store as SlotRecord}
+use Rattle.cell_model.proofs.EditLaws.{live-there, live-within}
+use Rattle.cell_model.proofs.CountLaws.{relinked-live, relinked-bit, relinked-slot}
+use Rattle.cell_model.proofs.ConsistentLaws.{consistent-kept}
 use Rattle.strength_counts.specs.Held.{Held, is_held as is_cell_held, held_pointer}
 use Rattle.strength_counts.specs.Laws.{ArePart, with_held}
 use Rattle.strength_counts.proofs.StoreEdits.{store-relinked}

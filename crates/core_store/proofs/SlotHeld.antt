@@ -3,9 +3,9 @@ use Rattle.std.proofs.Common.{◌≡◌, ◌≢◌, ℕ, ◌<◌, List, [], ◌�
 use Rattle.std.specs.Prelude.{◌==◌, ◌&&◌}
 use Rattle.std.proofs.lemmas.Bool.{cases_eq}
 use Rattle.std.proofs.lemmas.List.{set-get_or}
-use Rattle.store_model.specs.Cells.{Pointer, Cell, null, cell_at, pointer_at, is_strong, same, edit, relink, gains, loses, relinked}
-use Rattle.store_model.proofs.EditLaws.{edit-none}
-use Rattle.store_model.proofs.CountLaws.{relinked-length}
+use Rattle.cell_model.specs.Cells.{Pointer, Cell, null, cell_at, pointer_at, is_strong, same, edit, relink, gains, loses, relinked}
+use Rattle.cell_model.proofs.EditLaws.{edit-none}
+use Rattle.cell_model.proofs.CountLaws.{relinked-length}
 use Rattle.strength_counts.specs.Held.{Held, is_held, held_pointer, AreOnce, edit_held}
 use Rattle.strength_counts.specs.Changes.{pointer_to, holds_strong, takes_strong, is_laid_strong as is_laid_strong_held, with_pointer, without_pointer}
 use Rattle.strength_counts.specs.Laws.{AreOf, ArePart, with_held}

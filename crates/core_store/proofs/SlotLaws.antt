@@ -5,10 +5,10 @@ use Rattle.std.specs.List.{list_all}
 use Rattle.std.proofs.Math.Seq.{map-set_same}
 use Rattle.std.proofs.lemmas.Bool.{cases_eq, and_parts, not-true, eqb-true, eqb-false, cond-true}
 use Rattle.std.proofs.lemmas.List.{map-set}
-use Rattle.store_model.specs.Cells.{Pointer, Cell, null, blank_cell, cell_at, pointer_at, is_live, is_strong, same, edit, relink, gains, loses, relinked, pays}
-use Rattle.store_model.specs.Records.{HasPointer, IsPointer}
-use Rattle.store_model.proofs.EditLaws.{edit-set, edit-none, edit-other, edit-keeps, loses-shape}
-use Rattle.store_model.specs.SoundCells.{AreConsistent}
+use Rattle.cell_model.specs.Cells.{Pointer, Cell, null, blank_cell, cell_at, pointer_at, is_live, is_strong, same, edit, relink, gains, loses, relinked, pays}
+use Rattle.cell_model.specs.Records.{HasPointer, IsPointer}
+use Rattle.cell_model.proofs.EditLaws.{edit-set, edit-none, edit-other, edit-keeps, loses-shape}
+use Rattle.cell_model.specs.Consistent.{AreConsistent}
 use Rattle.cell_page.specs.declared.cell.Cell.{Cell as HeldCell}
 use Rattle.cell_page.specs.Format.{IsSlotCount}
 use Rattle.cell_page.specs.Stored.{cell_of}

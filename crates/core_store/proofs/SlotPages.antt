@@ -2,7 +2,7 @@
 use Rattle.std.proofs.Common.{◌≡◌, ℕ, ◌<◌, List, [], ◌∷◌, ◌++◌, Bool, true, length, set, refl, sym, ap, ◌∙◌, subst, arith, append_assoc, eq-eqb}
 use Rattle.std.specs.Prelude.{◌==◌}
 use Rattle.std.proofs.lemmas.Bool.{or_left, or_right}
-use Rattle.store_model.specs.Cells.{Cell, edit}
+use Rattle.cell_model.specs.Cells.{Cell, edit}
 use Rattle.strength_counts.specs.Held.{Held, is_held as is_cell_held, AreOnce as AreCellsOnce}
 use Rattle.strength_counts.specs.Laws.{with_held}
 use Rattle.strength_counts.proofs.StoreEdits.{with_held-edit}

@@ -3,8 +3,8 @@ use Rattle.std.proofs.Common.{◌≡◌, ◌≢◌, ℕ, ◌+◌, ◌^◌, ◌<�
 use Rattle.std.specs.Prelude.{if◌then◌else◌}
 use Rattle.std.specs.List.{AllByRecursion}
 use Rattle.std.proofs.lemmas.Bool.{cases_eq}
-use Rattle.store_model.specs.Cells.{Pointer, Cell, cell_at, pointer_at, counted}
-use Rattle.store_model.proofs.RecordLaws.{target-counts}
+use Rattle.cell_model.specs.Cells.{Pointer, Cell, cell_at, pointer_at, counted}
+use Rattle.cell_model.proofs.RecordLaws.{target-counts}
 use Rattle.cell_page.specs.Format.{IsSlotCount}
 use Rattle.strength_counts.specs.Held.{Held, is_held, held_cell, held_pointer, held_target}
 use Rattle.strength_counts.specs.Changes.{count_of, holds_strong}

@@ -3,8 +3,8 @@ use Rattle.std.proofs.Common.{◌≡◌, ◌≢◌, ℕ, ◌<◌, List, Bool, tr
 use Rattle.plain_model.specs.declared.write.Place.{Place}
 use Rattle.plain_model.specs.declared.write.Place.TheVariants.{Slot, Payload, Whole}
 use Rattle.plain_model.specs.declared.write.Write.{Write}
-use Rattle.store_model.specs.Cells.{Cell, cell_at, is_live, edit, pays, relinked}
-use Rattle.store_model.specs.Records.{Undo as UndoRecord, UndoPay as UndoPayRecord, after_record}
+use Rattle.cell_model.specs.Cells.{Cell, cell_at, is_live, edit, pays, relinked}
+use Rattle.cell_model.specs.Records.{Undo as UndoRecord, UndoPay as UndoPayRecord, after_record}
 use Rattle.cell_page.specs.Format.{IsSlotCount}
 use Rattle.log_record.specs.declared.cell_record.CellRecord.TheVariants.{Undo}
 use Rattle.log_record.specs.Records.{payload_place, after_cell_record}

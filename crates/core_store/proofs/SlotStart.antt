@@ -5,8 +5,8 @@ use Rattle.std.specs.Int.{bit_at}
 use Rattle.std.specs.List.{AllByRecursion}
 use Rattle.std.proofs.lemmas.Bool.{cases_lt}
 use Rattle.std.proofs.lemmas.List.{get_or_past, length-map}
-use Rattle.store_model.specs.Cells.{Pointer, Cell as StoredCell, null, cell_at, pointer_in, pointer_at, is_live, edit, pays}
-use Rattle.store_model.proofs.EditLaws.{live-there, live-within}
+use Rattle.cell_model.specs.Cells.{Pointer, Cell as StoredCell, null, cell_at, pointer_in, pointer_at, is_live, edit, pays}
+use Rattle.cell_model.proofs.EditLaws.{live-there, live-within}
 use Rattle.strength_counts.proofs.StoreEdits.{edit-same}
 use Rattle.cell_page.specs.declared.cell.Cell.{Cell}
 use Rattle.cell_page.specs.Format.{IsCell}

@@ -3,8 +3,8 @@ use Rattle.std.proofs.Common.{◌≡◌, ◌≢◌, ℕ, ◌+◌, ◌^◌, ◌<�
 use Rattle.std.specs.Prelude.{◌==◌, ◌&&◌}
 use Rattle.std.proofs.lemmas.Bool.{and_parts, not-true, eqb-false, eqb-true, or_cases}
 use Rattle.std.proofs.lemmas.List.{length-map}
-use Rattle.store_model.specs.Cells.{Pointer, Cell as StoredCell, cell_at, pointer_at, is_strong, edit, other_strength, relinked, self_pointers, flipped}
-use Rattle.store_model.proofs.EditLaws.{live-there, live-within}
+use Rattle.cell_model.specs.Cells.{Pointer, Cell as StoredCell, cell_at, pointer_at, is_strong, edit, other_strength, relinked, self_pointers, flipped}
+use Rattle.cell_model.proofs.EditLaws.{live-there, live-within}
 use Rattle.cell_page.specs.declared.cell.Cell.{Cell}
 use Rattle.cell_page.specs.Format.{IsSlotCount}
 use Rattle.cell_page.specs.Stored.{cell_of}

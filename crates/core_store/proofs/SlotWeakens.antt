@@ -2,8 +2,8 @@
 use Rattle.std.proofs.Common.{◌≡◌, ◌≢◌, ℕ, ◌+◌, ◌^◌, ◌<◌, List, Bool, true, not, sym, ap, ◌∙◌, subst, inr}
 use Rattle.std.specs.Prelude.{◌==◌}
 use Rattle.std.proofs.lemmas.Bool.{and_parts, not-true, eqb-false}
-use Rattle.store_model.specs.Cells.{Pointer, Cell, cell_at, pointer_at, is_strong, relink, gains, loses, other_strength, relinked}
-use Rattle.store_model.proofs.CountLaws.{relinked-length}
+use Rattle.cell_model.specs.Cells.{Pointer, Cell, cell_at, pointer_at, is_strong, relink, gains, loses, other_strength, relinked}
+use Rattle.cell_model.proofs.CountLaws.{relinked-length}
 use Rattle.cell_page.specs.Format.{IsSlotCount}
 use Rattle.strength_counts.specs.Held.{Held, is_held as is_cell_held, held_cell, held_pointer, held_target, AreOnce, edit_held}
 use Rattle.strength_counts.specs.Changes.{count_of, holds_strong, with_other_strength}

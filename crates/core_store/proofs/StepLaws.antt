@@ -14,7 +14,7 @@ use Rattle.plain_model.specs.Machine.{State, success, transaction_of, with_trans
 use Rattle.plain_model.specs.History.{Moment, next}
 use Rattle.plain_laws.proofs.Locks.{transaction_of-with_same, transaction_of-with_other}
 use Rattle.log_record.specs.declared.cell_record.CellRecord.TheVariants as logs
-use Rattle.store_model.specs.Cells.{Cell, is_live}
+use Rattle.cell_model.specs.Cells.{Cell, is_live}
 use Rattle.store_model.specs.Core.{Core}
 use Rattle.store_model.specs.Sound.{IsSound}
 use Rattle.store_model.proofs.CallLaws.{call-granted}

@@ -7,7 +7,7 @@ use Rattle.plain_model.specs.declared.write.Place.TheVariants.{Slot}
 use Rattle.plain_model.specs.Machine.{register_id}
 use Rattle.strict_locks.specs.Locks.{Table, holders_of, StandsInWayOfOwn, Nobody, AddsOwner}
 use Rattle.log_record.specs.Records.{FitsCells, LaysWell}
-use Rattle.store_model.specs.Cells.{Cell as StoredCell, pointer_at}
+use Rattle.cell_model.specs.Cells.{Cell as StoredCell, pointer_at}
 use Rattle.store_model.specs.Steps.{store_references}
 use Rattle.core_store.specs.declared.three.HeldFrame.{HeldFrame}
 use Rattle.core_store.specs.declared.plan.Plan.TheVariants as plan

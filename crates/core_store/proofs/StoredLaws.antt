@@ -15,7 +15,7 @@ use Rattle.core_store.specs.Tables.{TablesView}
 use Rattle.core_store.specs.Stands.{is_free}
 use Rattle.core_store.specs.Journal.{Keeps}
 use Rattle.core_store.specs.JournalView.{JournalView}
-use Rattle.store_model.proofs.EditLaws.{live-within, live-there}
+use Rattle.cell_model.proofs.EditLaws.{live-within, live-there}
 
 -- of ascending ids, those up to n
 abbrev pub up_to : ℕ → List ℕ → List ℕ
@@ -105,9 +105,9 @@ taken-stored j v k =
     let h = k.stands in
     let s = (end_of j.history).state in
     let ids = h.ids in
-    let size = h.sound.sized in
+    let size = h.sound.consistent.sized in
     let within : (i : ℕ) → is_stored s.stored i ≡ true → (0 < i) × (i ≤ v.ids) =
-    λ i e. (let live = sym (h.sound.stored i) ∙ e in let low = live-there _ i h.sound.exact.none live in let high = live-within _ i live in (omega (arith, low), omega (arith, high, size, ids))) in
+    λ i e. (let live = sym (h.sound.stored i) ∙ e in let low = live-there _ i h.sound.consistent.exact.none live in let high = live-within _ i live in (omega (arith, low), omega (arith, high, size, ids))) in
     taken-up_to v.free s.stored v.ids v.ids h.sound.state.ascend
     (λ i a b. h.free i ∙ within_free s i a (omega (arith, b, ids)))
     (λ i e. (within i e).0)

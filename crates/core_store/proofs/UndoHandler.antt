@@ -10,13 +10,12 @@ use Rattle.plain_model.specs.declared.write.Place.TheVariants.{Slot, Payload, Wh
 use Rattle.plain_model.specs.declared.write.Write.{Write}
 use Rattle.log_record.specs.declared.cell_record.CellRecord.{CellRecord}
 use Rattle.log_record.specs.Records.{after_cell_record, FitsCells, LaysWell}
-use Rattle.store_model.specs.Cells.{Cell, is_live, pays}
+use Rattle.cell_model.specs.Cells.{Cell, is_live, pays}
 use Rattle.store_model.specs.Core.{Core}
-use Rattle.store_model.specs.SoundCells.{AreConsistent}
-use Rattle.store_model.proofs.ConsistentLaws.{consistent_of}
+use Rattle.cell_model.specs.Consistent.{AreConsistent}
 use Rattle.store_model.proofs.Lists.{Contains-here}
-use Rattle.store_model.proofs.CountLaws.{relinked-live}
-use Rattle.store_model.proofs.EditLaws.{edit-keeps}
+use Rattle.cell_model.proofs.CountLaws.{relinked-live}
+use Rattle.cell_model.proofs.EditLaws.{edit-keeps}
 use Rattle.core_store.specs.declared.three.HeldFrame.{HeldFrame}
 use Rattle.core_store.specs.Changes.{restored_change}
 use Rattle.core_store.specs.Frames.{Agree}
@@ -50,7 +49,7 @@ last-among ws w e = by (ends ws)
 
 module _ (slots : ℕ) (v : TablesView) (c : Core) (h : Stands slots v c) where
   consistent : AreConsistent slots v.ids c.cells
-  consistent = subst (λ n. AreConsistent n v.ids c.cells) h.slots_are (subst (λ n. AreConsistent c.moment.state.slots n c.cells) h.ids (consistent_of c h.sound))
+  consistent = subst (λ n. AreConsistent n v.ids c.cells) h.slots_are (subst (λ n. AreConsistent c.moment.state.slots n c.cells) h.ids h.sound.consistent)
 
   -- what can be laid can be restored
   pub lay-restores : (w : Write) → CanLay slots c.cells w → CanRestore slots v.ids c.cells w
@@ -109,6 +108,10 @@ module _ (slots : ℕ) (v : TablesView) (c : Core) (h : Stands slots v c) where
 pub undoes-one : {slots : ℕ} (v : TablesView) (held new : List (HeldFrame slots)) (n : ℕ) (marks : List Bool) (pass : ℕ) (kept : Running) (x : Write) (logged : CellRecord) → running_at v.transactions pass ≡ Some kept → last_or None kept.replaced ≡ Some x → Restores held new v.zeros marks pass x logged
     → n + 1 ≡ v.owed → UndoesOne slots v (record v { zeros = marks; transactions = changed_at pass undoing v.transactions; owed = n; round = touched_by_record v.round (Some logged) }) held new pass logged
 undoes-one {slots} v held new n marks pass kept x logged here last restores owed c h agree = undoes-step slots v c h pass kept here x last held new n marks logged agree restores owed
+
+-- what the tables say of the last write of a client that has this transaction
+pub last-of : (entries : List (ℕ × Running)) (pass : ℕ) (kept : Running) (result : Option Write) → running_at entries pass ≡ Some kept → option_map_or (λ t. last_or None t.replaced) (running_at entries pass) None ≡ result → last_or None kept.replaced ≡ result
+last-of entries pass kept result here e = sym (ap (λ (o : Option Running). option_map_or (λ t. last_or None t.replaced) o None) here) ∙ e
 
 -- a list without a last item has none
 pub no-last : (ws : List Write) → last_or None ws ≡ None → ws ≡ []

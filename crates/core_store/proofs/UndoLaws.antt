@@ -15,8 +15,8 @@ use Rattle.plain_laws.proofs.Ids.{test_same}
 use Rattle.plain_laws.proofs.Locks.{transaction_of-undo_same, transaction_of-undo_other, marked_aborting}
 use Rattle.log_record.specs.Records.{payload_place, record_of, after_cell_record, FitsCells, LaysWell}
 use Rattle.cell_page.specs.Format.{IsSlotCount}
-use Rattle.store_model.specs.Cells.{Pointer, cell_at, edit, pays, is_live}
-use Rattle.store_model.specs.Records.{Record, Undo as UndoRecord, UndoPay as UndoPayRecord, after_record, Fits}
+use Rattle.cell_model.specs.Cells.{Pointer, cell_at, edit, pays, is_live}
+use Rattle.cell_model.specs.Records.{Record, Undo as UndoRecord, UndoPay as UndoPayRecord, after_record, Fits}
 use Rattle.store_model.specs.Core.{Ref, Round, Core, slot_in, payload_in}
 use Rattle.store_model.specs.Sound.{IsSound}
 use Rattle.store_model.proofs.UndoSound.{undo-sound, undo_pay-sound}
@@ -31,7 +31,8 @@ use Rattle.core_store.specs.Queued.{queue_after}
 use Rattle.core_store.specs.References.{named_by, references_after}
 use Rattle.core_store.specs.RoundView.{round_of, touched_in, touched_by_record}
 use Rattle.core_store.specs.Touched.{objects_touched, round_after}
-use Rattle.core_store.specs.Replaced.{replaced, before_write, value_in}
+use Rattle.restart_laws.specs.Told.{value_in}
+use Rattle.core_store.specs.Replaced.{replaced, before_write}
 use Rattle.core_store.specs.Transactions.{Running, running_at, undoing, without_last}
 use Rattle.core_store.specs.Tables.{TablesView, changed_at}
 use Rattle.core_store.specs.Stands.{IsRunning, CanLay, IsEmptied, IsTested, owns_in, shares_in, Stands, Undoes}

@@ -2,7 +2,7 @@
 use Rattle.std.proofs.Common.{◌≡◌, ℕ, true, false, List, [], ◌∷◌, ◌++◌, map, refl, sym, subst, ◌∙◌, inl, inr}
 use Rattle.std.specs.Prelude.{◌==◌, ◌||◌, not, Bool, if◌then◌else◌, Option, Some, None}
 use Rattle.std.proofs.lemmas.Bool.{cases_Bool}
-use Rattle.store_model.specs.Cells.{Cell as StoredCell, pointer_at}
+use Rattle.cell_model.specs.Cells.{Cell as StoredCell, pointer_at}
 use Rattle.core_store.specs.declared.three.HeldFrame.{HeldFrame}
 use Rattle.core_store.specs.declared.want.Want.{Want}
 use Rattle.core_store.specs.declared.want.Want.TheVariants.{LetGo}

@@ -1,7 +1,7 @@
 -- The pages that a call needs, and the first of some that isn't held, step by step.
 use Rattle.std.proofs.Common.{◌≡◌, ℕ, ◌+◌, ◌<◌, true, false, List, [], ◌∷◌, length, get_or, drop, refl, sym, ap, ◌∙◌, add-one, drop-cons}
 use Rattle.std.specs.Prelude.{Some}
-use Rattle.store_model.specs.Cells.{Cell as StoredCell, cell_at, pointer_in, pointer_at}
+use Rattle.cell_model.specs.Cells.{Cell as StoredCell, cell_at, pointer_in, pointer_at}
 use Rattle.cell_page.specs.declared.cell.Cell.{Cell}
 use Rattle.cell_page.specs.Stored.{cell_of}
 use Rattle.strength_counts.proofs.Slots.{target_in-pointers}

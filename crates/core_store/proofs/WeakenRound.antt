@@ -4,15 +4,14 @@ use Rattle.std.specs.Prelude.{◌==◌, ◌&&◌, Contains, Option, if◌then◌
 use Rattle.std.proofs.lemmas.Bool.{and_parts, not-true, eqb-false, eqb-true}
 use Rattle.std.specs.Option.{option_map_or}
 use Rattle.plain_model.specs.Graphs.{root}
-use Rattle.store_model.specs.Cells.{Cell, cell_at, pointer_at, is_live, relinked, other_strength}
-use Rattle.store_model.specs.Records.{Weaken as WeakenRecord, HasPointer, Fits}
+use Rattle.cell_model.specs.Cells.{Cell, cell_at, pointer_at, is_live, relinked, other_strength}
+use Rattle.cell_model.specs.Records.{Weaken as WeakenRecord, HasPointer, Fits}
 use Rattle.store_model.specs.Core.{Round, Core}
 use Rattle.store_model.specs.Sound.{IsOnce}
-use Rattle.store_model.specs.SoundCells.{AreConsistent}
+use Rattle.cell_model.specs.Consistent.{AreConsistent}
 use Rattle.store_model.specs.Steps.{IsTracked, with_listed, after_collect}
-use Rattle.store_model.proofs.ConsistentLaws.{consistent_of}
-use Rattle.store_model.proofs.CountLaws.{relinked-live, relinked-length}
-use Rattle.store_model.proofs.EditLaws.{live-within}
+use Rattle.cell_model.proofs.CountLaws.{relinked-live, relinked-length}
+use Rattle.cell_model.proofs.EditLaws.{live-within}
 use Rattle.store_model.proofs.WalkSound.{weaken-sound, weaken_joins-sound}
 use Rattle.ref_tables.specs.Queue.{has, without}
 use Rattle.red_walk.specs.declared.red_at.RedAt.TheVariants as red
@@ -68,7 +67,7 @@ not-let_go target strong list e = by (target == root) (has list target) (strong 
 -- the slot of a live object can change
 pub can-null : (slots : ℕ) (v : TablesView) (c : Core) → Stands slots v c → (id slot : ℕ) → is_live c.cells id ≡ true → slot < slots → CanChange slots v.ids c.cells id slot 0
 can-null slots v c h id slot live within = record {
-  consistent = subst (λ (n : ℕ). AreConsistent n v.ids c.cells) h.slots_are (subst (λ (n : ℕ). AreConsistent c.moment.state.slots n c.cells) h.ids (consistent_of c h.sound));
+  consistent = subst (λ (n : ℕ). AreConsistent n v.ids c.cells) h.slots_are (subst (λ (n : ℕ). AreConsistent c.moment.state.slots n c.cells) h.ids h.sound.consistent);
   few = h.few;
   live = live;
   within = within;

@@ -17,7 +17,7 @@ use Rattle.plain_laws.proofs.Locks.{transaction_of-with_same}
 use Rattle.strict_locks.specs.Locks.{Table, holders_of, StandsInWayOfOwn, Nobody, AddsOwner}
 use Rattle.log_record.specs.declared.cell_record.CellRecord.{CellRecord}
 use Rattle.log_record.specs.Records.{FitsCells, LaysWell}
-use Rattle.store_model.specs.Cells.{Pointer, pointer_at, is_live}
+use Rattle.cell_model.specs.Cells.{Pointer, pointer_at, is_live}
 use Rattle.store_model.specs.Core.{Round, Core, slot_in}
 use Rattle.store_model.specs.Sound.{IsSound}
 use Rattle.store_model.specs.Steps.{store_references}
@@ -25,7 +25,7 @@ use Rattle.store_model.proofs.CallLaws.{call-granted}
 use Rattle.store_model.proofs.CallSound.{store-call, old-slot}
 use Rattle.store_model.proofs.ReferenceLaws.{store_references-fit}
 use Rattle.store_model.proofs.EndLaws.{transaction-active}
-use Rattle.store_model.proofs.CountLaws.{relinked-live}
+use Rattle.cell_model.proofs.CountLaws.{relinked-live}
 use Rattle.store_model.proofs.GrantLaws.{served_store}
 use Rattle.core_store.specs.declared.three.HeldFrame.{HeldFrame}
 use Rattle.core_store.specs.declared.slots.SlotChange.{SlotChange}
@@ -117,7 +117,7 @@ module _ (slots : ℕ) (v : TablesView) (c : Core) (h : Stands slots v c) (pass 
             (λ q. refl)
             sound
             alive
-            (lays-push slots c.cells (after_change c.cells id slot target change) kept x alive (h.restorable pass kept s.here) (fits.0.live, (within, λ d. h.sound.exact.closed id slot fits.0.live d)))
+            (lays-push slots c.cells (after_change c.cells id slot target change) kept x alive (h.restorable pass kept s.here) (fits.0.live, (within, λ d. h.sound.consistent.exact.closed id slot fits.0.live d)))
             (record {
               references = names;
               queue = h.queue;

@@ -14,7 +14,7 @@ use Rattle.plain_model.specs.ActiveTransaction.{ActiveTransaction}
 use Rattle.plain_model.specs.Machine.{transaction_of, is_among}
 use Rattle.plain_model.specs.History.{can_be_undone, holds, next}
 use Rattle.plain_laws.proofs.Ids.{or_left}
-use Rattle.store_model.specs.Cells.{Pointer, cell_at, pointer_at, object_of}
+use Rattle.cell_model.specs.Cells.{Pointer, cell_at, pointer_at, object_of}
 use Rattle.store_model.specs.Core.{Core, IsMadeFirst, current}
 use Rattle.store_model.specs.Sound.{IsHeld, Kept, Has, IsSound}
 use Rattle.store_model.proofs.Lists.{Contains-here}

@@ -1,6 +1,6 @@
 -- What a slot held and holds, with strengths, and the records of that.
 use Rattle.std.specs.Prelude.{ℕ, Bool, false, not, ◌&&◌, ◌==◌, if◌then◌else◌, List}
-use Rattle.store_model.specs.Cells.{Cell, Pointer, null, cell_at, pointer_at, is_strong, same, relinked}
+use Rattle.cell_model.specs.Cells.{Cell, Pointer, null, cell_at, pointer_at, is_strong, same, relinked}
 use Rattle.strength_counts.specs.Changes.{takes_strong}
 use Rattle.log_record.specs.declared.cell_record.CellRecord.{CellRecord}
 use Rattle.log_record.specs.declared.cell_record.CellRecord.TheVariants.{Store, Undo}

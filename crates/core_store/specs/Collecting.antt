@@ -1,6 +1,6 @@
 -- What a step of the collector works on, and what it is answered.
 use Rattle.std.specs.Prelude.{◌≡◌, ℕ, Bool, true, false, List, [], Option, Some, None}
-use Rattle.store_model.specs.Cells.{Cell}
+use Rattle.cell_model.specs.Cells.{Cell}
 use Rattle.store_model.specs.Core.{Core}
 use Rattle.log_record.specs.declared.cell_record.CellRecord.{CellRecord}
 use Rattle.log_record.specs.declared.cell_record.CellRecord.TheVariants as logs

@@ -3,11 +3,11 @@ use Rattle.std.specs.Prelude.{◌≡◌, ℕ, Bool, true, false, not, ◌&&◌, 
 use Rattle.plain_model.specs.declared.calls.Entry.{Entry}
 use Rattle.plain_model.specs.declared.calls.Entry.TheVariants.{Delete, Hidden}
 use Rattle.plain_model.specs.Graphs.{root}
-use Rattle.store_model.specs.Cells.{cell_at}
-use Rattle.store_model.specs.Records.{HasNoPointer}
+use Rattle.cell_model.specs.Cells.{cell_at}
+use Rattle.cell_model.specs.Records.{HasNoPointer}
 use Rattle.store_model.specs.Core.{Round, Core, is_named}
 use Rattle.store_model.specs.Steps.{opened_round, with_listed, with_copy, with_verdict, with_left}
-use Rattle.store_model.specs.Strong.{HasNoStrongOut}
+use Rattle.cell_model.specs.Strong.{HasNoStrongOut}
 use Rattle.store_model.specs.Verdict.{IsSeed, IsLive, IsCondemned}
 use Rattle.ref_tables.specs.Queue.{has, without, joined}
 use Rattle.green_walk.specs.Judged.{Picks}
@@ -122,7 +122,7 @@ pub record Flips (c : Core) (id : ℕ) (queue : List ℕ) (round : Option Round)
   pub greens : Greens c id queue round
   pub white : IsWhite c id
 
--- a strong pointer between two objects of the round becomes weak again, since its target was flipped
+-- a strong pointer between two objects of the round becomes weak again; the green walk asks for it behind a flip of its target
 pub record WeakensInto (c : Core) (id target : ℕ) (queue : List ℕ) (round : Option Round) : Type 0 where
   pub greens : Greens c id queue round
   pub target_listed : Contains greens.of.list target

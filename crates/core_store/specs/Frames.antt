@@ -1,7 +1,7 @@
 -- Pages of the store that are held, and what it is for them to agree with its cells.
 use Rattle.std.specs.Prelude.{◌≡◌, ℕ, ◌-◌, ◌/◌, ◌*◌, ◌<◌, ◌==◌, Bool, true, false, List, [], ◌∷◌, length, map, Some, slice_get}
 use Rattle.std.specs.List.{list_any, list_all, AllByRecursion}
-use Rattle.store_model.specs.Cells.{Cell as StoredCell}
+use Rattle.cell_model.specs.Cells.{Cell as StoredCell}
 use Rattle.cell_page.specs.Stored.{page_of, HoldsPage}
 use Rattle.core_store.specs.declared.frame.Frame.{Frame}
 use Rattle.core_store.specs.declared.three.HeldFrame.{HeldFrame}

@@ -8,7 +8,7 @@ use Rattle.plain_model.specs.declared.calls.Call.{Call as TransactionCall}
 use Rattle.plain_model.specs.declared.calls.Call.TheVariants as call
 use Rattle.plain_model.specs.ActiveTransaction.{ActiveTransaction}
 use Rattle.plain_model.specs.Machine.{State, transaction_of, refusal_of, register_id, free_id}
-use Rattle.store_model.specs.Cells.{Cell, cell_at, pointer_at}
+use Rattle.cell_model.specs.Cells.{Cell, cell_at, pointer_at}
 use Rattle.log_record.specs.declared.cell_record.CellRecord.{CellRecord}
 use Rattle.log_record.specs.declared.cell_record.CellRecord.TheVariants as logs
 use Rattle.log_record.specs.Records.{payload_place, after_cell_record}

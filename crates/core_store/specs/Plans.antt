@@ -1,5 +1,5 @@
 -- What is known of a call that isn't refused, in the words of the tables.
-use Rattle.std.specs.Prelude.{◌≡◌, ℕ, Bool, true, false, Option, Some, None, Ok}
+use Rattle.std.specs.Prelude.{◌≡◌, ℕ, Bool, true, false, Option, Some, None, Result, Ok, Err}
 use Rattle.plain_model.specs.declared.calls.Call.{Call as TransactionCall}
 use Rattle.plain_model.specs.declared.calls.Call.TheVariants as call
 use Rattle.plain_model.specs.declared.calls.Reply.{Reply}
@@ -55,3 +55,8 @@ entries_needed_by _ = 1
 -- whatever the tables stand for, the reference machine refuses the call so
 abbrev pub IsRefused : ℕ → TablesView → ℕ → TransactionCall → Reply → Type 0
 IsRefused slots v pass c reply = (core : Core) → Stands slots v core → refusal_of core.moment.state pass c ≡ Some reply
+
+-- the call has this plan, or the machine refuses it so
+abbrev pub IsPlanned : ℕ → TablesView → ℕ → TransactionCall → Result Plan Reply → Type 0
+IsPlanned slots v pass c (Ok p) = IsGranted v pass c p
+IsPlanned slots v pass c (Err reply) = IsRefused slots v pass c reply

@@ -1,7 +1,7 @@
 -- The queue of objects without strong pointers, and what joins it where a transaction ends.
 use Rattle.std.specs.Prelude.{ℕ, Bool, true, false, not, ◌&&◌, ◌==◌, List, [], ◌∷◌, filter, fold, Option, Some}
 use Rattle.plain_model.specs.Graphs.{root}
-use Rattle.store_model.specs.Cells.{cell_at, is_live}
+use Rattle.cell_model.specs.Cells.{cell_at, is_live}
 use Rattle.store_model.specs.Core.{Ref, Core, is_named}
 use Rattle.store_model.specs.Sound.{in_round}
 use Rattle.store_model.specs.Steps.{references_left}

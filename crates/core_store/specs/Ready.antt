@@ -1,18 +1,19 @@
 -- What has to stand before an event, and what the event then does.
-use Rattle.std.specs.Prelude.{◌≡◌, ℕ, ◌+◌, ◌<◌, Bool, true, List, [], ◌∷◌}
+use Rattle.std.specs.Prelude.{◌≡◌, ℕ, ◌+◌, ◌<◌, Bool, true, List, [], ◌∷◌, Result}
 use Rattle.std.specs.List.{AllByRecursion}
 use Rattle.std.specs.Option.{option_map_or}
 use Rattle.plain_model.specs.declared.write.Write.{Write}
 use Rattle.plain_model.specs.declared.write.Place.{Place}
 use Rattle.plain_model.specs.declared.write.Place.TheVariants.{Slot}
 use Rattle.plain_model.specs.declared.calls.Call.{Call as TransactionCall}
+use Rattle.plain_model.specs.declared.calls.Reply.{Reply}
 use Rattle.strict_locks.specs.Locks.{AddsOwner}
-use Rattle.store_model.specs.Cells.{Cell, is_live}
+use Rattle.cell_model.specs.Cells.{Cell, is_live}
 use Rattle.store_model.specs.Core.{Core}
 use Rattle.core_store.specs.declared.three.HeldFrame.{HeldFrame}
 use Rattle.core_store.specs.declared.plan.Plan.{Plan}
 use Rattle.core_store.specs.declared.plan.Plan.TheVariants as plan
-use Rattle.core_store.specs.declared.tables.Outcome.{Outcome}
+use Rattle.core_store.specs.declared.handlers.Outcome.{Outcome}
 use Rattle.core_store.specs.Frames.{Agree, is_held}
 use Rattle.log_record.specs.declared.cell_record.CellRecord.{CellRecord}
 use Rattle.log_record.specs.Records.{after_cell_record}
@@ -22,7 +23,7 @@ use Rattle.core_store.specs.Replaced.{next_to_restore}
 use Rattle.core_store.specs.Transactions.{writing}
 use Rattle.core_store.specs.Tables.{TablesView, changed_at}
 use Rattle.core_store.specs.Stands.{Stands, Performs}
-use Rattle.core_store.specs.Plans.{IsGranted}
+use Rattle.core_store.specs.Plans.{IsGranted, IsPlanned}
 
 -- the tables stand for some journal, and the held pages for its cells
 pub record IsStanding {slots : ℕ} (v : TablesView) (held : List (HeldFrame slots)) : Type 0 where
@@ -57,6 +58,10 @@ pub record IsReady {slots : ℕ} (v : TablesView) (held : List (HeldFrame slots)
 -- whatever call has this plan is done as the machine does it
 abbrev pub Does : {slots : ℕ} → TablesView → TablesView → List (HeldFrame slots) → List (HeldFrame slots) → ℕ → Plan → Outcome → Type 0
 Does {slots} v w held new pass p outcome = (call : TransactionCall) → IsGranted v pass call p → Performs slots v w held new pass call outcome.reply outcome.logged
+
+-- whatever call was planned so is done as the machine does it, or refused as the machine refuses it
+abbrev pub DoesPlanned : {slots : ℕ} → TablesView → TablesView → List (HeldFrame slots) → List (HeldFrame slots) → ℕ → Result Plan Reply → Outcome → Type 0
+DoesPlanned {slots} v w held new pass planned outcome = (call : TransactionCall) → IsPlanned slots v pass call planned → Performs slots v w held new pass call outcome.reply outcome.logged
 
 -- the client owns the object, and has noted what its write replaced
 pub record IsNoted (v w : TablesView) (pass id : ℕ) (replaced : Write) : Type 0 where

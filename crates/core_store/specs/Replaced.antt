@@ -3,19 +3,11 @@ use Rattle.std.specs.Prelude.{ℕ, if◌then◌else◌, List, [], ◌∷◌, ◌
 use Rattle.std.specs.List.{last_or}
 use Rattle.std.specs.Option.{option_map_or}
 use Rattle.plain_model.specs.declared.object.Object.{Object}
-use Rattle.plain_model.specs.declared.write.Place.{Place}
-use Rattle.plain_model.specs.declared.write.Place.TheVariants.{Slot, Payload, Whole}
 use Rattle.plain_model.specs.declared.write.Write.{Write}
 use Rattle.plain_model.specs.Graphs.{applied}
 use Rattle.plain_model.specs.Machine.{transaction_of}
 use Rattle.plain_model.specs.History.{Moment, can_be_undone, left_to_undo}
-use Rattle.store_model.specs.Core.{slot_in, payload_in}
-
--- what the graph has at the place of an object, or 0
-abbrev pub value_in : List Object → ℕ → Place → ℕ
-value_in g id (Slot slot) = slot_in g id slot
-value_in g id Payload = payload_in g id
-value_in g id Whole = 0
+use Rattle.restart_laws.specs.Told.{value_in}
 
 -- the write that lays again what the graph has where this write goes
 abbrev pub before_write : List Object → Write → Write

@@ -1,11 +1,11 @@
 -- What a round is kept in.
 use Rattle.std.specs.Prelude.{◌≡◌, ◌≢◌, ℕ, ◌<◌, ◌≤◌, Bool, true, false, List, length, slice_index, slice_index_or, Contains, None}
 use Rattle.strict_locks.specs.Locks.{Table, holders_of, Holds}
-use Rattle.red_walk.specs.Walk.{Walk}
+use Rattle.red_walk.specs.Walk.{Walk, IsWalk}
 use Rattle.green_walk.specs.Judged.{Judged}
 use Rattle.green_walk.specs.declared.sweep.SweepAt.TheVariants as sweep
-use Rattle.green_walk.specs.Sweeping.{Sweeping as Sweep, next as next_of_sweep}
-use Rattle.green_walk.specs.Greening.{Greening}
+use Rattle.green_walk.specs.Sweeping.{Sweeping as Sweep, IsSweep, next as next_of_sweep}
+use Rattle.green_walk.specs.Greening.{Greening, IsGreening}
 use Rattle.core_store.specs.declared.round.Stage.{Stage}
 use Rattle.core_store.specs.declared.round.Stage.TheVariants as stage
 use Rattle.core_store.specs.RoundView.{RoundView, Closed, Walking, Sweeping}
@@ -16,8 +16,11 @@ view_of_round stage.Closed w s slot g = Closed
 view_of_round stage.Walking w s slot g = Walking w
 view_of_round stage.Sweeping w s slot g = Sweeping w s slot g
 
--- there is room for the same ids everywhere, and nothing leaves a round before its verdict
+-- there is room for the same ids everywhere, nothing leaves a round before its verdict, and what holds of every walk, sweep and green walk holds
 pub record AreInStep (slots ids : ℕ) (at : Stage) (w : Walk) (locked : List Bool) (j : Judged) (s : Sweep) (slot : ℕ) (g : Greening) : Type 0 where
+  pub walk_sound : IsWalk slots w
+  pub sweep_sound : IsSweep s
+  pub green_sound : IsGreening g
   pub walk_limit : w.limit ≡ ids
   pub locked_limit : length locked ≡ ids
   pub verdict_limit : j.limit ≡ ids

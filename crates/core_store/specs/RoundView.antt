@@ -1,6 +1,6 @@
 -- The open round, as far as the collector has come in it.
 use Rattle.std.specs.Prelude.{◌≡◌, ◌≢◌, ℕ, ◌+◌, ◌-◌, ◌*◌, ◌<◌, ◌==◌, ◌&&◌, if◌then◌else◌, Bool, true, false, not, List, [], length, fold, Option, Some, None, Contains}
-use Rattle.store_model.specs.Cells.{Cell, cell_at, pointer_at}
+use Rattle.cell_model.specs.Cells.{Cell, cell_at, pointer_at}
 use Rattle.store_model.specs.Core.{Copy, Round}
 use Rattle.red_walk.specs.declared.red_at.RedAt.{RedAt}
 use Rattle.red_walk.specs.declared.red_at.RedAt.TheVariants as red

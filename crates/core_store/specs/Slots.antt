@@ -2,8 +2,8 @@
 use Rattle.std.specs.Prelude.{◌≡◌, ◌≢◌, ℕ, ◌<◌, ◌≤◌, ◌==◌, ◌&&◌, Bool, true, not, List, length, map}
 use Rattle.std.specs.List.{list_any, AllByRecursion}
 use Rattle.plain_model.specs.Graphs.{root}
-use Rattle.store_model.specs.Cells.{Pointer, Cell, is_live, is_strong, cell_at, pointer_at, other_strength, relinked, edit, flipped}
-use Rattle.store_model.specs.SoundCells.{AreConsistent}
+use Rattle.cell_model.specs.Cells.{Pointer, Cell, is_live, is_strong, cell_at, pointer_at, other_strength, relinked, edit, flipped}
+use Rattle.cell_model.specs.Consistent.{AreConsistent}
 use Rattle.strength_counts.specs.Held.{Held, is_held as is_cell_held}
 use Rattle.strength_counts.specs.Laws.{ArePart}
 use Rattle.core_store.specs.declared.three.HeldFrame.{HeldFrame}

@@ -21,7 +21,7 @@ use Rattle.cell_page.specs.Format.{IsSlotCount}
 use Rattle.green_walk.specs.declared.green_at.GreenAt.TheVariants.{Out}
 use Rattle.green_walk.specs.declared.green_at.Test.{Test}
 use Rattle.green_walk.specs.Greening.{Greening, next as next_of_green}
-use Rattle.store_model.specs.Cells.{Cell, cell_at, is_live, pointer_at}
+use Rattle.cell_model.specs.Cells.{Cell, cell_at, is_live, pointer_at}
 use Rattle.store_model.specs.Core.{Core}
 use Rattle.store_model.specs.Sound.{IsSound}
 use Rattle.log_record.specs.declared.cell_record.CellRecord.{CellRecord}

@@ -1,7 +1,7 @@
 -- The object on which a call works.
 use Rattle.std.specs.Prelude.{ℕ, ◌<◌, ◌==◌, if◌then◌else◌, List, [], ◌∷◌, map, Option, Some, None, IfSome}
 use Rattle.std.specs.Option.{option_map_or}
-use Rattle.store_model.specs.Cells.{Cell, pointer_at}
+use Rattle.cell_model.specs.Cells.{Cell, pointer_at}
 use Rattle.plain_model.specs.declared.write.Place.{Place}
 use Rattle.plain_model.specs.declared.write.Place.TheVariants.{Slot}
 use Rattle.plain_model.specs.declared.write.Write.{Write}

@@ -1,5 +1,7 @@
 //! How far a journal may grow.
 
+ghost use Rattle.std.specs.Prelude.{◌≡◌};
+
 /// How far a journal may grow.
 #[derive(Clone, Copy, PartialEq, Eq, Debug)]
 pub struct Limits {
@@ -15,4 +17,9 @@ impl Limits {
         trace: 1_048_576,
         log: 1_071_644_672,
     };
+
+    /// The numbers of the greatest limits.
+    pub fn greatest()
+        ensures { Limits.GREATEST ≡ record { trace = 1048576; log = 1071644672 } }
+    {}
 }

@@ -3,14 +3,14 @@ ghost use Rattle.std.specs.Prelude.{◌≡◌, ℕ, ◌≤◌, ◌<◌, List, Bo
 ghost use Rattle.cell_page.specs.Format.{IsSlotCount};
 ghost use Rattle.strict_locks.specs.Locks.{Table};
 ghost use Rattle.ref_tables.specs.Queue.{has};
-ghost use Rattle.red_walk.specs.Walk.{Walk, IsWalk, opened, moved, joined_by, copied, removed};
+ghost use Rattle.red_walk.specs.Walk.{Walk, opened, moved, joined_by, copied, removed};
 ghost use Rattle.red_walk.specs.Inside.{copy_of_seen};
 ghost use Rattle.green_walk.specs.declared.sweep.Found.{Found};
 ghost use Rattle.green_walk.specs.Judged.{Judged, IsSeed, IsLive, Picks};
-ghost use Rattle.green_walk.specs.Sweeping.{Sweeping as Sweep, IsSweep, started, found};
-ghost use Rattle.green_walk.specs.Greening.{Greening, IsGreening, next as next_of_green, found as found_by_green, started as green_started, IsAnswer, IsTestable, waits, testing, tested};
+ghost use Rattle.green_walk.specs.Sweeping.{Sweeping as Sweep, started, found};
+ghost use Rattle.green_walk.specs.Greening.{Greening, next as next_of_green, found as found_by_green, started as green_started, IsAnswer, IsTestable, waits, testing, tested};
 ghost use Rattle.green_walk.specs.GreenLaws.{most_work};
-ghost use Rattle.store_model.specs.Cells.{Cell as StoredCell};
+ghost use Rattle.cell_model.specs.Cells.{Cell as StoredCell};
 ghost use Rattle.core_store.specs.RoundView.{RoundView, Closed, Walking, Sweeping, asked, asked_by_test, asked_by_green, IsSlotLook, IsGreenAnswer, IsGreenTestable, passed, touched_in, left_of, ids_in, IsInStep};
 ghost use Rattle.core_store.specs.RoundInside.{IsRowOf};
 
@@ -117,17 +117,6 @@ fn note_locked(row: &mut LockView, list: &[u32], locks: &LockTable)
     }
 }
 
-/// What holds of every walk, of every sweep and of every green walk is known from here on.
-fn known<const SLOTS: usize>(red: &Red<SLOTS>, sweep: &Sweep, green: &Green<SLOTS>)
-    ensures walk { IsWalk SLOTS red.now }
-    ensures sweep { IsSweep sweep.now }
-    ensures green { IsGreening green.now }
-{
-    let _ = red.list();
-    let _ = sweep.next();
-    let _ = green.next();
-}
-
 impl<const SLOTS: usize> Round<SLOTS> {
     /// No open round.
     pub(crate) fn new(alloc: Global, ids: u32) -> Result<Round<SLOTS>, Memory>
@@ -153,7 +142,6 @@ impl<const SLOTS: usize> Round<SLOTS> {
         // What holds of every round.
         ensures sound { IsInStep SLOTS self.now.limit self.now.view }
     {
-        known(&self.red, &self.sweep, &self.green);
         match self.stage {
             Stage::Closed => RoundAt::Queue,
             Stage::Walking => match self.red.at() {
@@ -176,7 +164,6 @@ impl<const SLOTS: usize> Round<SLOTS> {
     pub(crate) fn left(&self) -> u64
         ensures { result ≡ left_of SLOTS self.now.view }
     {
-        known(&self.red, &self.sweep, &self.green);
         match self.stage {
             Stage::Closed => 0,
             Stage::Walking => {
@@ -204,7 +191,6 @@ impl<const SLOTS: usize> Round<SLOTS> {
         ensures length { result ≡ length (ids_in self.now.view) }
         ensures few { result ≤ self.now.limit }
     {
-        let _ = self.red.list();
         match self.stage {
             Stage::Closed => 0,
             Stage::Walking | Stage::Sweeping => self.red.len(),
@@ -227,7 +213,6 @@ impl<const SLOTS: usize> Round<SLOTS> {
     {
         self.red.start(id);
         self.stage = Stage::Walking;
-        known(&self.red, &self.sweep, &self.green);
     }
 
     /// Goes on from a slot that was looked at before the verdict or in the sweep, at which there was nothing to do.
@@ -240,7 +225,6 @@ impl<const SLOTS: usize> Round<SLOTS> {
             Stage::Closed => {}
             Stage::Walking => {
                 self.red.passed();
-                known(&self.red, &self.sweep, &self.green);
             }
             Stage::Sweeping => self.cut(),
         }
@@ -254,7 +238,6 @@ impl<const SLOTS: usize> Round<SLOTS> {
         ensures sound { IsInStep SLOTS self.new.limit self.new.view }
     {
         self.red.weakened(joins);
-        known(&self.red, &self.sweep, &self.green);
     }
 
     /// Takes the copy of the object that was asked for.
@@ -264,7 +247,6 @@ impl<const SLOTS: usize> Round<SLOTS> {
         ensures sound { IsInStep SLOTS self.new.limit self.new.view }
     {
         self.red.scan(id, copy);
-        known(&self.red, &self.sweep, &self.green);
     }
 
     /// The object changed: it is marked as touched, where a verdict is to come and some object was copied, and behind the
@@ -278,7 +260,6 @@ impl<const SLOTS: usize> Round<SLOTS> {
             Stage::Walking => self.red.touch(id),
             Stage::Sweeping => self.green.again(),
         }
-        known(&self.red, &self.sweep, &self.green);
     }
 
     /// The verdict: the sweep begins with what it condemns, and the green walk with what lives.
@@ -293,7 +274,6 @@ impl<const SLOTS: usize> Round<SLOTS> {
         self.green.start(&self.verdict, &self.red);
         self.stage = Stage::Sweeping;
         self.slot = 0;
-        known(&self.red, &self.sweep, &self.green);
     }
 
     /// Goes on from a slot of a condemned object, which is null now.
@@ -302,14 +282,12 @@ impl<const SLOTS: usize> Round<SLOTS> {
         ensures moved { (cells : List StoredCell) → self.new ≡ record self.old { view = passed SLOTS cells self.old.view } }
         ensures sound { IsInStep SLOTS self.new.limit self.new.view }
     {
-        known(&self.red, &self.sweep, &self.green);
         if self.slot as usize + 1 == SLOTS {
             self.sweep.found(Found::Nothing);
             self.slot = 0;
         } else {
             self.slot += 1;
         }
-        known(&self.red, &self.sweep, &self.green);
     }
 
     /// The object that was to be freed is free.
@@ -318,10 +296,8 @@ impl<const SLOTS: usize> Round<SLOTS> {
         ensures freed { (w : Walk) (s : Sweep) (slot : ℕ) (g : Greening) → self.old.view ≡ Sweeping w s slot g → self.new ≡ record self.old { view = Sweeping (removed w id) (found s (Found.Made id)) slot g } }
         ensures sound { IsInStep SLOTS self.new.limit self.new.view }
     {
-        known(&self.red, &self.sweep, &self.green);
         self.sweep.found(Found::Made { id });
         self.red.remove(id);
-        known(&self.red, &self.sweep, &self.green);
     }
 
     /// Whether the object lives by the verdict and isn't green.
@@ -337,9 +313,7 @@ impl<const SLOTS: usize> Round<SLOTS> {
         ensures found { (w : Walk) (s : Sweep) (slot : ℕ) (g : Greening) → self.old.view ≡ Sweeping w s slot g → self.new ≡ record self.old { view = Sweeping w s slot (found_by_green g what) } }
         ensures sound { IsInStep SLOTS self.new.limit self.new.view }
     {
-        known(&self.red, &self.sweep, &self.green);
         self.green.found(what);
-        known(&self.red, &self.sweep, &self.green);
     }
 
     /// A test of an object begins at what the green walk asked for: whether a strong pointer leads out of it.
@@ -348,9 +322,7 @@ impl<const SLOTS: usize> Round<SLOTS> {
         ensures begun { (w : Walk) (s : Sweep) (slot : ℕ) (g : Greening) → self.old.view ≡ Sweeping w s slot g → self.new ≡ record self.old { view = Sweeping w s slot (testing g id) } }
         ensures sound { IsInStep SLOTS self.new.limit self.new.view }
     {
-        known(&self.red, &self.sweep, &self.green);
         self.green.begin_test(id);
-        known(&self.red, &self.sweep, &self.green);
     }
 
     /// The test goes on: the slot holds no strong pointer.
@@ -359,9 +331,7 @@ impl<const SLOTS: usize> Round<SLOTS> {
         ensures tested { (w : Walk) (s : Sweep) (slot : ℕ) (g : Greening) → self.old.view ≡ Sweeping w s slot g → self.new ≡ record self.old { view = Sweeping w s slot (tested g) } }
         ensures sound { IsInStep SLOTS self.new.limit self.new.view }
     {
-        known(&self.red, &self.sweep, &self.green);
         self.green.passed();
-        known(&self.red, &self.sweep, &self.green);
     }
 
     /// The round closes.

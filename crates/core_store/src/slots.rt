@@ -1,7 +1,7 @@
 //! The change of a slot, with the strengths of what it held and holds and the counts of its targets.
 
 ghost use Rattle.std.specs.Prelude.{◌≡◌, ◌≢◌, ℕ, ◌<◌, ◌==◌, List, [], ◌∷◌, ◌++◌, ◌&&◌, true, false, not, length, Some};
-ghost use Rattle.store_model.specs.Cells.{Cell as StoredCell, null, cell_at, pointer_at, is_live, edit, pays};
+ghost use Rattle.cell_model.specs.Cells.{Cell as StoredCell, null, cell_at, pointer_at, is_live, edit, pays};
 ghost use Rattle.cell_page.specs.Format.{IsSlotCount, IsCell};
 ghost use Rattle.cell_page.specs.Stored.{cell_of};
 ghost use Rattle.strength_counts.specs.Laws.{ArePart, with_held};

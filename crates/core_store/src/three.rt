@@ -1,7 +1,7 @@
 //! The pages that a call works on.
 
 ghost use Rattle.std.specs.Prelude.{◌≡◌, ℕ, ◌<◌, ◌==◌, List, [], ◌∷◌, ◌++◌, length, true, false, slice_index_or, IfSome, IfNone};
-ghost use Rattle.store_model.specs.Cells.{Cell as StoredCell, cell_at, edit};
+ghost use Rattle.cell_model.specs.Cells.{Cell as StoredCell, cell_at, edit};
 ghost use Rattle.cell_page.specs.Format.{IsSlotCount, IsCell};
 ghost use Rattle.cell_page.specs.Stored.{cell_of};
 ghost use Rattle.core_store.specs.Frames.{page_of_id, pages_held, is_held, holds_nothing, are_all_among, AreOnce, Agree};
@@ -116,7 +116,7 @@ impl<const SLOTS: usize> Three<SLOTS> {
             return None;
         }
         self.count -= 1;
-        let held = self.frames[self.count];
+        let held = &self.frames[self.count];
         Some((held.page, held.frame))
     }
 

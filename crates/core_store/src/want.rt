@@ -1,7 +1,7 @@
 //! What a call wants to be done with the pages that are held.
 
 ghost use Rattle.std.specs.Prelude.{◌≡◌, ℕ, ◌<◌, List, IfSome, [], ◌∷◌, true, map};
-ghost use Rattle.store_model.specs.Cells.{Cell as StoredCell, cell_at, is_live, pointer_at};
+ghost use Rattle.cell_model.specs.Cells.{Cell as StoredCell, cell_at, is_live, pointer_at};
 ghost use Rattle.cell_page.specs.Format.{IsSlotCount};
 ghost use Rattle.core_store.specs.Frames.{page_of_id, pages_held, is_held, Agree, AreOnce};
 ghost use Rattle.core_store.specs.Logged.{want_of, next_page};

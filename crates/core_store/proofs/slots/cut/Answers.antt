@@ -1,5 +1,5 @@
 use Rattle.std.proofs.Common.{rules, ◌≢◌, ◌≤◌, sym, ◌∙◌, refl, arith, ⊎_elim}
-use Rattle.store_model.specs.Cells.{null}
+use Rattle.cell_model.specs.Cells.{null}
 use Rattle.strength_counts.specs.Held.{held_pointer}
 use Rattle.core_store.proofs.SlotHeld.{cut-relinks, stays-relinked, counted-null, counted-holds}
 use Rattle.core_store.proofs.SlotReady.{object-there, object-live, old-there, old-live, old-counts}

@@ -1,5 +1,5 @@
 use Rattle.std.proofs.Common.{rules, ◌≡◌, ℕ, ◌≤◌, List, [], ◌∷◌, true, sym, ap, ◌∙◌, subst, arith, ⊎_elim}
-use Rattle.store_model.specs.Cells.{Cell as StoredCell, self_pointers}
+use Rattle.cell_model.specs.Cells.{Cell as StoredCell, self_pointers}
 use Rattle.strength_counts.specs.Held.{Held, is_held as is_cell_held, held_cell, AreOnce}
 use Rattle.strength_counts.specs.Inside.{held_of}
 use Rattle.strength_counts.specs.Changes.{with_flipped}

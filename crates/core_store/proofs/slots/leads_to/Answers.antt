@@ -1,6 +1,6 @@
 use Rattle.std.proofs.Common.{◌≡◌, ◌≢◌, ℕ, Bool, slice_index_or, sym, ap, ◌∙◌, subst, ne_eqb, eq-eqb}
 use Rattle.std.specs.Prelude.{◌&&◌}
-use Rattle.store_model.specs.Cells.{pointer_at}
+use Rattle.cell_model.specs.Cells.{pointer_at}
 use Rattle.core_store.specs.Changes.{is_counted_strong}
 use Rattle.core_store.proofs.SlotStart.{old-of}
 use Rattle.core_store.proofs.slots.leads_to.Goals as goal

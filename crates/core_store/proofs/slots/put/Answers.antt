@@ -1,5 +1,5 @@
 use Rattle.std.proofs.Common.{rules, ◌≤◌, ap, ◌∙◌, arith, ⊎_elim}
-use Rattle.store_model.specs.Cells.{Pointer}
+use Rattle.cell_model.specs.Cells.{Pointer}
 use Rattle.core_store.specs.Changes.{bit_for}
 use Rattle.core_store.proofs.SlotHeld.{put-relinks, stays-relinked, pointer-null, laid-null, laid-strong}
 use Rattle.core_store.proofs.SlotReady.{object-there, object-live, target-there, target-live, target-room}

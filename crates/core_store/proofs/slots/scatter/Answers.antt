@@ -1,5 +1,5 @@
 use Rattle.std.proofs.Common.{rules, ◌≡◌, ◌<◌, ◌≤◌, List, [], ◌∷◌, ◌++◌, length, refl, sym, ap, ◌∙◌, subst, arith, ⊎_elim, length-append, append-nil}
-use Rattle.store_model.specs.Cells.{Cell as StoredCell, edit}
+use Rattle.cell_model.specs.Cells.{Cell as StoredCell, edit}
 use Rattle.strength_counts.specs.Held.{Held}
 use Rattle.strength_counts.specs.Laws.{with_held}
 use Rattle.strength_counts.specs.Inside.{held_of}

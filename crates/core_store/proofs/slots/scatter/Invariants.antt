@@ -1,5 +1,5 @@
 use Rattle.std.proofs.Common.{◌≡◌, ◌++◌, List, length}
-use Rattle.store_model.specs.Cells.{Cell as StoredCell}
+use Rattle.cell_model.specs.Cells.{Cell as StoredCell}
 use Rattle.strength_counts.specs.Held.{Held}
 use Rattle.strength_counts.specs.Laws.{with_held}
 use Rattle.core_store.specs.Frames.{pages_held, Agree}

@@ -1,5 +1,5 @@
 use Rattle.std.proofs.Common.{get_or, rules, ◌≡◌, ℕ, ◌<◌, ◌≤◌, List, ◌∷◌, ◌++◌, Bool, true, sym, ap, ◌∙◌, subst, arith, ⊎_elim}
-use Rattle.store_model.specs.Cells.{Pointer, Cell as StoredCell, null, pointer_in, relinked}
+use Rattle.cell_model.specs.Cells.{Pointer, Cell as StoredCell, null, pointer_in, relinked}
 use Rattle.strength_counts.specs.Held.{is_held as is_cell_held}
 use Rattle.strength_counts.proofs.StoreChanges.{look-pointer}
 use Rattle.core_store.specs.Changes.{bit_for}

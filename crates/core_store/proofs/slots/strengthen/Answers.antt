@@ -1,5 +1,5 @@
 use Rattle.std.proofs.Common.{rules, ◌≡◌, ℕ, ◌<◌, ◌≤◌, List, ◌∷◌, ◌++◌, true, sym, ◌∙◌, subst, arith, ⊎_elim}
-use Rattle.store_model.specs.Cells.{Cell as StoredCell}
+use Rattle.cell_model.specs.Cells.{Cell as StoredCell}
 use Rattle.strength_counts.specs.Held.{is_held as is_cell_held}
 use Rattle.core_store.specs.Logged.{if_any, object_and_targets}
 use Rattle.core_store.specs.Slots.{HoldsPagesOf, HasPlace, IsChanged}

@@ -2,12 +2,9 @@ use Rattle.std.proofs.Common.{◌≡◌, ◌≤◌, false, List, [], ◌∷◌, 
 use Rattle.plain_model.specs.declared.calls.Entry.{Entry}
 use Rattle.core_store.specs.declared.journal.Journal.TheInside.{Inside}
 use Rattle.core_store.specs.declared.note.Note.{Note}
-use Rattle.core_store.specs.JournalView.{JournalView}
-use Rattle.core_store.specs.Journal.{view_of}
 use Rattle.core_store.specs.Limited.{is_past_limit}
 use Rattle.core_store.specs.Steppings.{left_told, pops}
-use Rattle.core_store.specs.Views.{view_of as tables_of}
-use Rattle.core_store.proofs.AskLaws.{ready-collect, Keeps-marked}
+use Rattle.core_store.proofs.AskLaws.{ready-collect, sound-marked}
 use Rattle.core_store.proofs.EventLaws.{collector_note, made, made-event, made-safe, made-lower, told-left}
 use Rattle.core_store.proofs.JournalSteps.{Grows}
 use Rattle.core_store.proofs.ReplyLaws.{on_ok}
@@ -15,22 +12,17 @@ use Rattle.core_store.proofs.journal.Journal.collect_step.Given.{Over}
 use Rattle.core_store.proofs.journal.Journal.collect_step.Goals as goal
 
 pub invariant_of-self : goal.invariant_of-self
-invariant_of-self g c =
-    let s = c.self.invariant in
-    record {
-      keeps = Keeps-marked (view_of c.self.inside) (tables_of c.self.inside.tables) 1 s.keeps (ap (λ (j : JournalView). is_past_limit j 1) c.self.view_is ∙ (sym c.is_past_limit.ensures ∙ c.if-is_past_limit.true)) (omega arith);
-      room = s.room;
-    }
+invariant_of-self g c = sound-marked c.self.inside c.mark_full.new.self c.args.self.now 1 c.self.invariant c.self.view_is c.mark_full.ensures (sym c.is_past_limit.ensures ∙ c.if-is_past_limit.true) (omega arith)
 
 pub collect_step-requires : goal.collect_step-requires
 collect_step-requires g c =
     let s = c.self.invariant in
     let small : g.row.SLOTS ≤ 14 = ⊎_elim (λ six. omega arith) (λ fourteen. omega arith) s.keeps.stands.counted in
-    (search rules, (search rules, (ready-collect c.self.inside c.args.self.now c.args.held.now s c.self.view_is c.requires.agree (sym c.is_past_limit.ensures ∙ c.if-is_past_limit.false) c.requires.ready, sym c.is_idle.ensures ∙ c.if-is_idle.false)))
+    (search rules, (search rules, (c.at-next.ensures.next, (ready-collect c.self.inside c.args.self.now c.args.held.now s c.self.view_is c.requires.agree (sym c.is_past_limit.ensures ∙ c.if-is_past_limit.false) c.requires.ready, sym c.is_idle.ensures ∙ c.if-is_idle.false))))
 
 -- the journal after the event
 abbrev after : (g : Over) (c : goal.After-answer_of g) → Inside g.row.SLOTS
-after g c = record { alloc = c.self.inside.alloc; opening = c.self.inside.opening; trace = c.push_into_room.new.trace; limits = c.self.inside.limits; marks = c.self.inside.marks; tables = c.collect_step.new.self }
+after g c = record { alloc = c.self.inside.alloc; opening = c.self.inside.opening; trace = c.add.new.self; tables = c.collect_step.new.self }
 
 within : (g : Over) (c : goal.After-answer_of g) → is_past_limit c.args.self.now 1 ≡ false
 within g c = sym c.is_past_limit.ensures ∙ c.if-is_past_limit.false
@@ -38,21 +30,22 @@ within g c = sym c.is_past_limit.ensures ∙ c.if-is_past_limit.false
 grows : (g : Over) (c : goal.After-answer_of g) → Grows c.self.inside (after g c) (collector_note c.in-Ok.event.act c.in-Ok.event.logged c.left-left.result)
 grows g c = record {
   opening = refl;
-  limits = refl;
-  marks = refl;
+  limits = c.add.ensures.rest.0 ∙ c.take_room.ensures.rest.0;
+  marks = c.add.ensures.rest.1 ∙ c.take_room.ensures.rest.1;
   trace =
-      c.push_into_room.ensures.items
-      ∙ (ap (λ (xs : List Note). xs ++ record { entry = c.entry_of.result; logged = c.in-Ok.event.logged; left = c.left-left.result; act = c.in-Ok.event.act } ∷ []) c.reserve.ensures.items
-      ∙ ap (λ (e : Entry). c.self.inside.trace.items ++ record { entry = e; logged = c.in-Ok.event.logged; left = c.left-left.result; act = c.in-Ok.event.act } ∷ []) c.entry_of.ensures);
+      c.add.ensures.items
+      ∙ (ap (λ (xs : List Note). xs ++ record { entry = c.entry_of.result; logged = c.in-Ok.event.logged; left = c.left-left.result; act = c.in-Ok.event.act } ∷ []) c.take_room.ensures.notes.0
+      ∙ ap (λ (e : Entry). c.self.inside.trace.notes.items ++ record { entry = e; logged = c.in-Ok.event.logged; left = c.left-left.result; act = c.in-Ok.event.act } ∷ []) c.entry_of.ensures);
   left = c.left-left.ensures;
 }
 
 pub invariant_of-self-2 : goal.invariant_of-self-2
 invariant_of-self-2 g c =
-    let room = on_ok c.reserve.result c.is_err.result c.is_err.ensures.value c.if-is_err.false c.reserve.ensures.ok in
+    let room = on_ok c.take_room.result c.is_err.result c.is_err.ensures.value c.if-is_err.false c.take_room.ensures.room in
+    let long = c.take_room.ensures.notes.1 in
     let same = c.in-Ok.ensures.owed in
     (made c.self.inside (after g c) c.args.self.now c.args.held.now c.collect_step.new.held c.in-Ok.event.act c.in-Ok.event.logged c.left-left.result c.self.invariant c.self.view_is c.requires.agree (grows g c) c.in-Ok.ensures.ok (within g c) c.requires.ready c.in-Ok.ensures.owed).sound
-    (omega (arith, room, same, c.reserve.ensures.len, c.push_into_room.ensures.len, c.push_into_room.ensures.room, c.owed-room.ensures))
+    (omega (arith, room, same, long, c.add.ensures.len, c.add.ensures.room, c.owed.ensures))
 
 pub returns-clause-event : goal.returns-clause-event
 returns-clause-event g c = λ _.

@@ -1,8 +1,8 @@
 use Rattle.std.proofs.Common.{◌≡◌, List, ◌++◌, subst}
 use Rattle.plain_laws.specs.Serializable.{IsSerializable}
 use Rattle.plain_laws.proofs.Serializable.{IsSerializable-legal}
-use Rattle.store_model.specs.Records.{AllFit}
-use Rattle.store_model.specs.SoundCells.{AreConsistent}
+use Rattle.cell_model.specs.Records.{AllFit}
+use Rattle.cell_model.specs.Consistent.{AreConsistent}
 use Rattle.core_store.specs.declared.note.Note.{Note}
 use Rattle.core_store.specs.JournalView.{JournalView, cells_after_notes, logged_in}
 use Rattle.core_store.specs.Journal.{view_of}
@@ -21,4 +21,4 @@ returns-clause-consistent g c =
     (consistent-front (view_of c.self.inside) (tables_of c.self.inside.tables) c.self.invariant.keeps)
 
 pub returns-clause-fit : goal.returns-clause-fit
-returns-clause-fit g c = subst (λ (j : JournalView). AllFit g.row.SLOTS j.opening (logged_in j.notes)) c.self.view_is c.self.invariant.keeps.fit
+returns-clause-fit g c = subst (λ (j : JournalView). AllFit g.row.SLOTS j.opening (logged_in j.notes)) c.self.view_is c.self.invariant.keeps.safe.fit

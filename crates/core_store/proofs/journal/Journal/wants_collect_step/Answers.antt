@@ -17,7 +17,7 @@ pub invariant_of-self : goal.invariant_of-self
 invariant_of-self g c = let e = c.wants_collect_step.ensures in looked-sound c.self.inside c.wants_collect_step.new.self c.args.self.now c.args.held.now c.self.invariant c.self.view_is c.requires.agree e.same e.stands e.passes
 
 -- within the limit after the looks as before
-within : (g : Over) (c : goal.After-wants_collect_step g) → is_past_limit (view_of (record { alloc = c.self.inside.alloc; opening = c.self.inside.opening; trace = c.self.inside.trace; limits = c.self.inside.limits; marks = c.self.inside.marks; tables = c.wants_collect_step.new.self })) 1 ≡ false
+within : (g : Over) (c : goal.After-wants_collect_step g) → is_past_limit (view_of (record { alloc = c.self.inside.alloc; opening = c.self.inside.opening; trace = c.self.inside.trace; tables = c.wants_collect_step.new.self })) 1 ≡ false
 within g c =
     let e = c.wants_collect_step.ensures in
     ap (λ (j : JournalView). is_past_limit j 1) (looked-view c.self.inside c.wants_collect_step.new.self c.args.self.now c.args.held.now c.self.invariant c.self.view_is c.requires.agree e.same e.stands e.passes) ∙ (sym c.is_past_limit.ensures ∙ c.if-is_past_limit.false)
@@ -27,7 +27,7 @@ returns-clause-exact g c =
     let a = c.self.inside in
     let agree = subst (λ (j : JournalView). Agree (cells_of j) c.args.held.now) (sym c.self.view_is) c.requires.agree in
     c.wants_collect_step.ensures.exact (core_of (view_of a)) c.self.invariant.keeps.stands agree
-    ∙ sym (ap (λ ps. want_of ps (pages_held c.args.held.now)) (collector-within (view_of (record { alloc = a.alloc; opening = a.opening; trace = a.trace; limits = a.limits; marks = a.marks; tables = c.wants_collect_step.new.self })) (within g c)))
+    ∙ sym (ap (λ ps. want_of ps (pages_held c.args.held.now)) (collector-within (view_of (record { alloc = a.alloc; opening = a.opening; trace = a.trace; tables = c.wants_collect_step.new.self })) (within g c)))
 
 pub returns-clause-ready : goal.returns-clause-ready
 returns-clause-ready g c = λ e.

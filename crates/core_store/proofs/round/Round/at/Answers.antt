@@ -7,14 +7,14 @@ use Rattle.core_store.proofs.round.Round.at.Goals as goal
 pub returns-in-Slots-clause-sound : goal.returns-in-Slots-clause-sound
 returns-in-Slots-clause-sound g c =
     let a = c.self.inside in
-    subst (λ (r : Rounds). IsInStep g.row.SLOTS r.limit r.view) c.self.view_is (open-in-step g.row.SLOTS a.ids a.stage a.red a.locked a.verdict a.sweep a.slot a.green c.self.invariant c.known.ensures.walk c.known.ensures.sweep c.known.ensures.green)
+    subst (λ (r : Rounds). IsInStep g.row.SLOTS r.limit r.view) c.self.view_is (open-in-step g.row.SLOTS a.ids a.stage a.red a.locked a.verdict a.sweep a.slot a.green c.self.invariant)
 
 pub returns-in-Free-clause-sound : goal.returns-in-Free-clause-sound
 returns-in-Free-clause-sound g c =
     let a = c.self.inside in
-    subst (λ (r : Rounds). IsInStep g.row.SLOTS r.limit r.view) c.self.view_is (open-in-step g.row.SLOTS a.ids a.stage a.red a.locked a.verdict a.sweep a.slot a.green c.self.invariant c.known.ensures.walk c.known.ensures.sweep c.known.ensures.green)
+    subst (λ (r : Rounds). IsInStep g.row.SLOTS r.limit r.view) c.self.view_is (open-in-step g.row.SLOTS a.ids a.stage a.red a.locked a.verdict a.sweep a.slot a.green c.self.invariant)
 
 pub returns-in-End-clause-sound : goal.returns-in-End-clause-sound
 returns-in-End-clause-sound g c =
     let a = c.self.inside in
-    subst (λ (r : Rounds). IsInStep g.row.SLOTS r.limit r.view) c.self.view_is (open-in-step g.row.SLOTS a.ids a.stage a.red a.locked a.verdict a.sweep a.slot a.green c.self.invariant c.known.ensures.walk c.known.ensures.sweep c.known.ensures.green)
+    subst (λ (r : Rounds). IsInStep g.row.SLOTS r.limit r.view) c.self.view_is (open-in-step g.row.SLOTS a.ids a.stage a.red a.locked a.verdict a.sweep a.slot a.green c.self.invariant)

@@ -1,5 +1,5 @@
 use Rattle.std.proofs.Common.{◌≡◌, sym, subst, rules}
-use Rattle.green_walk.specs.Greening.{Greening}
+use Rattle.green_walk.specs.Greening.{Greening, IsGreening}
 use Rattle.core_store.specs.declared.round_at.RoundAt.TheVariants as at
 use Rattle.core_store.specs.RoundView.{Rounds, asked}
 use Rattle.core_store.specs.RoundInside.{AreInStep}
@@ -9,15 +9,15 @@ use Rattle.core_store.proofs.round.Round.tested.Goals as goal
 pub passed-requires : goal.passed-requires
 passed-requires g c =
     let a = c.self.inside in
-    (search rules, test-in-hand g.row.SLOTS a.stage a.red a.sweep a.slot c.requires.at.0 c.requires.at.1 a.green c.known.ensures.green c.self.invariant.green_slots (subst (λ (r : Rounds). asked r.view ≡ at.Test c.requires.at.0 c.requires.at.1) (sym c.self.view_is) c.requires.at.2))
+    (search rules, test-in-hand g.row.SLOTS a.stage a.red a.sweep a.slot c.requires.at.0 c.requires.at.1 a.green c.self.invariant.green_sound c.self.invariant.green_slots (subst (λ (r : Rounds). asked r.view ≡ at.Test c.requires.at.0 c.requires.at.1) (sym c.self.view_is) c.requires.at.2))
 
 pub invariant_of-self : goal.invariant_of-self
 invariant_of-self g c =
     let a = c.self.inside in
-    subst (λ (x : Greening). AreInStep g.row.SLOTS a.ids a.stage a.red a.locked a.verdict a.sweep a.slot x) (sym c.passed.ensures)
-    (tested-in-step g.row.SLOTS a.ids a.stage a.red a.locked a.verdict a.sweep a.slot c.requires.at.0 c.requires.at.1 a.green c.self.invariant c.known.ensures.green (subst (λ (r : Rounds). asked r.view ≡ at.Test c.requires.at.0 c.requires.at.1) (sym c.self.view_is) c.requires.at.2))
+    subst (λ (x : Greening). AreInStep g.row.SLOTS a.ids a.stage a.red a.locked a.verdict a.sweep a.slot x) (sym c.passed.ensures.tested)
+    (tested-in-step g.row.SLOTS a.ids a.stage a.red a.locked a.verdict a.sweep a.slot c.requires.at.0 c.requires.at.1 a.green c.self.invariant (subst IsGreening c.passed.ensures.tested c.passed.ensures.sound) (subst (λ (r : Rounds). asked r.view ≡ at.Test c.requires.at.0 c.requires.at.1) (sym c.self.view_is) c.requires.at.2))
 
 pub returns-clause-sound : goal.returns-clause-sound
 returns-clause-sound g c =
     let a = c.self.inside in
-    open-in-step g.row.SLOTS a.ids a.stage a.red a.locked a.verdict a.sweep a.slot c.passed.new.self (invariant_of-self g c) c.known-2.ensures.walk c.known-2.ensures.sweep c.known-2.ensures.green
+    open-in-step g.row.SLOTS a.ids a.stage a.red a.locked a.verdict a.sweep a.slot c.passed.new.self (invariant_of-self g c)

@@ -1,7 +1,7 @@
 use Rattle.std.proofs.Common.{Some, true, false, rules, ◌≡◌, ℕ, ◌<◌, List, refl, sym, ap, ◌∙◌, subst}
 use Rattle.cell_page.specs.declared.cell.Cell.{Cell}
 use Rattle.cell_page.specs.Format.{IsCell}
-use Rattle.store_model.specs.Cells.{Cell as StoredCell, edit, blank_cell}
+use Rattle.cell_model.specs.Cells.{Cell as StoredCell, edit, blank_cell}
 use Rattle.red_walk.specs.Walk.{removed}
 use Rattle.green_walk.specs.declared.sweep.Found.TheVariants.{Made}
 use Rattle.green_walk.specs.Sweeping.{found}

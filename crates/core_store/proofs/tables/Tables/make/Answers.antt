@@ -5,7 +5,7 @@ use Rattle.core_store.proofs.MakeLaws.{removed-updates}
 use Rattle.core_store.proofs.MapLaws.{owed-loaded, on_err}
 use Rattle.core_store.proofs.HandlerLaws.{small-make, nobody-free, does-make}
 use Rattle.cell_page.specs.declared.cell.Cell.{Cell}
-use Rattle.store_model.specs.Cells.{Cell as StoredCell, edit, blank_cell}
+use Rattle.cell_model.specs.Cells.{Cell as StoredCell, edit, blank_cell}
 use Rattle.core_store.specs.Frames.{Agree, is_held, page_of_id}
 use Rattle.cell_page.specs.Format.{IsCell}
 use Rattle.strict_locks.specs.Locks.{Table as Locks}

@@ -2,7 +2,7 @@ use Rattle.std.proofs.Common.{rules, true, false, sym, ap, ◌∙◌, refl}
 use Rattle.std.proofs.lemmas.List.{get_or_default}
 use Rattle.core_store.specs.declared.round_at.RoundAt.TheVariants as at
 use Rattle.core_store.specs.Changes.{has_no_strong}
-use Rattle.store_model.specs.Cells.{cell_at}
+use Rattle.cell_model.specs.Cells.{cell_at}
 use Rattle.core_store.specs.RoundView.{Rounds}
 use Rattle.core_store.specs.Views.{view_of}
 use Rattle.core_store.proofs.CollectedLaws.{mark-of_live}

@@ -1,7 +1,7 @@
 use Rattle.std.proofs.Common.{Some, sym, ap, subst, rules}
 use Rattle.core_store.specs.Views.{view_of}
 use Rattle.core_store.proofs.HandlerLaws.{small-set, ready-set, does-set, noted-view}
-use Rattle.store_model.specs.Cells.{Cell as StoredCell}
+use Rattle.cell_model.specs.Cells.{Cell as StoredCell}
 use Rattle.log_record.specs.declared.cell_record.CellRecord.TheVariants as logs
 use Rattle.plain_model.specs.declared.calls.Reply.TheVariants as reply
 use Rattle.core_store.specs.declared.plan.Plan.TheVariants as plan

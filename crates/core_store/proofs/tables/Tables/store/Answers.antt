@@ -1,6 +1,6 @@
 use Rattle.std.proofs.Common.{◌≡◌, List, Bool, Some, refl, sym, ap, ◌∙◌, subst, arith, rules}
 use Rattle.plain_model.specs.declared.calls.Reply.TheVariants as reply
-use Rattle.ref_tables.specs.Refs.{Table}
+use Rattle.ref_tables.specs.Refs.{Table, room_of}
 use Rattle.core_store.specs.Changes.{stored_change, store_record}
 use Rattle.core_store.specs.References.{targets_of}
 use Rattle.core_store.specs.RoundView.{touched_by_record}
@@ -36,13 +36,13 @@ store-change-requires g c =
 pub note-requires : goal.note-requires
 note-requires g c =
     let room = c.in_ok-reserve.ensures.ok in
-    let same = ap (λ (t : Table). t.room) c.own_to_write.ensures.references in
+    let same = ap (λ (t : Table). room_of t c.args.pass) c.own_to_write.ensures.references in
     omega (arith, room, same)
 
 pub note-requires-2 : goal.note-requires-2
 note-requires-2 g c =
     let room = c.in_ok-reserve.ensures.ok in
-    let same = ap (λ (t : Table). t.room) c.own_to_write.ensures.references in
+    let same = ap (λ (t : Table). room_of t c.args.pass) c.own_to_write.ensures.references in
     let less = c.note.ensures.room in
     omega (arith, room, same, less)
 

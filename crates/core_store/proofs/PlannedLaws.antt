@@ -1,0 +1,49 @@
+-- What was planned for a call.
+use Rattle.std.proofs.Common.{◌≡◌, ℕ, List, true, subst, None}
+use Rattle.std.specs.Prelude.{Result, Ok, Err, IfOk, IfErr}
+use Rattle.std.specs.List.{AllByRecursion}
+use Rattle.plain_model.specs.declared.calls.Call.{Call as TransactionCall}
+use Rattle.plain_model.specs.declared.calls.Reply.{Reply}
+use Rattle.plain_model.specs.Machine.{IsInRange}
+use Rattle.core_store.specs.declared.handlers.Outcome.{Outcome}
+use Rattle.core_store.specs.declared.plan.Plan.{Plan}
+use Rattle.core_store.specs.declared.three.HeldFrame.{HeldFrame}
+use Rattle.core_store.specs.Frames.{page_of_id, is_held}
+use Rattle.core_store.specs.Owed.{entries_needed}
+use Rattle.core_store.specs.Plans.{IsGranted, IsRefused, IsPlanned, entries_needed_by}
+use Rattle.core_store.specs.Ready.{Does, DoesPlanned, IsReady, IsReadyToCall, objects_of_plan}
+use Rattle.core_store.specs.Tables.{TablesView}
+use Rattle.core_store.proofs.NeededLaws.{needed-granted}
+use Rattle.core_store.proofs.PlanRecords.{pages-plan, plan-in_range}
+use Rattle.core_store.proofs.RefusalLaws.{performs-refused}
+use Rattle.core_store.proofs.ReplyLaws.{each-map}
+
+-- the plan is the call's, or the refusal is
+pub planned-so : (slots : ℕ) (v : TablesView) (pass : ℕ) (c : TransactionCall) (r : Result Plan Reply) → IfOk r (IsGranted v pass c) → IfErr r (λ reply. IsRefused slots v pass c reply) → IsPlanned slots v pass c r
+planned-so slots v pass c (Ok p) granted refused = granted
+planned-so slots v pass c (Err reply) granted refused = refused
+
+-- what does a plan does what was planned
+pub does-granted : {slots : ℕ} (v w : TablesView) (held new : List (HeldFrame slots)) (pass : ℕ) (r : Result Plan Reply) (p : Plan) → r ≡ Ok p → (o : Outcome) → Does v w held new pass p o → DoesPlanned v w held new pass r o
+does-granted {slots} v w held new pass r p is o does = λ call planned. does call (subst (λ (x : Result Plan Reply). IsPlanned slots v pass call x) is planned)
+
+-- a refusal changes nothing
+pub does-refused : {slots : ℕ} (v : TablesView) (held : List (HeldFrame slots)) (pass : ℕ) (r : Result Plan Reply) (reply : Reply) → r ≡ Err reply → DoesPlanned v v held held pass r (record { reply = reply; logged = None })
+does-refused {slots} v held pass r reply is = λ call planned. performs-refused slots v held pass call reply (subst (λ (x : Result Plan Reply). IsPlanned slots v pass call x) is planned)
+
+-- a plan needs what its call needs
+pub needed-planned : (slots : ℕ) (v : TablesView) (pass : ℕ) (c : TransactionCall) (r : Result Plan Reply) (p : Plan) → r ≡ Ok p → IsPlanned slots v pass c r → entries_needed_by p ≡ entries_needed c
+needed-planned slots v pass c r p is planned = needed-granted v pass c p (subst (λ (x : Result Plan Reply). IsPlanned slots v pass c x) is planned)
+
+-- where the pages are held on which the call works, they are those on which its plan works
+pub ready-planned : {slots : ℕ} (v : TablesView) (held : List (HeldFrame slots)) (pass : ℕ) (c : TransactionCall) (r : Result Plan Reply) → IsInRange slots c → IsReadyToCall v held pass c → IfOk r (IsGranted v pass c) → IfOk r (IsReady v held pass)
+ready-planned {slots} v held pass c (Ok p) in_range ready granted =
+    let s = ready.standing in
+    record {
+      call = c;
+      granted = granted;
+      in_range = plan-in_range slots v pass c p in_range granted;
+      standing = s;
+      pages = each-map (λ n. is_held held n ≡ true) page_of_id (objects_of_plan s.core.cells p) (subst (AllByRecursion (λ n. is_held held n ≡ true)) (pages-plan s.stands pass c p granted) ready.pages);
+    }
+ready-planned v held pass c (Err reply) in_range ready granted = granted

@@ -1,0 +1,187 @@
+//! The events of the collector: which one comes next, and those that change no cell.
+ghost use Rattle.std.specs.Prelude.{◌≡◌, ℕ, ◌<◌, ◌≤◌, List, IfOk, OnErr, length, Bool, not, ◌&&◌, get_or, false};
+ghost use Rattle.store_model.specs.Core.{Core};
+ghost use Rattle.core_store.specs.declared.three.HeldFrame.{HeldFrame};
+ghost use Rattle.core_store.specs.RoundView.{Closed, is_closed, asked};
+ghost use Rattle.core_store.specs.Frames.{pages_held};
+ghost use Rattle.core_store.specs.Views.{view_of};
+ghost use Rattle.core_store.specs.Stands.{Stands};
+ghost use Rattle.core_store.specs.Steps.{AreNames, JoinsIfLoose};
+ghost use Rattle.core_store.specs.Collecting.{CanCollect, CollectsOne, answer_of};
+ghost use Rattle.core_store.specs.Queued.{is_none_queued};
+ghost use Rattle.core_store.specs.Collects.{entry_of};
+
+use crate::act::Act;
+use crate::collect::Collect;
+use crate::round_at::RoundAt;
+use crate::tables::Tables;
+use crate::three::Three;
+use log_record::CellRecord;
+use plain_model::{Entry, Memory};
+
+/// An event of the collector: which one, and what it logs.
+#[derive(Clone, Copy)]
+pub(crate) struct Event {
+    pub(crate) act: Act,
+    pub(crate) logged: Option<CellRecord>,
+}
+
+impl<const SLOTS: usize> Tables<SLOTS> {
+    /// Whether the queue is empty and no round is open.
+    pub(crate) fn is_idle(&self) -> bool
+        ensures { result ≡ (is_closed (view_of self.now).round && is_none_queued (view_of self.now).queue) }
+    {
+        self.round.left() == 0 && self.queue.len() == 0
+    }
+
+    /// Makes the event that comes next. Out of memory leaves all as it was.
+    pub(crate) fn collect_step(
+        &mut self,
+        held: &mut Three<SLOTS>,
+        next: RoundAt,
+    ) -> Result<Event, Memory>
+        requires next { next ≡ asked (view_of self.old).round }
+        requires ready { CanCollect (view_of self.old) held.old }
+        requires busy { (is_closed (view_of self.old).round && is_none_queued (view_of self.old).queue) ≡ false }
+        ensures ok { IfOk result (λ e. CollectsOne SLOTS (view_of self.old) (view_of self.new) held.old held.new e.act e.logged) }
+        ensures err { OnErr result ((view_of self.new ≡ view_of self.old) × (held.new ≡ held.old)) }
+        ensures owed { self.new.owed ≡ self.old.owed }
+        ensures pages { pages_held held.new ≡ pages_held held.old }
+    {
+        match next {
+            RoundAt::Queue => Ok(self.begin_round()),
+            RoundAt::Look { id, slot } => Ok(self.weaken(held, id, slot)),
+            RoundAt::Copy { id } => Ok(self.copy(held, id)),
+            RoundAt::Judge => Ok(self.judge()),
+            RoundAt::Cut { id, slot } => Ok(self.cut_dead(held, id, slot)),
+            RoundAt::Free { id } => self.free_dead(held, id),
+            RoundAt::Flip { id } => Ok(self.flip(held, id)),
+            RoundAt::Into { from, slot, to } => Ok(self.weaken_into(held, from, slot, to)),
+            RoundAt::Strengthen { from, slot, to } => Ok(self.strengthen(held, from, slot, to)),
+            RoundAt::End => Ok(self.end_round()),
+            // Looks are made before.
+            RoundAt::Seed { .. } | RoundAt::Test { .. } | RoundAt::Out { .. } => Ok(Event {
+                act: Act::Other,
+                logged: None,
+            }),
+        }
+    }
+
+    /// Whether no strong pointer leads to the object and no transaction names it.
+    fn is_loose(&self, id: u32) -> bool
+        requires { id < length (view_of self.now).zeros }
+        ensures { (named : ℕ → Bool) → AreNames (view_of self.now).references named → result ≡ (get_or (view_of self.now).zeros id false && not (named id)) }
+    {
+        self.zeros[id as usize] && !self.references.names(id)
+    }
+
+    /// Takes the first object out of the queue, and opens a round with it, unless a strong pointer leads to it or a
+    /// transaction names it.
+    fn begin_round(&mut self) -> Event
+        requires standing { (c : Core) × Stands SLOTS (view_of self.old) c }
+        requires closed { (view_of self.old).round ≡ Closed }
+        requires some { is_none_queued (view_of self.old).queue ≡ false }
+        ensures collects { (held : List (HeldFrame SLOTS)) → CollectsOne SLOTS (view_of self.old) (view_of self.new) held held result.act result.logged }
+        ensures owed { self.new.owed ≡ self.old.owed }
+    {
+        let Some(id) = self.queue.pop() else {
+            return Event {
+                act: Act::Other,
+                logged: None,
+            };
+        };
+        if !self.is_loose(id) {
+            return Event {
+                act: Act::Skip { id },
+                logged: None,
+            };
+        }
+        self.round.start(id);
+        Event {
+            act: Act::Start { id },
+            logged: None,
+        }
+    }
+
+    /// Copies the object's slots and counts.
+    fn copy(&mut self, held: &Three<SLOTS>, id: u32) -> Event
+        requires ready { CanCollect (view_of self.old) held.now }
+        requires at { asked (view_of self.old).round ≡ RoundAt.Copy id }
+        ensures collects { CollectsOne SLOTS (view_of self.old) (view_of self.new) held.now held.now result.act result.logged }
+        ensures owed { self.new.owed ≡ self.old.owed }
+    {
+        self.round.scan(id, held.cell(id).seen());
+        Event {
+            act: Act::Scan { id },
+            logged: None,
+        }
+    }
+
+    /// The verdict.
+    fn judge(&mut self) -> Event
+        requires standing { (c : Core) × Stands SLOTS (view_of self.old) c }
+        requires at { asked (view_of self.old).round ≡ RoundAt.Judge }
+        ensures collects { (held : List (HeldFrame SLOTS)) → CollectsOne SLOTS (view_of self.old) (view_of self.new) held held result.act result.logged }
+        ensures owed { self.new.owed ≡ self.old.owed }
+    {
+        self.round.judge(&self.locks, &self.references);
+        Event {
+            act: Act::Judge,
+            logged: None,
+        }
+    }
+
+    /// Lets an object of the round join the queue where no strong pointer leads to it and no transaction names it.
+    fn requeue(&mut self, id: u32)
+        requires within { (1 ≤ id) × (id ≤ self.old.ids) }
+        requires marked { id < length (view_of self.old).zeros }
+        ensures joins { JoinsIfLoose (view_of self.old) (view_of self.new) id }
+        ensures owed { self.new.owed ≡ self.old.owed }
+    {
+        if !self.round.holds(id) {
+            return;
+        }
+        if self.is_loose(id) {
+            self.queue.push(id);
+        }
+    }
+
+    /// Closes the round. Its objects without strong pointers join the queue, unless a transaction names them.
+    fn end_round(&mut self) -> Event
+        requires standing { (c : Core) × Stands SLOTS (view_of self.old) c }
+        requires at { asked (view_of self.old).round ≡ RoundAt.End }
+        ensures collects { (held : List (HeldFrame SLOTS)) → CollectsOne SLOTS (view_of self.old) (view_of self.new) held held result.act result.logged }
+        ensures owed { self.new.owed ≡ self.old.owed }
+    {
+        for place in 0..self.round.list().len() {
+            let id = self.round.list()[place];
+            self.requeue(id);
+        }
+        self.round.close();
+        Event {
+            act: Act::End,
+            logged: None,
+        }
+    }
+}
+
+/// The history's entry of an event of the collector.
+pub(crate) fn entry_of(logged: Option<CellRecord>) -> Entry
+    ensures { result ≡ entry_of logged }
+{
+    match logged {
+        Some(CellRecord::Free { id }) => Entry::Delete { id },
+        _ => Entry::Hidden,
+    }
+}
+
+/// What a step of the collector is answered that made this event.
+pub(crate) fn answer_of(event: Event, left: u64) -> Collect
+    ensures { result ≡ answer_of event.act event.logged left }
+{
+    if let Some(CellRecord::Free { id }) = event.logged {
+        return Collect::Deleted { id, left };
+    }
+    let popped = matches!(event.act, Act::Skip { .. } | Act::Start { .. });
+    Collect::Did { popped, left }
+}

@@ -1,0 +1,154 @@
+//! The looks of the collector: what it sees on the held pages where there is nothing to do.
+ghost use Rattle.std.specs.Prelude.{◌≡◌, ℕ, List, IfSome, true};
+ghost use Rattle.cell_page.specs.Format.{IsSlotCount};
+ghost use Rattle.store_model.specs.Core.{Core};
+ghost use Rattle.core_store.specs.RoundView.{asked, is_event, IsLookAt, Passes, passed};
+ghost use Rattle.core_store.specs.Frames.{Agree, IsNext, pages_held};
+ghost use Rattle.core_store.specs.Logged.{want_of};
+ghost use Rattle.core_store.specs.Work.{IsWork, HasSmallTargets};
+ghost use Rattle.core_store.specs.Views.{view_of};
+ghost use Rattle.core_store.specs.Stands.{Stands};
+ghost use Rattle.core_store.specs.Ready.{IsStanding};
+ghost use Rattle.cell_model.specs.Cells.{Cell as StoredCell};
+ghost use Rattle.core_store.specs.Slots.{HoldsPagesOf};
+ghost use Rattle.core_store.specs.Collecting.{work_at, objects_at, pages_to_collect, CanPass, IsPassedBy};
+
+use crate::round_at::RoundAt;
+use crate::slots;
+use crate::tables::Tables;
+use crate::three::Three;
+use crate::want::{Want, Work, wanted};
+use green_walk::Found;
+
+/// The object on which the collector is about to work, if there is one.
+fn work_at(at: RoundAt) -> Option<Work>
+    ensures { result ≡ work_at at }
+{
+    match at {
+        RoundAt::Queue | RoundAt::Judge | RoundAt::Seed { .. } | RoundAt::End => None,
+        RoundAt::Copy { id }
+        | RoundAt::Free { id }
+        | RoundAt::Flip { id }
+        | RoundAt::Out { from: id, .. } => Some(Work { id, change: None }),
+        RoundAt::Look { id, slot }
+        | RoundAt::Cut { id, slot }
+        | RoundAt::Test { id, slot }
+        | RoundAt::Into { from: id, slot, .. }
+        | RoundAt::Strengthen { from: id, slot, .. } => Some(Work {
+            id,
+            change: Some((slot, 0)),
+        }),
+    }
+}
+
+/// Whether there is something to do, and not only to look at.
+fn is_event<const SLOTS: usize>(held: &Three<SLOTS>, at: RoundAt) -> bool
+    requires size { IsSlotCount SLOTS }
+    requires small { IfSome (work_at at) (IsWork SLOTS) }
+    requires pages { IsLookAt at → (cells : List StoredCell) × Agree cells held.now × HasSmallTargets cells × HoldsPagesOf held.now (objects_at cells at) }
+    ensures { (cells : List StoredCell) → Agree cells held.now → result ≡ is_event cells at }
+{
+    match at {
+        RoundAt::Look { id, slot } => slots::is_strong(held, id, slot),
+        RoundAt::Cut { id, slot } => slots::is_pointer(held, id, slot),
+        RoundAt::Into { from, slot, to } => slots::leads_to(held, from, slot, to),
+        RoundAt::Seed { .. } | RoundAt::Test { .. } | RoundAt::Out { .. } => false,
+        RoundAt::Queue
+        | RoundAt::Copy { .. }
+        | RoundAt::Judge
+        | RoundAt::Free { .. }
+        | RoundAt::Flip { .. }
+        | RoundAt::Strengthen { .. }
+        | RoundAt::End => true,
+    }
+}
+
+impl<const SLOTS: usize> Tables<SLOTS> {
+    /// What is to be done with the held pages before the next step of the collector. It looks at what the held pages
+    /// show, and goes on where there is nothing to do.
+    pub(crate) fn wants_collect_step(&mut self, held: &Three<SLOTS>) -> Want
+        requires standing { IsStanding (view_of self.old) held.now }
+        ensures passes { (c : Core) → Stands SLOTS (view_of self.old) c → Agree c.cells held.now → Passes SLOTS c.cells (view_of self.old).round (view_of self.new).round }
+        ensures stands { (c : Core) → Stands SLOTS (view_of self.old) c → Agree c.cells held.now → Stands SLOTS (view_of self.new) c }
+        ensures exact { (c : Core) → Stands SLOTS (view_of self.old) c → Agree c.cells held.now → result ≡ want_of (pages_to_collect c.cells (view_of self.new).round) (pages_held held.now) }
+        ensures event { (c : Core) → Stands SLOTS (view_of self.old) c → Agree c.cells held.now → result ≡ Want.Ready → is_event c.cells (asked (view_of self.new).round) ≡ true }
+        ensures next { (page : ℕ) → result ≡ Want.Page page → IsNext self.old.ids held.now page }
+        ensures same { view_of self.new ≡ record (view_of self.old) { round = (view_of self.new).round } }
+    {
+        'looks: loop {
+            let at = self.round.at();
+            let want = wanted(held, work_at(at));
+            if want != Want::Ready || is_event(held, at) {
+                return want;
+            }
+            self.pass(held, at);
+        }
+    }
+
+    /// Goes on from a look at which there was nothing to do.
+    fn pass(&mut self, held: &Three<SLOTS>, at: RoundAt)
+        requires at { at ≡ asked (view_of self.old).round }
+        requires ready { CanPass (view_of self.old) held.now }
+        ensures passes { (c : Core) → Stands SLOTS (view_of self.old) c → Agree c.cells held.now → (view_of self.new).round ≡ passed SLOTS c.cells (view_of self.old).round }
+        ensures stands { (c : Core) → Stands SLOTS (view_of self.old) c → Agree c.cells held.now → Stands SLOTS (view_of self.new) c }
+        ensures same { view_of self.new ≡ record (view_of self.old) { round = (view_of self.new).round } }
+    {
+        match at {
+            RoundAt::Look { .. } | RoundAt::Cut { .. } => self.round.passed(),
+            RoundAt::Seed { id } => self.see_seed(id),
+            RoundAt::Test { id, slot } => self.see_slot_of_test(held, id, slot),
+            RoundAt::Into { .. } => self.round.found(Found::Nothing),
+            RoundAt::Out { from, slot } => self.see_slot_of_green(held, from, slot),
+            RoundAt::Queue
+            | RoundAt::Copy { .. }
+            | RoundAt::Judge
+            | RoundAt::Free { .. }
+            | RoundAt::Flip { .. }
+            | RoundAt::Strengthen { .. }
+            | RoundAt::End => {}
+        }
+    }
+
+    /// The look at a seed: it is passed over where it is green, it becomes green where a strong pointer leads to it, and
+    /// else a test begins whether one leads out of it.
+    fn see_seed(&mut self, id: u32)
+        requires at { asked (view_of self.old).round ≡ RoundAt.Seed id }
+        requires standing { (c : Core) × Stands SLOTS (view_of self.old) c }
+        ensures seen { (c : Core) → Stands SLOTS (view_of self.old) c → IsPassedBy SLOTS c (view_of self.old) (view_of self.new) }
+    {
+        if !self.round.waits(id) {
+            self.round.found(Found::Nothing);
+        } else if self.zeros[id as usize] {
+            self.round.begin_test(id);
+        } else {
+            self.round.found(Found::Strong);
+        }
+    }
+
+    /// The look at a slot of a tested object: a strong pointer in it ends the test, and there is nothing to do.
+    fn see_slot_of_test(&mut self, held: &Three<SLOTS>, id: u32, slot: u8)
+        requires at { asked (view_of self.old).round ≡ RoundAt.Test id slot }
+        requires ready { CanPass (view_of self.old) held.now }
+        ensures seen { (c : Core) → Stands SLOTS (view_of self.old) c → Agree c.cells held.now → IsPassedBy SLOTS c (view_of self.old) (view_of self.new) }
+    {
+        if slots::is_strong(held, id, slot) {
+            self.round.found(Found::Nothing);
+        } else {
+            self.round.tested();
+        }
+    }
+
+    /// The look at a slot of a green object: its target is tested where it waits and no strong pointer leads to it.
+    fn see_slot_of_green(&mut self, held: &Three<SLOTS>, from: u32, slot: u8)
+        requires at { asked (view_of self.old).round ≡ RoundAt.Out from slot }
+        requires ready { CanPass (view_of self.old) held.now }
+        ensures seen { (c : Core) → Stands SLOTS (view_of self.old) c → Agree c.cells held.now → IsPassedBy SLOTS c (view_of self.old) (view_of self.new) }
+    {
+        let target = held.cell(from).slots[slot as usize];
+        if self.round.waits(target) && self.zeros[target as usize] {
+            self.round.begin_test(target);
+        } else {
+            self.round.found(Found::Nothing);
+        }
+    }
+}

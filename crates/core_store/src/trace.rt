@@ -1,0 +1,71 @@
+//! The trace of a journal: its notes, how many it may have, and which answers were given.
+ghost use Rattle.std.specs.Prelude.{◌≡◌, ◌+◌, ◌^◌, ◌<◌, ◌≤◌, ◌++◌, ◌∷◌, [], nat_lt, length, true, false, vec_len, vec_capacity, OnOk};
+
+use crate::limits::Limits;
+use crate::marks::Marks;
+use crate::note::Note;
+use plain_model::Memory;
+use std::alloc::Global;
+
+/// What happened since the opening, how far that may grow, and which answers were given.
+#[derive(Debug, Drop)]
+pub(crate) struct Trace {
+    pub(crate) notes: Vec<Note>,
+    limits: Limits,
+    pub(crate) marks: Marks,
+}
+
+impl Trace {
+    /// Nothing happened, and no mark is set.
+    pub(crate) fn new(alloc: Global, limits: Limits) -> Trace
+        ensures notes { (result.notes.items ≡ []) × (vec_len result.notes ≡ 0) }
+        ensures limits { result.limits ≡ limits }
+        ensures marks { result.marks ≡ record { disk = false; trace = false; log = false } }
+    {
+        Trace {
+            notes: Vec::new(alloc),
+            limits,
+            marks: Marks {
+                disk: false,
+                trace: false,
+                log: false,
+            },
+        }
+    }
+
+    /// Whether so many notes more would go past the limit, beside those that are owed.
+    pub(crate) fn is_past_limit(&self, owed: usize, more: u64) -> bool
+        requires { length self.now.notes.items + owed + more < 2 ^ 64 }
+        ensures { result ≡ nat_lt self.now.limits.trace (length self.now.notes.items + owed + more) }
+    {
+        self.notes.len() as u64 + owed as u64 + more > self.limits.trace
+    }
+
+    /// Takes room for so many notes more. Out of memory is its only error.
+    pub(crate) fn take_room(&mut self, more: usize) -> Result<(), Memory>
+        ensures room { OnOk result (vec_len self.new.notes + more ≤ vec_capacity self.new.notes) }
+        ensures notes { (self.new.notes.items ≡ self.old.notes.items) × (vec_len self.new.notes ≡ vec_len self.old.notes) }
+        ensures more { vec_capacity self.old.notes ≤ vec_capacity self.new.notes }
+        ensures rest { (self.new.limits ≡ self.old.limits) × (self.new.marks ≡ self.old.marks) }
+    {
+        self.notes.reserve(more)
+    }
+
+    /// Appends a note, for which there is room.
+    pub(crate) fn add(&mut self, note: Note)
+        requires { vec_len self.old.notes < vec_capacity self.old.notes }
+        ensures items { self.new.notes.items ≡ self.old.notes.items ++ note ∷ [] }
+        ensures len { vec_len self.new.notes ≡ vec_len self.old.notes + 1 }
+        ensures room { vec_capacity self.old.notes ≤ vec_capacity self.new.notes }
+        ensures rest { (self.new.limits ≡ self.old.limits) × (self.new.marks ≡ self.old.marks) }
+    {
+        let _ = self.notes.push(note);
+    }
+
+    /// Marks that a call was answered that the history is full.
+    pub(crate) fn mark_full(&mut self)
+        ensures { self.new ≡ record self.old { marks = record self.old.marks { trace = true } } }
+    {
+        self.marks.trace = true;
+    }
+}
