@@ -6,7 +6,7 @@ use Rattle.std.proofs.lemmas.List.{append-nil, length-take, take_more, map_push}
 use Rattle.std.proofs.lemmas.Bool.{cases_eq}
 use Rattle.std.proofs.lemmas.List.Sums.{sum_by_push, count_by-le-length}
 use Rattle.std.proofs.lemmas.Grind.{flat_map-append}
-use Rattle.store_model.specs.Cells.{Pointer, Cell, null, pointer_in, relink, same, aims, hits, aims_in, pointers_to}
+use Rattle.cell_model.specs.Cells.{Pointer, Cell, null, pointer_in, relink, same, aims, hits, aims_in, pointers_to}
 use Rattle.cell_page.specs.declared.cell.Cell.{Cell as PageCell}
 use Rattle.cell_page.specs.Format.{IsSlotCount}
 use Rattle.cell_page.specs.Stored.{cell_of}

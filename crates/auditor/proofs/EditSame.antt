@@ -2,8 +2,8 @@
 use Rattle.std.proofs.Common.{◌≡◌, ℕ, zero, suc, ◌+◌, ◌-◌, ◌<◌, Bool, true, false, cond, List, [], ◌∷◌, length, map, set, refl, sym, ap, ◌∙◌, subst, inl, ⊎_elim}
 use Rattle.std.proofs.lemmas.Bool.{cases_eq}
 use Rattle.std.proofs.lemmas.List.{map-set, length-map}
-use Rattle.store_model.specs.Cells.{Pointer, Cell, cell_at, pointer_in, pointer_at, edit, relink, gains, loses, pays, flipped, other_strength, relinked, same}
-use Rattle.store_model.proofs.EditLaws.{edit-set, edit-none, there}
+use Rattle.cell_model.specs.Cells.{Pointer, Cell, cell_at, pointer_in, pointer_at, edit, relink, gains, loses, pays, flipped, other_strength, relinked, same}
+use Rattle.cell_model.proofs.EditLaws.{edit-set, edit-none, there}
 use Rattle.auditor.specs.Replay.{uncounted, SameButCounts, turned_over}
 
 -- the cell at an id, without its counts

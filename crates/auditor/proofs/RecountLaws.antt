@@ -4,7 +4,7 @@ use Rattle.std.specs.Prelude.{◌==◌, ◌&&◌, count_by}
 use Rattle.std.specs.List.{flat_map}
 use Rattle.std.proofs.Math.Path.{fun_ext}
 use Rattle.std.proofs.lemmas.List.Sums.{sum_by-cons}
-use Rattle.store_model.specs.Cells.{Cell, cell_at, is_live, aims_in, pointers_to, own_strong}
+use Rattle.cell_model.specs.Cells.{Cell, cell_at, is_live, aims_in, pointers_to, own_strong}
 use Rattle.core_store.specs.declared.frame.Frame.{Frame}
 use Rattle.auditor.specs.declared.difference.Difference.{Difference}
 use Rattle.auditor.specs.Replay.{uncounted, SameButCounts}

@@ -3,9 +3,9 @@ use Rattle.std.proofs.Common.{◌≡◌, ◌≢◌, ℕ, ◌<◌, ◌≤◌, ◌
 use Rattle.std.specs.Prelude.{◌==◌, if◌then◌else◌, option_map}
 use Rattle.std.proofs.lemmas.List.{drop_more, drop_all}
 use Rattle.std.proofs.lemmas.Bool.{eqb-true, eqb-false, cases_eq}
-use Rattle.store_model.specs.Cells.{Cell, edit, relink, pays}
-use Rattle.store_model.specs.Records.{Undo as UndoRecord, UndoPay as UndoPayRecord, Fits, IsPointer, AllFit, after_record, cells_after}
-use Rattle.store_model.proofs.EditLaws.{live-within}
+use Rattle.cell_model.specs.Cells.{Cell, edit, relink, pays}
+use Rattle.cell_model.specs.Records.{Undo as UndoRecord, UndoPay as UndoPayRecord, Fits, IsPointer, AllFit, after_record, cells_after}
+use Rattle.cell_model.proofs.EditLaws.{live-within}
 use Rattle.log_record.specs.declared.cell_record.CellRecord.{CellRecord}
 use Rattle.log_record.specs.Records.{record_of, after_cell_record}
 use Rattle.core_store.specs.declared.note.Note.{Note}

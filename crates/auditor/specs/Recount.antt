@@ -1,7 +1,7 @@
 -- What a recount of all pointers finds, beside what the pages keep.
 use Rattle.std.specs.Prelude.{◌≡◌, ℕ, ◌+◌, ◌*◌, ◌<◌, ◌&&◌, ◌==◌, Bool, not, if◌then◌else◌, List, [], ◌∷◌, length, slice_index, slice_index_or, slice_get, Some, count_by}
 use Rattle.std.specs.List.{range_with_len, flat_map}
-use Rattle.store_model.specs.Cells.{Cell as StoredCell, cell_at, is_live, pointers_to, own_strong}
+use Rattle.cell_model.specs.Cells.{Cell as StoredCell, cell_at, is_live, pointers_to, own_strong}
 use Rattle.cell_page.specs.declared.cell.Cell.{Cell}
 use Rattle.cell_page.specs.Format.{IsPage, place_of, free_cell}
 use Rattle.core_store.specs.declared.frame.Frame.{Frame}

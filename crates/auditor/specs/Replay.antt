@@ -1,8 +1,8 @@
 -- Cells whose counts are of no account, and what records do to them.
 use Rattle.std.specs.Prelude.{◌≡◌, ℕ, not, List, map, Option, Some, None}
-use Rattle.store_model.specs.Cells.{Cell, turned}
+use Rattle.cell_model.specs.Cells.{Cell, turned}
 use Rattle.log_record.specs.declared.cell_record.CellRecord.{CellRecord}
-use Rattle.store_model.specs.Records.{AllFit}
+use Rattle.cell_model.specs.Records.{AllFit}
 use Rattle.log_record.specs.Records.{after_cell_record, FitsCells}
 use Rattle.core_store.specs.declared.note.Note.{Note}
 use Rattle.core_store.specs.JournalView.{logged_in, cells_after_notes}

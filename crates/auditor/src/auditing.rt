@@ -1,7 +1,7 @@
 //! The audit of frames against the history that made them.
 ghost use Rattle.std.specs.Prelude.{◌≡◌, ◌<◌, ◌≤◌, ◌+◌, ◌*◌, ◌-◌, ℕ, ◌++◌, cond, true, false, length, map, slice_index, IfOk};
 ghost use Rattle.std.specs.List.{range_with_len};
-ghost use Rattle.store_model.specs.Records.{AllFit};
+ghost use Rattle.cell_model.specs.Records.{AllFit};
 ghost use Rattle.cell_page.specs.Format.{IsSlotCount};
 ghost use Rattle.cell_page.specs.Stored.{cell_of};
 ghost use Rattle.core_store.specs.JournalView.{logged_in, cells_after_notes};

@@ -1,6 +1,6 @@
 //! The count of all pointers.
 ghost use Rattle.std.specs.Prelude.{◌≡◌, ◌<◌, ◌≤◌, ◌+◌, ℕ, length, map, slice_index, IfOk};
-ghost use Rattle.store_model.specs.Cells.{same, pointer_in, hits, aims_in};
+ghost use Rattle.cell_model.specs.Cells.{same, pointer_in, hits, aims_in};
 ghost use Rattle.cell_page.specs.Format.{IsSlotCount};
 ghost use Rattle.cell_page.specs.Stored.{cell_of};
 ghost use Rattle.auditor.specs.Recount.{AreCounted};

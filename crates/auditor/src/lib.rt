@@ -5,11 +5,13 @@
 mod auditing;
 mod counts;
 mod difference;
+mod journal;
 mod replay;
 mod report;
 
 pub use auditing::audit;
 pub use difference::{Difference, Differences};
+pub use journal::audit_journal;
 pub use report::Report;
 
 #[cfg(test)]

@@ -3,8 +3,8 @@
 //! The cell of id n stands at index n, and at index 0, which is no id, a free one.
 ghost use Rattle.std.specs.Prelude.{◌≡◌, ◌≢◌, ◌<◌, ◌≤◌, ◌+◌, ◌++◌, ◌∷◌, [], ℕ, List, length, map, true, false, not, IfOk, slice_set, option_map};
 ghost use Rattle.std.specs.Option.{option_map_or};
-ghost use Rattle.store_model.specs.Cells.{Cell as StoredCell, blank_cell, cell_at, pointer_in, pointer_at, edit, relink, pays, other_strength, turned};
-ghost use Rattle.store_model.specs.Records.{AllFit, after_record};
+ghost use Rattle.cell_model.specs.Cells.{Cell as StoredCell, blank_cell, cell_at, pointer_in, pointer_at, edit, relink, pays, other_strength, turned};
+ghost use Rattle.cell_model.specs.Records.{AllFit, after_record};
 ghost use Rattle.cell_page.specs.Format.{IsSlotCount};
 ghost use Rattle.cell_page.specs.Stored.{cell_of};
 ghost use Rattle.log_record.specs.Records.{record_of, after_cell_record, FitsCells};

@@ -1,24 +1,216 @@
-//! Audits of fresh stores, of wrong counts, and of what a journal leaves in its frames.
-ghost use Rattle.std.specs.Prelude.{◌≡◌, ◌≢◌, ℕ, ◌<◌, List, false, Some, slice_get};
+//! Runs with the counts of strong and weak pointers that were worked out by hand, and audits.
+ghost use Rattle.std.specs.Prelude.{◌≡◌, ◌≢◌, ◌<◌, ◌≤◌, true};
 ghost use Rattle.plain_model.specs.Machine.{IsInRange};
-ghost use Rattle.store_model.specs.Cells.{Cell as StoredCell};
-ghost use Rattle.cell_page.specs.Stored.{HoldsPage};
-ghost use Rattle.core_store.specs.JournalView.{cells_of};
-ghost use Rattle.core_store.specs.Frames.{is_held, Agree, AllAgree, IsNext};
-ghost use Rattle.core_store.specs.declared.frame.Frame.{Frame};
 
 use super::*;
 use cell_page::{Cell, Page};
-use core_store::{Collect, Frame, Journal, Limits, Three, Want};
+use core_store::{AbortStep, Collect, Frame, Limits};
+use framed_journal::FramedJournal;
 use plain_model::{Call, Memory, Reply};
 use std::alloc::Global;
-use std::marker::Model;
 use std::process::Abort;
 use std::test::*;
 
-/// The cells of a fresh store of one page, but that the root does not count its own strong pointer.
-fn fresh_cells() -> [Cell<6>; 8] {
-    [
+/// A step of a run, with what is to come of it.
+#[derive(Clone, Copy, Debug)]
+enum Step {
+    /// The client's call gets this reply.
+    Ask(u8, Call, Reply),
+    /// The client makes objects of these ids, the last of which stays in the register.
+    Fill {
+        client: u8,
+        into: u8,
+        from: u32,
+        to: u32,
+    },
+    /// A step of the client's abort.
+    Undo(u8, AbortStep),
+    /// The collector makes 200 steps, more than there is work for. This is the last object that it deletes, or 0.
+    Collect(u32),
+    /// So many strong pointers lead to the object, and so many weak ones.
+    Counts(u32, u32, u32),
+}
+
+/// Whether the call is in range, and no abort.
+fn is_allowed(call: &Call) -> bool
+    ensures { result ≡ true → IsInRange 6 call.now × (call.now ≢ Call.Abort) }
+{
+    match *call {
+        Call::Begin | Call::Commit => true,
+        Call::Abort => false,
+        Call::Make { into } => into < 8,
+        Call::GetPay { r } | Call::SetPay { r, .. } => r < 8,
+        Call::Read { r, slot, into } => r < 8 && slot < 6 && into < 8,
+        Call::Store {
+            r,
+            slot,
+            from: None,
+        } => r < 8 && slot < 6,
+        Call::Store {
+            r,
+            slot,
+            from: Some(from),
+        } => r < 8 && slot < 6 && from < 8,
+    }
+}
+
+/// The reply to a call that is allowed.
+fn ask(journal: &mut FramedJournal<6>, client: u8, call: &Call) -> Option<Reply> {
+    if client == 0 || client > 64 || !is_allowed(call) {
+        return None;
+    }
+    Some(journal.call(client, call))
+}
+
+/// The client makes objects of these ids.
+fn fill(rt: &impl Abort, journal: &mut FramedJournal<6>, client: u8, into: u8, from: u32, to: u32) {
+    for id in from..to {
+        let reply = ask(journal, client, &Call::Make { into });
+        assert_eq!(rt; reply, Some(Reply::Id(id)));
+    }
+}
+
+/// What a step of the client's abort does, where the client has a transaction.
+fn undo(journal: &mut FramedJournal<6>, client: u8) -> Option<AbortStep> {
+    if journal.active(client) {
+        return Some(journal.abort_step(client));
+    }
+    None
+}
+
+/// The last object that the collector deletes in its next 200 steps, or 0.
+fn collect(journal: &mut FramedJournal<6>) -> u32 {
+    let mut deleted = 0;
+    for _ in 0..200 {
+        if let Collect::Deleted { id, .. } = journal.collect_step() {
+            deleted = id;
+        }
+    }
+    deleted
+}
+
+/// How many strong and how many weak pointers lead to the object, by the frame of its page.
+fn counts(journal: &FramedJournal<6>, id: u32) -> Option<(u32, u32)> {
+    if id == 0 || id > 8192 {
+        return None;
+    }
+    let frame = journal.frames().get(((id - 1) / 8) as usize)?;
+    let cell = frame.page.cell(id);
+    Some((cell.strong, cell.weak))
+}
+
+/// Makes the step.
+fn perform(rt: &impl Abort, journal: &mut FramedJournal<6>, step: Step) {
+    match step {
+        Step::Ask(client, call, reply) => {
+            assert_eq!(rt; ask(journal, client, &call), Some(reply), "{step:?}");
+        }
+        Step::Fill {
+            client,
+            into,
+            from,
+            to,
+        } => fill(rt, journal, client, into, from, to),
+        Step::Undo(client, told) => {
+            assert_eq!(rt; undo(journal, client), Some(told), "{step:?}");
+        }
+        Step::Collect(last) => assert_eq!(rt; collect(journal), last, "{step:?}"),
+        Step::Counts(id, strong, weak) => {
+            assert_eq!(rt; counts(journal, id), Some((strong, weak)), "{step:?}");
+        }
+    }
+}
+
+/// How many objects are live after these steps in a fresh store of three pages, and how many of them no strong pointer
+/// leads to. The audit finds no difference.
+fn left_by(rt: &impl Abort, alloc: Global, steps: &[Step]) -> Result<(u32, u32), Memory> {
+    let mut journal = FramedJournal::fresh(alloc, 3, Limits::GREATEST)?;
+    for step in steps {
+        perform(rt, &mut journal, *step);
+    }
+    let report = audit_journal(alloc, &journal)?;
+    assert!(rt; report.differences.items().is_empty());
+    Ok((report.live, report.zero))
+}
+
+/// A store into a slot.
+fn store(r: u8, slot: u8, from: Option<u8>) -> Call {
+    Call::Store { r, slot, from }
+}
+
+#[test]
+fn a_pointer_beside_another_is_weak(rt: HostRuntime) -> Result<(), Fail> {
+    let steps = [
+        Step::Ask(1, Call::Begin, Reply::Done),
+        Step::Ask(1, Call::Make { into: 1 }, Reply::Id(2)),
+        Step::Ask(1, store(0, 0, Some(1)), Reply::Done),
+        Step::Ask(1, store(1, 0, Some(1)), Reply::Done),
+        Step::Ask(1, store(0, 1, Some(1)), Reply::Done),
+        Step::Counts(2, 1, 2),
+        Step::Counts(1, 1, 0),
+        Step::Ask(1, store(0, 0, None), Reply::Done),
+        Step::Ask(1, Call::Commit, Reply::Done),
+        Step::Counts(2, 0, 2),
+        Step::Collect(0),
+        Step::Counts(2, 1, 1),
+    ];
+    assert_eq!(rt; left_by(&rt, rt.alloc(), &steps)?, (2, 0));
+    Ok(())
+}
+
+#[test]
+fn an_undone_store_comes_back_weak(rt: HostRuntime) -> Result<(), Fail> {
+    let steps = [
+        Step::Ask(1, Call::Begin, Reply::Done),
+        Step::Ask(1, Call::Make { into: 1 }, Reply::Id(2)),
+        Step::Ask(1, store(0, 0, Some(1)), Reply::Done),
+        Step::Ask(1, Call::Commit, Reply::Done),
+        Step::Ask(2, Call::Begin, Reply::Done),
+        Step::Ask(2, store(0, 0, None), Reply::Done),
+        Step::Counts(2, 0, 0),
+        Step::Undo(2, AbortStep::Undone),
+        Step::Ask(2, Call::Commit, Reply::Aborting),
+        Step::Undo(2, AbortStep::Ended),
+        Step::Counts(2, 0, 1),
+        Step::Collect(0),
+        Step::Counts(2, 1, 0),
+    ];
+    assert_eq!(rt; left_by(&rt, rt.alloc(), &steps)?, (2, 0));
+    Ok(())
+}
+
+#[test]
+fn a_store_on_three_pages(rt: HostRuntime) -> Result<(), Fail> {
+    let steps = [
+        Step::Ask(1, Call::Begin, Reply::Done),
+        Step::Fill {
+            client: 1,
+            into: 1,
+            from: 2,
+            to: 10,
+        },
+        Step::Fill {
+            client: 1,
+            into: 2,
+            from: 10,
+            to: 18,
+        },
+        Step::Ask(1, store(0, 3, Some(1)), Reply::Done),
+        Step::Ask(1, store(0, 3, Some(2)), Reply::Done),
+        Step::Counts(9, 0, 0),
+        Step::Counts(17, 1, 0),
+        Step::Ask(1, Call::Commit, Reply::Done),
+        Step::Collect(16),
+    ];
+    assert_eq!(rt; left_by(&rt, rt.alloc(), &steps)?, (2, 0));
+    Ok(())
+}
+
+#[test]
+fn a_wrong_count_is_told(rt: HostRuntime) -> Result<(), Fail> {
+    let mut page = Page::<6>::fresh(0);
+    page.put_cell(Cell::new_object(1));
+    let opening = [
         Cell::new_object(1),
         Cell::free(2),
         Cell::free(3),
@@ -27,27 +219,8 @@ fn fresh_cells() -> [Cell<6>; 8] {
         Cell::free(6),
         Cell::free(7),
         Cell::free(8),
-    ]
-}
-
-#[test]
-fn a_fresh_store_has_no_difference(rt: HostRuntime) -> Result<(), Fail> {
-    let frames = [Frame {
-        page: Page::<6>::fresh(0),
-    }];
-    let report = audit(rt.alloc(), &fresh_cells(), &[], &frames)?;
-    assert_eq!(rt; report.live, 1);
-    assert_eq!(rt; report.zero, 0);
-    assert_eq!(rt; report.differences.items().len(), 0);
-    Ok(())
-}
-
-#[test]
-fn a_wrong_count_is_told(rt: HostRuntime) -> Result<(), Fail> {
-    let mut page = Page::<6>::fresh(0);
-    page.put_cell(Cell::new_object(1));
-    let frames = [Frame { page }];
-    let report = audit(rt.alloc(), &fresh_cells(), &[], &frames)?;
+    ];
+    let report = audit(rt.alloc(), &opening, &[], &[Frame { page }])?;
     let wrong = Difference {
         id: 1,
         kept: 0,
@@ -57,181 +230,25 @@ fn a_wrong_count_is_told(rt: HostRuntime) -> Result<(), Fail> {
     Ok(())
 }
 
-/// A journal and the frames of its pages, in order.
-#[derive(Drop)]
-struct Store {
-    journal: Journal<6>,
-    frames: Vec<Frame<6>>,
-}
-
-/// Contracts see the journal. The frames are the pages of its store.
-impl Model for Store {
-    ghost use Rattle.core_store.specs.JournalView.{JournalView, cells_of};
-    ghost use Rattle.core_store.specs.Frames.{AllAgree};
-
-    ghost Value = { JournalView };
-
-    ghost view = { λ s. s.journal };
-
-    ghost invariant = { λ s. AllAgree (cells_of s.journal) s.frames.items };
-}
-
-/// Holds the frame of the page that is wanted, if one is.
-fn hold(frames: &[Frame<6>], held: &mut Three<6>, want: Want)
-    requires next { (page : ℕ) → want ≡ Want.Page page → (ids : ℕ) × IsNext ids held.old page }
-    ensures { (cells : List StoredCell) → AllAgree cells frames.now → Agree cells held.old → Agree cells held.new }
-{
-    if let Want::Page(page) = want {
-        if let Some(frame) = frames.get(page as usize) {
-            held.put(page, *frame);
-        }
-    }
-}
-
-/// Puts the frames back into their places.
-fn put_back(journal: &Journal<6>, frames: &mut Vec<Frame<6>>, mut held: Three<6>)
-    requires agree { Agree (cells_of journal.now) held }
-    requires others { (page : ℕ) (frame : Frame 6) → slice_get frames.old.items page ≡ Some frame → is_held held page ≡ false → HoldsPage (cells_of journal.now) page frame.page }
-    ensures { AllAgree (cells_of journal.now) frames.new.items }
-{
-    'frames: while let Some((page, frame)) = held.take() {
-        if (page as usize) < frames.len() {
-            frames[page as usize] = frame;
-        }
-    }
-}
-
-impl Store {
-    /// The fresh store of two pages.
-    fn fresh(alloc: Global) -> Result<Store, Memory> {
-        let (journal, frames) = Journal::fresh(alloc, 2, Limits::GREATEST)?;
-        Ok(Store { journal, frames })
-    }
-
-    /// The frames that are wanted before the call.
-    fn frames_for(&self, pass: u8, call: &Call) -> Three<6>
-        requires in_range { IsInRange 6 call.now }
-        requires no_abort { call.now ≢ Call.Abort }
-        ensures { Agree (cells_of self.now) result }
-    {
-        let mut held = Three::new();
-        for _ in 0..3 {
-            let want = self.journal.wants(pass, call, &held);
-            hold(self.frames.as_slice(), &mut held, want);
-        }
-        held
-    }
-
-    /// Does the call on the frames that it wants; `None` where they do not make it ready.
-    fn call(&mut self, pass: u8, call: &Call) -> Option<Reply>
-        requires in_range { IsInRange 6 call.now }
-        requires no_abort { call.now ≢ Call.Abort }
-    {
-        let mut held = self.frames_for(pass, call);
-        match self.journal.wants(pass, call, &held) {
-            Want::Page(_) | Want::LetGo => None,
-            Want::Ready => {
-                let reply = self.journal.apply(&mut held, pass, call);
-                put_back(&self.journal, &mut self.frames, held);
-                Some(reply)
-            }
-        }
-    }
-
-    /// The frames that are wanted before a step of the collector, which looks at what they show.
-    fn frames_for_collector(&mut self) -> Three<6>
-        ensures { Agree (cells_of self.new) result }
-    {
-        let mut held = Three::new();
-        for _ in 0..3 {
-            let want = self.journal.wants_collect_step(&held);
-            hold(self.frames.as_slice(), &mut held, want);
-        }
-        held
-    }
-
-    /// Does a step of the collector on the frames that it wants; `None` where they do not make it ready.
-    fn collect_step(&mut self) -> Option<Collect> {
-        let mut held = self.frames_for_collector();
-        match self.journal.wants_collect_step(&held) {
-            Want::Page(_) | Want::LetGo => None,
-            Want::Ready => {
-                let step = self.journal.collect_step(&mut held);
-                put_back(&self.journal, &mut self.frames, held);
-                Some(step)
-            }
-        }
-    }
-
-    /// How many live cells, live cells without strong pointers and differences an audit of the journal finds; `None`
-    /// where the numbers of cells and frames do not fit.
-    fn audited(&self, alloc: Global) -> Result<Option<(u32, u32, usize)>, Memory> {
-        let opening = self.journal.opening();
-        let pages = self.frames.len();
-        if pages > 1024 {
-            return Ok(None);
-        }
-        if opening.len() != 8 * pages {
-            return Ok(None);
-        }
-        let trace = self.journal.history();
-        let report = audit(alloc, opening, trace, self.frames.as_slice())?;
-        let differences = report.differences.items().len();
-        Ok(Some((report.live, report.zero, differences)))
-    }
-}
-
-/// The call gets this reply.
-fn expect(rt: &impl Abort, store: &mut Store, call: Call, reply: Reply)
-    requires in_range { IsInRange 6 call }
-    requires no_abort { call ≢ Call.Abort }
-{
-    let told = store.call(1, &call);
-    assert!(rt; told == Some(reply), "{call:?}: {told:?}");
-}
-
-/// A store into slot 0 of the object in a register.
-fn store_at(r: u8, from: u8) -> Call
-    requires { (r < 8) × (from < 8) }
-    ensures in_range { IsInRange 6 result }
-    ensures no_abort { result ≢ Call.Abort }
-{
-    Call::Store {
-        r,
-        slot: 0,
-        from: Some(from),
-    }
-}
-
-/// A store in which the root names the object 2, and so does the object 3, which nothing names.
-fn with_two_objects(rt: &impl Abort, alloc: Global) -> Result<Store, Memory> {
-    let mut store = Store::fresh(alloc)?;
-    expect(rt, &mut store, Call::Begin, Reply::Done);
-    expect(rt, &mut store, Call::Make { into: 1 }, Reply::Id(2));
-    expect(rt, &mut store, store_at(0, 1), Reply::Done);
-    expect(rt, &mut store, Call::Make { into: 2 }, Reply::Id(3));
-    expect(rt, &mut store, store_at(2, 1), Reply::Done);
-    expect(rt, &mut store, Call::Commit, Reply::Done);
-    Ok(store)
-}
-
+/// The lines that README.md shows.
 #[test]
-fn what_calls_leave_has_no_difference(rt: HostRuntime) -> Result<(), Fail> {
-    let store = with_two_objects(&rt, rt.alloc())?;
-    assert_eq!(rt; store.audited(rt.alloc())?, Some((3, 1, 0)));
-    Ok(())
-}
-
-#[test]
-fn what_the_collector_leaves_has_no_difference(rt: HostRuntime) -> Result<(), Fail> {
-    let mut store = with_two_objects(&rt, rt.alloc())?;
-    let mut deleted = 0;
-    for _ in 0..6 {
-        if let Some(Collect::Deleted { id, .. }) = store.collect_step() {
-            deleted = id;
-        }
-    }
-    assert_eq!(rt; deleted, 3);
-    assert_eq!(rt; store.audited(rt.alloc())?, Some((2, 0, 0)));
+fn readme(rt: HostRuntime) -> Result<(), Fail> {
+    let alloc = rt.alloc();
+    let mut store = FramedJournal::<6>::fresh(alloc, 2, Limits::GREATEST)?;
+    store.call(1, &Call::Begin);
+    let made = store.call(1, &Call::Make { into: 1 });
+    store.call(
+        1,
+        &Call::Store {
+            r: 0,
+            slot: 0,
+            from: Some(1),
+        },
+    );
+    let done = store.call(1, &Call::Commit);
+    let idle = store.collect_step();
+    assert_eq!(rt; made, Reply::Id(2));
+    assert_eq!(rt; done, Reply::Done);
+    assert_eq!(rt; idle, Collect::Idle);
     Ok(())
 }

@@ -2,7 +2,7 @@ use Rattle.std.proofs.Common.{ℕ, ◌+◌, ◌<◌, ◌≤◌, List, length, sy
 use Rattle.std.specs.Prelude.{slice_index, count_by}
 use Rattle.std.proofs.lemmas.List.{take_all}
 use Rattle.std.proofs.lemmas.Bool.{cond-true}
-use Rattle.store_model.specs.Cells.{Pointer, aims}
+use Rattle.cell_model.specs.Cells.{Pointer, aims}
 use Rattle.cell_page.specs.Stored.{cell_of}
 use Rattle.cell_page.proofs.PointerLemmas.{length-pointers_from}
 use Rattle.auditor.proofs.CountLaws.{slot-more, aims_in-few, slots-few}

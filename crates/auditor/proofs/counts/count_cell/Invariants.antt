@@ -1,6 +1,6 @@
 use Rattle.std.proofs.Common.{◌≡◌, ℕ, ◌+◌, ◌<◌, length, take}
 use Rattle.std.specs.Prelude.{slice_index, count_by}
-use Rattle.store_model.specs.Cells.{aims}
+use Rattle.cell_model.specs.Cells.{aims}
 use Rattle.cell_page.specs.Stored.{cell_of}
 use Rattle.auditor.proofs.counts.count_cell.Given as goal
 

@@ -1,6 +1,6 @@
 use Rattle.std.proofs.Common.{◌<◌, List, length, map, ap, ◌∙◌, arith}
 use Rattle.std.proofs.lemmas.List.{length-map, take_all}
-use Rattle.store_model.specs.Cells.{pointers_to, aims_in}
+use Rattle.cell_model.specs.Cells.{pointers_to, aims_in}
 use Rattle.cell_page.specs.declared.cell.Cell.{Cell as PageCell}
 use Rattle.cell_page.specs.Stored.{cell_of}
 use Rattle.auditor.proofs.CountLaws.{cell-more}

@@ -1,6 +1,6 @@
 use Rattle.std.proofs.Common.{◌≡◌, ℕ, ◌*◌, ◌<◌, ◌≤◌, length, map, take}
 use Rattle.std.specs.Prelude.{slice_index}
-use Rattle.store_model.specs.Cells.{pointers_to}
+use Rattle.cell_model.specs.Cells.{pointers_to}
 use Rattle.cell_page.specs.Stored.{cell_of}
 use Rattle.auditor.proofs.counts.count_cells.Given as goal
 

@@ -1,5 +1,5 @@
 use Rattle.std.proofs.Common.{Bool, sym, ap, ◌∙◌}
-use Rattle.store_model.specs.Cells.{same, pointer_in}
+use Rattle.cell_model.specs.Cells.{same, pointer_in}
 use Rattle.cell_page.specs.Stored.{cell_of}
 use Rattle.strength_counts.proofs.Slots.{target_in-pointers}
 use Rattle.auditor.proofs.CountLaws.{hit-counted, bit-missed, target-missed}

@@ -1,6 +1,6 @@
 use Rattle.std.proofs.Common.{map, sym, ◌∙◌}
 use Rattle.std.proofs.lemmas.List.{map-set}
-use Rattle.store_model.proofs.EditLaws.{edit-set}
+use Rattle.cell_model.proofs.EditLaws.{edit-set}
 use Rattle.cell_page.specs.Stored.{cell_of}
 use Rattle.auditor.proofs.replay.put.Goals as goal
 

@@ -1,6 +1,6 @@
 use Rattle.std.proofs.Common.{List, map, true, false, sym, ap, subst, ◌∙◌, arith}
 use Rattle.std.proofs.lemmas.List.{length-map}
-use Rattle.store_model.specs.Cells.{Cell, null, blank_cell, edit}
+use Rattle.cell_model.specs.Cells.{Cell, null, blank_cell, edit}
 use Rattle.cell_page.specs.Stored.{cell_of}
 use Rattle.log_record.specs.declared.cell_record.CellRecord.{CellRecord}
 use Rattle.auditor.specs.Replay.{uncounted, Replays}

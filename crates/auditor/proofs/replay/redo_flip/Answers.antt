@@ -1,6 +1,6 @@
 use Rattle.std.proofs.Common.{not, map, ap, ◌∙◌, arith}
 use Rattle.std.proofs.lemmas.List.{length-map}
-use Rattle.store_model.specs.Cells.{Cell}
+use Rattle.cell_model.specs.Cells.{Cell}
 use Rattle.cell_page.specs.Stored.{cell_of}
 use Rattle.auditor.specs.Replay.{turned_over}
 use Rattle.auditor.proofs.EditSame.{edit-as}

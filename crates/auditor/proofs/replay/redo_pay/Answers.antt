@@ -1,6 +1,6 @@
 use Rattle.std.proofs.Common.{map, ap, ◌∙◌, arith}
 use Rattle.std.proofs.lemmas.List.{length-map}
-use Rattle.store_model.specs.Cells.{pays}
+use Rattle.cell_model.specs.Cells.{pays}
 use Rattle.cell_page.specs.Stored.{cell_of}
 use Rattle.auditor.proofs.EditSame.{edit-as}
 use Rattle.auditor.proofs.replay.redo_pay.Goals as goal

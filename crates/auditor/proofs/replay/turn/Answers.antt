@@ -1,5 +1,5 @@
 use Rattle.std.proofs.Common.{ℕ, ◌≤◌, Bool, not, length, sym, ap, ◌∙◌, arith}
-use Rattle.store_model.specs.Cells.{relink, pointer_in, other_strength}
+use Rattle.cell_model.specs.Cells.{relink, pointer_in, other_strength}
 use Rattle.cell_page.specs.Stored.{cell_of}
 use Rattle.strength_counts.proofs.Slots.{target_in-pointers}
 use Rattle.auditor.proofs.CountLaws.{relink-past}

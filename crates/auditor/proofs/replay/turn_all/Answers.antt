@@ -1,5 +1,5 @@
 use Rattle.std.proofs.Common.{◌≤◌, List, length, refl, ap, ◌∙◌, arith}
-use Rattle.store_model.specs.Cells.{Pointer, Cell, turned}
+use Rattle.cell_model.specs.Cells.{Pointer, Cell, turned}
 use Rattle.cell_page.specs.Stored.{cell_of}
 use Rattle.cell_page.proofs.PointerLemmas.{length-pointers_from}
 use Rattle.strength_counts.proofs.Slots.{turned_more, changed_all}

@@ -1,5 +1,5 @@
 use Rattle.std.proofs.Common.{◌≡◌, Bool, cond, sym, ap, ◌∙◌, eq-eqb}
-use Rattle.store_model.specs.Cells.{relink, pointer_in, other_strength}
+use Rattle.cell_model.specs.Cells.{relink, pointer_in, other_strength}
 use Rattle.cell_page.specs.Stored.{cell_of}
 use Rattle.strength_counts.proofs.Slots.{target_in-pointers, relink-other}
 use Rattle.auditor.proofs.replay.turn_if.Goals as goal

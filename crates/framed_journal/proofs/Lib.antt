@@ -1,0 +1,5 @@
+pub mod PutLaws
+pub mod HoldLaws
+pub mod LookLaws
+pub mod CollectLaws
+pub mod UndoLaws
