@@ -4,7 +4,7 @@ use Rattle.std.specs.Prelude.{Contains}
 use Rattle.std.specs.Option.{option_map_or, unwrap_or}
 use Rattle.std.proofs.lemmas.Bool.{eqb-true, eqb-false}
 use Rattle.std.proofs.lemmas.List.{length_push, length-drop, length-append, length-map}
-use Rattle.store_model.specs.Cells.{Pointer, Cell, cell_at, pointer_at}
+use Rattle.cell_model.specs.Cells.{Pointer, Cell, cell_at, pointer_at}
 use Rattle.store_model.specs.Core.{Copy, Round, Core}
 use Rattle.store_model.specs.Sound.{in_round}
 use Rattle.store_model.proofs.Lists.{Contains-here, Contains-later}
@@ -36,7 +36,7 @@ use Rattle.core_store.specs.RoundView.{RoundView, Closed, Walking, Sweeping, is_
 use Rattle.core_store.specs.RoundView as view
 use Rattle.quiet_rounds.specs.Quiet.{IsQuietWalk, IsQuietRound}
 use Rattle.quiet_rounds.specs.Laws.{IsQuietEvent}
-use Rattle.quiet_rounds.specs.WholeRounds.{Runs, BoundLaw}
+use Rattle.quiet_rounds.specs.WholeRounds.{OpenRun, BoundLaw}
 use Rattle.quiet_rounds.specs.WholeRounds as whole
 use Rattle.quiet_rounds.proofs.GreenAt.{asked-green, at-flip, at-into, at-strengthen}
 use Rattle.quiet_rounds.proofs.Gains.{Gains, count-most, score, rest_count, found-gains, testing-gains, tested-gains, flip-gains, into-gains, strengthen-gains}
@@ -247,7 +247,7 @@ module _ (c d : Core) (w : Walk) (j : Judged) (e : IsQuietEvent 6 c d (Walking w
   six id copy m =
       let in_it : in_round c ≡ w.list = ap (λ (r : Option Round). option_map_or (λ (r : Round). r.list) r []) there ∙ e.in_step.whole in
       let live = (e.sound.round_live id (subst (λ l. Contains l id) (sym in_it) (copied-in w all id copy m))).0 in
-      ap (λ (y : Copy). length y.targets) (q.copies id copy m) ∙ length-map (cell_at c.cells id).pointers (λ (p : Pointer). p.target) ∙ e.sound.slotted id live ∙ e.slots_are
+      ap (λ (y : Copy). length y.targets) (q.copies id copy m) ∙ length-map (cell_at c.cells id).pointers (λ (p : Pointer). p.target) ∙ e.sound.consistent.slotted id live ∙ e.slots_are
 
   judge-swept : IsSwept (n + 1) w (started j.condemned c.moment.state.ids) 0 (green_started 6 j w)
   judge-swept =
@@ -289,7 +289,7 @@ event-bounded c d u v event logged n (end w s slot g is) e still_open q k = absu
 
 -- ---- all of them
 
-runs-bounded : (c : Core) (u : RoundView) (d : Core) (v : RoundView) (n : ℕ) → Runs 6 c u d v n → IsQuietRound 6 c.cells u → IsBounded u 0 → IsQuietRound 6 d.cells v × IsBounded v n
+runs-bounded : (c : Core) (u : RoundView) (d : Core) (v : RoundView) (n : ℕ) → OpenRun 6 c u d v n → IsQuietRound 6 c.cells u → IsBounded u 0 → IsQuietRound 6 d.cells v × IsBounded v n
 runs-bounded c u _ _ _ whole.none q k = (q, k)
 runs-bounded c u _ _ _ (whole.looks d v w n r still p) q k =
     let h = runs-bounded c u d v n r q k in

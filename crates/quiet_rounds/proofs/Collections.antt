@@ -6,7 +6,7 @@ use Rattle.std.proofs.lemmas.Bool.{cases_eq, eqb-true, and_parts}
 use Rattle.std.proofs.lemmas.Cmp.{nat_eq_equiv}
 use Rattle.std.proofs.lemmas.Map.Made.{length-le_from_is_member}
 use Rattle.std.proofs.lemmas.Map.Views.{Contains-from_any, list_any-from_Contains}
-use Rattle.store_model.specs.Cells.{Cell, cell_at}
+use Rattle.cell_model.specs.Cells.{Cell, cell_at}
 use Rattle.store_model.specs.Core.{Round, Core, is_named}
 use Rattle.store_model.specs.Sound.{IsOnce, IsSound}
 use Rattle.store_model.proofs.Lists.{Contains-here, Contains-later}
@@ -15,13 +15,14 @@ use Rattle.store_model.proofs.StepLaws.{Contains-cons}
 use Rattle.red_walk.specs.Walk.{opened}
 use Rattle.log_record.specs.declared.cell_record.CellRecord.{CellRecord}
 use Rattle.core_store.specs.declared.act.Act.{Act}
+use Rattle.core_store.specs.declared.act.Act.TheVariants as act
 use Rattle.core_store.specs.Changes.{has_no_strong}
 use Rattle.core_store.specs.Collecting.{is_pop}
 use Rattle.core_store.specs.Collects.{Starts}
 use Rattle.core_store.specs.RoundView.{RoundView, Closed, Walking, Sweeping}
-use Rattle.quiet_rounds.specs.Quiet.{IsQuiet, IsQuietRound}
+use Rattle.quiet_rounds.specs.Quiet.{NoneActive, IsQuietRound}
 use Rattle.quiet_rounds.specs.Laws.{IsQuietEvent}
-use Rattle.quiet_rounds.specs.WholeRounds.{Runs, none as none_yet, looks, event, IsWholeRound, IsWithoutStrong}
+use Rattle.quiet_rounds.specs.WholeRounds.{OpenRun, none as none_yet, looks, event, IsWholeRound, IsWithoutStrong}
 use Rattle.quiet_rounds.specs.Collections.{none, pass, round, AreWithoutStrong, IsUsedUp, RoundsLaw, QueueLaw, AtRestLaw}
 use Rattle.quiet_rounds.proofs.Fewer.{fewer}
 use Rattle.quiet_rounds.proofs.FewQueued.{once-distinct, once-cons}
@@ -31,21 +32,21 @@ use Rattle.quiet_rounds.proofs.Runs.{run-quiet, opening-quiet, last-quiet}
 
 -- ---- the queue
 
-used-none : (queue : List ℕ) → IsUsedUp 0 queue queue
+pub used-none : (queue : List ℕ) → IsUsedUp 0 queue queue
 used-none queue = record { fewer = λ id m. m; shorter = omega arith }
 
-used-more : (taken one both : ℕ) (queue middle behind : List ℕ) → IsUsedUp taken queue middle → IsUsedUp one middle behind → both ≤ taken + one → IsUsedUp both queue behind
+pub used-more : (taken one both : ℕ) (queue middle behind : List ℕ) → IsUsedUp taken queue middle → IsUsedUp one middle behind → both ≤ taken + one → IsUsedUp both queue behind
 used-more taken one both queue middle behind a b fits = record { fewer = λ id m. a.fewer id (b.fewer id m); shorter = omega (arith, a.shorter, b.shorter, fits) }
 
 -- an event takes no object into the queue
-used-event : (slots : ℕ) (c d : Core) (u v : RoundView) (act : Act) (logged : Option CellRecord) → IsQuietEvent slots c d u v act logged → IsQuietRound slots c.cells u → IsUsedUp (if is_pop act then 1 else 0) c.queue d.queue
-used-event slots c d u v act logged e q = let n = (quiet-events slots c d u v act logged e q).1 in record { fewer = n.fewer; shorter = omega (arith, n.shorter) }
+used-event : (slots : ℕ) (c d : Core) (u v : RoundView) (one_act : Act) (logged : Option CellRecord) → IsQuietEvent slots c d u v one_act logged → IsQuietRound slots c.cells u → IsUsedUp (if is_pop one_act then 1 else 0) c.queue d.queue
+used-event slots c d u v one_act logged e q = let n = (quiet-events slots c d u v one_act logged e q).1 in record { fewer = n.fewer; shorter = omega (arith, n.shorter) }
 
-used-run : (slots : ℕ) (c : Core) (u : RoundView) (d : Core) (v : RoundView) (n : ℕ) → Runs slots c u d v n → IsQuietRound slots c.cells u → IsUsedUp 0 c.queue d.queue
+used-run : (slots : ℕ) (c : Core) (u : RoundView) (d : Core) (v : RoundView) (n : ℕ) → OpenRun slots c u d v n → IsQuietRound slots c.cells u → IsUsedUp 0 c.queue d.queue
 used-run slots c u _ _ _ none_yet q = used-none c.queue
 used-run slots c u _ _ _ (looks d v w n runs still passes) q = used-run slots c u d v n runs q
-used-run slots c u _ _ _ (event d e v w act logged n runs one still_open) q =
-    used-more 0 _ 0 c.queue d.queue e.queue (used-run slots c u d v n runs q) (used-event slots d e v w act logged one (run-quiet slots c u d v n runs q)) (omega arith)
+used-run slots c u _ _ _ (event d e v w one_act logged n runs one still_open) q =
+    used-more 0 _ 0 c.queue d.queue e.queue (used-run slots c u d v n runs q) (used-event slots d e v w one_act logged one (run-quiet slots c u d v n runs q)) (omega arith)
 
 used-round : (slots : ℕ) (c d : Core) (x events : ℕ) → IsWholeRound slots c d x events → IsUsedUp 1 c.queue d.queue
 used-round slots c d x events r =
@@ -74,10 +75,10 @@ same-length cells xs ys a b =
     omega (arith, le, ge)
 
 -- the first object of a round is one of them
-without_strong-first : (slots : ℕ) (c d : Core) (x events : ℕ) → IsWholeRound slots c d x events → IsWithoutStrong c.cells x
-without_strong-first slots c d x events r =
-    let starts : Starts c x r.opening.queue r.opening.round = r.starts.collects in
-    let queued = r.starts.sound.queued x (subst (λ l. Contains l x) (sym starts.first) (Contains-here x r.opening.queue)) in
+pub started-without_strong : (slots : ℕ) (c opening : Core) (v : RoundView) (x : ℕ) → IsQuietEvent slots c opening Closed v (act.Start x) None → IsWithoutStrong c.cells x
+started-without_strong slots c opening v x e =
+    let starts : Starts c x opening.queue opening.round = e.collects in
+    let queued = e.sound.queued x (subst (λ l. Contains l x) (sym starts.first) (Contains-here x opening.queue)) in
     record { live = queued.0; not_root = queued.1; zero = eqb-true (cell_at c.cells x).strong 0 (and_parts (has_no_strong (cell_at c.cells x)) _ starts.loose).0 }
 
 -- before a round there was its first object, and what is left
@@ -85,7 +86,7 @@ without_strong-before : (slots : ℕ) (c d : Core) (x events : ℕ) → IsWholeR
 without_strong-before slots c d x events r rest a = record {
   once = once-cons x rest a.once (λ m. ((fewer slots c d x events r x).0 ((a.all x).0 m)).1 refl);
   all = λ id. (
-    λ m. ⊎_elim (λ (e : x ≡ id). subst (λ y. IsWithoutStrong c.cells y) e (without_strong-first slots c d x events r)) (λ (l : Contains rest id). ((fewer slots c d x events r id).0 ((a.all id).0 l)).0) (Contains-cons x rest id m),
+    λ m. ⊎_elim (λ (e : x ≡ id). subst (λ y. IsWithoutStrong c.cells y) e (started-without_strong slots c r.opening (Walking (opened c.moment.state.ids x)) x r.starts)) (λ (l : Contains rest id). ((fewer slots c d x events r id).0 ((a.all id).0 l)).0) (Contains-cons x rest id m),
     λ u. ⊎_elim (λ (e : id ≡ x). subst (λ y. Contains (x ∷ rest) y) (sym e) (Contains-here x rest)) (λ (n : id ≢ x). Contains-later x rest id ((a.all id).1 ((fewer slots c d x events r id).1 (u, n)))) (cases_eq id x),
   );
 }
@@ -100,7 +101,7 @@ rounds-made slots c _ _ _ (round d e id events rounds passed before one) ids res
 
 -- ---- at rest
 
-module _ (c : Core) (s : IsSound c) (quiet : IsQuiet c) (closed : c.round ≡ None) (empty : c.queue ≡ []) where
+module _ (c : Core) (s : IsSound c) (quiet : NoneActive c) (closed : c.round ≡ None) (empty : c.queue ≡ []) where
   unnamed : (id : ℕ) → is_named c.refs id ≡ true → ⊥
   unnamed id n =
       let by = named-by c.refs id n in

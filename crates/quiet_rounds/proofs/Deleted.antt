@@ -3,7 +3,7 @@ use Rattle.std.proofs.Common.{◌≡◌, ℕ, true, false, List, [], Option, Som
 use Rattle.std.specs.Prelude.{Contains}
 use Rattle.std.specs.Option.{option_map_or}
 use Rattle.std.proofs.lemmas.Bool.{false_from_ne_true}
-use Rattle.store_model.specs.Cells.{Cell, is_live}
+use Rattle.cell_model.specs.Cells.{Cell, is_live}
 use Rattle.store_model.specs.Core.{Core, Round}
 use Rattle.store_model.proofs.OnceLaws.{nothing-in}
 use Rattle.store_model.proofs.VerdictLaws.{decide_among}
@@ -14,7 +14,7 @@ use Rattle.core_store.specs.declared.act.Act.TheVariants as act
 use Rattle.core_store.specs.Collects.{Ends}
 use Rattle.core_store.specs.RoundView.{RoundView, Closed, Walking, Sweeping}
 use Rattle.quiet_rounds.specs.Quiet.{IsQuietRound}
-use Rattle.quiet_rounds.specs.WholeRounds.{IsDominated, IsLedFromOutside, out_of as out_of_dominated, onwards as onwards_outside, Runs, none, looks, event, IsWholeRound, DominatedLaw, DeletedLaw, KeptLaw}
+use Rattle.quiet_rounds.specs.WholeRounds.{IsDominated, IsLedFromOutside, out_of as out_of_dominated, onwards as onwards_outside, OpenRun, none, looks, event, IsWholeRound, DominatedLaw, DeletedLaw, KeptLaw}
 use Rattle.quiet_rounds.proofs.Rounds.{quiet-events}
 use Rattle.quiet_rounds.proofs.Looks.{quiet-looks}
 use Rattle.quiet_rounds.proofs.Stayed.{IsSameAt, same-at, IsLedFrom, out_of, onwards, IsStayed, HasStayed, looks-stay}
@@ -26,7 +26,7 @@ use Rattle.quiet_rounds.proofs.StayedEvents.{event-stays}
 abbrev IsQuietAndStayed : List Cell → ℕ → Core → RoundView → Type 0
 IsQuietAndStayed first slots c u = IsQuietRound slots c.cells u × HasStayed first c.cells u
 
-runs-stay : (first : List Cell) (slots : ℕ) (c : Core) (u : RoundView) (d : Core) (v : RoundView) (n : ℕ) → Runs slots c u d v n → IsQuietAndStayed first slots c u → IsQuietAndStayed first slots d v
+runs-stay : (first : List Cell) (slots : ℕ) (c : Core) (u : RoundView) (d : Core) (v : RoundView) (n : ℕ) → OpenRun slots c u d v n → IsQuietAndStayed first slots c u → IsQuietAndStayed first slots d v
 runs-stay first slots c u _ _ _ none h = h
 runs-stay first slots c u _ _ _ (looks d v w n r still p) h =
     let b = runs-stay first slots c u d v n r h in

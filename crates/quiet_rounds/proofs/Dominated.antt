@@ -4,8 +4,8 @@ use Rattle.std.specs.Prelude.{Contains, ◌↔◌}
 use Rattle.std.specs.Option.{option_map_or}
 use Rattle.std.proofs.lemmas.Bool.{cases_eq, cases_lt}
 use Rattle.std.proofs.lemmas.List.{get_or_default, get_or_past}
-use Rattle.store_model.specs.Cells.{Pointer, null, Cell, cell_at, pointer_at, is_live, IsExact}
-use Rattle.store_model.specs.Strong.{IsStrongAt}
+use Rattle.cell_model.specs.Cells.{Pointer, null, Cell, cell_at, pointer_at, is_live, IsExact}
+use Rattle.cell_model.specs.Strong.{IsStrongAt}
 use Rattle.store_model.specs.Core.{Round, Core}
 use Rattle.store_model.specs.Sound.{IsSound}
 use Rattle.store_model.proofs.AtRest.{strong-in}
@@ -25,7 +25,7 @@ use Rattle.core_store.specs.Changes.{is_counted_strong}
 use Rattle.core_store.specs.RoundView.{RoundView, round_of, Closed, Walking, Sweeping, IsWalking, Passes, none as no_look, more, passed, passed_by_sweep, next_slot, is_closed, Proceeds, skip, start, weaken, scan, judge, cut, free, flip, into, strengthen, end}
 use Rattle.quiet_rounds.specs.Quiet.{IsQuietWalk, IsQuietRound}
 use Rattle.quiet_rounds.specs.Laws.{IsQuietEvent}
-use Rattle.quiet_rounds.specs.WholeRounds.{IsDominated, itself, joins, Runs, none, looks, event, DominatedLaw}
+use Rattle.quiet_rounds.specs.WholeRounds.{IsDominated, itself, joins, OpenRun, none, looks, event, DominatedLaw}
 use Rattle.quiet_rounds.proofs.Ends.{held-counts}
 use Rattle.quiet_rounds.proofs.FromStart.{IsFrom, from-start, weaken-from, strong-counted, strong-back}
 use Rattle.quiet_rounds.proofs.Runs.{run-quiet, opening-cells, opening-quiet}
@@ -80,7 +80,7 @@ none-out : (slots : ℕ) (c : Core) (w : Walk) → IsSound c → c.moment.state.
 none-out slots c w sound slots_are before in_step q at id slot m =
     ⊎_elim
     (λ l. subst (λ v. is_counted_strong c.cells (pointer_at c.cells v slot) ≡ false) (get_or_default w.list m.0 0 id m.1 ∙ m.2) (q.walked m.0 walked m.1 slot l))
-    (λ l. ap (λ (p : Pointer). is_counted_strong c.cells p) (get_or_past (cell_at c.cells id).pointers slot null (let n = sound.slotted id live in omega (arith, l, n, slots_are))))
+    (λ l. ap (λ (p : Pointer). is_counted_strong c.cells p) (get_or_past (cell_at c.cells id).pointers slot null (let n = sound.consistent.slotted id live in omega (arith, l, n, slots_are))))
     (cases_lt slot slots)
   where
     live : is_live c.cells id ≡ true
@@ -134,7 +134,7 @@ module _ (began : List Cell) (x slots : ℕ) (exact : IsExact began) where
   by-event c d u v logged act (start id) e n q k = absurd k
   by-event c d u v logged act (weaken w id slot target j at) e n q k = weaken-from slots c d w id slot target j e began x k
   by-event c d u v logged act (scan w id copy at) e n q k = subst (λ cells. IsFrom began x cells w.list) (ap (λ (y : Core). y.cells) (sym e.after)) k
-  by-event c d u v logged act (judge w j at) e n q k = judged-from began x c.cells w.list exact e.sound.exact k (none-out slots c w e.sound e.slots_are e.before e.in_step q at)
+  by-event c d u v logged act (judge w j at) e n q k = judged-from began x c.cells w.list exact e.sound.consistent.exact k (none-out slots c w e.sound e.slots_are e.before e.in_step q at)
   by-event c d u v logged act (cut w s slot id target strong g at) e n q k = next_slot-from began x slots d.cells d.cells w s slot g k
   by-event c d u v logged act (free w s slot id g at) e n q k = k
   by-event c d u v logged act (flip w s slot id g at) e n q k = k
@@ -142,7 +142,7 @@ module _ (began : List Cell) (x slots : ℕ) (exact : IsExact began) where
   by-event c d u v logged act (strengthen w s slot «from» place to g at) e n q k = k
   by-event c d u v logged act (end w s slot g at) e n q k = absurd (cc)
 
-  pub run-from : (c : Core) (u : RoundView) (d : Core) (v : RoundView) (n : ℕ) → Runs slots c u d v n → IsQuietRound slots c.cells u → IsRoundFrom began x c.cells u → IsRoundFrom began x d.cells v
+  pub run-from : (c : Core) (u : RoundView) (d : Core) (v : RoundView) (n : ℕ) → OpenRun slots c u d v n → IsQuietRound slots c.cells u → IsRoundFrom began x c.cells u → IsRoundFrom began x d.cells v
   run-from c u _ _ _ none q k = k
   run-from c u _ _ _ (looks d v w n runs still passes) q k = looks-from began x slots d.cells v w passes (run-from c u d v n runs q k)
   run-from c u _ _ _ (event d e v w act logged n runs one still_open) q k =
@@ -152,6 +152,6 @@ module _ (began : List Cell) (x slots : ℕ) (exact : IsExact began) where
 
 pub dominated : DominatedLaw
 dominated slots c d x events r =
-    run-from c.cells x slots r.starts.sound.exact r.opening (Walking (opened c.moment.state.ids x)) r.last (Sweeping r.walk r.swept r.slot r.greening) r.between r.runs
+    run-from c.cells x slots r.starts.sound.consistent.exact r.opening (Walking (opened c.moment.state.ids x)) r.last (Sweeping r.walk r.swept r.slot r.greening) r.between r.runs
     (opening-quiet slots c d x events r)
     (subst (λ cells. IsFrom c.cells x cells (x ∷ [])) (sym (opening-cells slots c d x events r)) (from-start c.cells x))

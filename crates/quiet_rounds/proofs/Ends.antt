@@ -4,12 +4,12 @@ use Rattle.std.specs.Prelude.{Contains}
 use Rattle.std.specs.Option.{option_map_or}
 use Rattle.std.proofs.lemmas.Bool.Decides.{nat_tests}
 use Rattle.std.proofs.lemmas.List.{get_or_default}
-use Rattle.store_model.specs.Cells.{Cell, cell_at, pointer_at, counted, IsExact}
+use Rattle.cell_model.specs.Cells.{Cell, cell_at, pointer_at, counted, IsExact}
 use Rattle.store_model.specs.Core.{Core, Round, is_named}
-use Rattle.store_model.specs.Strong.{IsStrongAt}
+use Rattle.cell_model.specs.Strong.{IsStrongAt}
 use Rattle.store_model.proofs.Lists.{Contains-here, Contains-later}
 use Rattle.store_model.proofs.OnceLaws.{nothing-in}
-use Rattle.store_model.proofs.RecordLaws.{target-counts}
+use Rattle.cell_model.proofs.RecordLaws.{target-counts}
 use Rattle.store_model.proofs.StepLaws.{Contains-cons}
 use Rattle.red_walk.specs.Ids.{has}
 use Rattle.red_walk.specs.Walk.{Walk}
@@ -152,7 +152,7 @@ module _ (slots : ℕ) (c d : Core) (w : Walk) (s : Sweep) (slot : ℕ) (g : Gre
   none-loose : (x : ℕ) → Contains w.left x → is_loose c x ≡ false
   none-loose x m =
       let h = q.green x (left-green x m) in
-      let some = held-counts c.cells e.sound.exact h.0 h.1 x h.3 in
+      let some = held-counts c.cells e.sound.consistent.exact h.0 h.1 x h.3 in
       ap (λ b. b && not (is_named c.refs x)) (ne_eqb (cell_at c.cells x).strong 0 (λ z. absurd (omega (arith, some, z))))
 
   pub quiet-end : IsQuietRound slots d.cells Closed × NoneJoins act.End c.queue d.queue

@@ -8,10 +8,10 @@ use Rattle.std.proofs.lemmas.Map.Keys.{IsDistinct-from_apart}
 use Rattle.std.proofs.lemmas.Map.Steps.{length-le_from_distinct_below}
 use Rattle.std.proofs.lemmas.Map.Views.{Contains-from_any}
 use Rattle.plain_model.specs.Graphs.{root}
-use Rattle.store_model.specs.Cells.{is_live}
+use Rattle.cell_model.specs.Cells.{is_live}
 use Rattle.store_model.specs.Core.{Core}
 use Rattle.store_model.specs.Sound.{IsOnce, IsSound, start, as_root}
-use Rattle.store_model.proofs.EditLaws.{live-within, live-there}
+use Rattle.cell_model.proofs.EditLaws.{live-within, live-there}
 use Rattle.store_model.proofs.OnceLaws.{once-one, once-append, only-one}
 use Rattle.store_model.proofs.StepLaws.{Contains-cons}
 
@@ -35,14 +35,14 @@ module _ (c : Core) (s : IsSound c) where
   root-live = (s.kept root (start root (as_root refl))).live
 
   within : (id : ℕ) → is_live c.cells id ≡ true → id < suc c.moment.state.ids
-  within id l = let inside = live-within c.cells id l in omega (arith, inside, s.sized)
+  within id l = let inside = live-within c.cells id l in omega (arith, inside, s.consistent.sized)
 
   once-all : IsOnce (0 ∷ root ∷ c.queue)
   once-all =
       once-cons 0 (root ∷ c.queue) (once-cons root c.queue s.queue_once (λ m. (s.queued root m).1 refl)) (λ m.
       ⊎_elim
       (λ (e : root ≡ 0). omega (arith, e))
-      (λ (n : Contains c.queue 0). live-there c.cells 0 s.exact.none (s.queued 0 n).0 refl)
+      (λ (n : Contains c.queue 0). live-there c.cells 0 s.consistent.exact.none (s.queued 0 n).0 refl)
       (Contains-cons root c.queue 0 m))
 
   below-all : (x : ℕ) → Contains (0 ∷ root ∷ c.queue) x → x < suc c.moment.state.ids

@@ -4,12 +4,12 @@ use Rattle.std.specs.Prelude.{Contains, ◌↔◌, ◌⊎◌}
 use Rattle.std.specs.Option.{unwrap_or}
 use Rattle.std.proofs.lemmas.Bool.{cases_eq}
 use Rattle.std.proofs.Math.Bool.{and-false}
-use Rattle.store_model.specs.Cells.{Pointer, null, Cell, blank_cell, cell_at, pointer_at, is_live, is_strong, same, edit, relinked, flipped, hits, counted, IsExact}
-use Rattle.store_model.specs.Records.{HasPointer}
+use Rattle.cell_model.specs.Cells.{Pointer, null, Cell, blank_cell, cell_at, pointer_at, is_live, is_strong, same, edit, relinked, flipped, hits, counted, IsExact}
+use Rattle.cell_model.specs.Records.{HasPointer}
 use Rattle.store_model.specs.Core.{Round, Core}
-use Rattle.store_model.proofs.EditLaws.{live-within, live-there, edit-here, edit-other}
-use Rattle.store_model.proofs.CountLaws.{relinked-live, relinked-bit, relinked-counted}
-use Rattle.store_model.proofs.FlipLaws.{flip-live}
+use Rattle.cell_model.proofs.EditLaws.{live-within, live-there, edit-here, edit-other}
+use Rattle.cell_model.proofs.CountLaws.{relinked-live, relinked-bit, relinked-counted}
+use Rattle.cell_model.proofs.FlipLaws.{flip-live}
 use Rattle.red_walk.specs.Ids.{has}
 use Rattle.red_walk.specs.Walk.{Walk, opened, moved, removed}
 use Rattle.red_walk.specs.Rounds.{round_of as walked}
@@ -30,7 +30,7 @@ use Rattle.core_store.specs.Collects.{Weakens, WeakensInto, Flips, Strengthens}
 use Rattle.core_store.specs.RoundView.{RoundView, Closed, Walking, Sweeping, IsSweeping, asked, Passes, none as no_look, more, passed, passed_by_sweep, next_slot, is_closed, Proceeds, skip, start, weaken, scan, judge, cut, free, flip, into, strengthen, end}
 use Rattle.quiet_rounds.specs.Quiet.{IsQuietSweep, IsQuietRound}
 use Rattle.quiet_rounds.specs.Laws.{IsQuietEvent}
-use Rattle.quiet_rounds.specs.WholeRounds.{IsDominated, itself, joins, Runs, none, looks, event, IsWholeRound, IsWithoutStrong, FewerLaw}
+use Rattle.quiet_rounds.specs.WholeRounds.{IsDominated, itself, joins, OpenRun, none, looks, event, IsWholeRound, IsWithoutStrong, FewerLaw}
 use Rattle.quiet_rounds.proofs.Dominated.{dominated}
 use Rattle.quiet_rounds.proofs.Ends.{held-counts, left-green}
 use Rattle.quiet_rounds.proofs.FromStart.{IsFrom, from-start, weaken-from, weakened-count}
@@ -166,18 +166,18 @@ module _ (began : List Cell) (x slots : ℕ) (c d : Core) (w : Walk) (s : Sweep)
   -- one slot's pointer to an object of the round has the other strength
   turned-behind : (id at target : ℕ) (b : Bool) → HasPointer c.cells id at target b → Contains w.list target → IsBehind began (weakened c.cells id at) w
   turned-behind id at target b p m =
-      behind-like began c.cells (weakened c.cells id at) w (λ y. (turn-graph c.cells id at e.sound.exact p.live p.within).live y)
-      (λ y n l. weakened-count c.cells id at e.sound.exact y l (λ t. n (subst (λ v. Contains w.list v) (sym p.target ∙ t) m))) k
+      behind-like began c.cells (weakened c.cells id at) w (λ y. (turn-graph c.cells id at e.sound.consistent.exact p.live p.within).live y)
+      (λ y n l. weakened-count c.cells id at e.sound.consistent.exact y l (λ t. n (subst (λ v. Contains w.list v) (sym p.target ∙ t) m))) k
 
   -- an object of the round is flipped
   flipped-behind : (id : ℕ) → is_live c.cells id ≡ true → Contains w.list id → IsBehind began (edit c.cells id (flipped id)) w
   flipped-behind id live m =
-      behind-like began c.cells (edit c.cells id (flipped id)) w (λ y. flip-live c.cells id e.sound.exact live y)
+      behind-like began c.cells (edit c.cells id (flipped id)) w (λ y. flip-live c.cells id e.sound.consistent.exact live y)
       (λ y n l. ap (λ (a : Cell). a.strong) (edit-other c.cells id y (flipped id) (λ t. n (subst (λ v. Contains w.list v) (sym t) m)))) k
 
   -- a pointer out of an object of the round is removed, which is weak
   cut-behind : (id at : ℕ) → is_strong c.cells (pointer_at c.cells id at) ≡ false → IsBehind began (relinked c.cells id at null) w
-  cut-behind id at weak = behind-like began c.cells (relinked c.cells id at null) w (λ y. relinked-live c.cells id at null y) (λ y n l. cut-strong c.cells id at e.sound.exact weak y l) k
+  cut-behind id at weak = behind-like began c.cells (relinked c.cells id at null) w (λ y. relinked-live c.cells id at null y) (λ y n l. cut-strong c.cells id at e.sound.consistent.exact weak y l) k
 
   -- an object of the round is freed
   freed-behind : (id : ℕ) → is_live c.cells id ≡ true → Contains w.list id → IsBehind began (edit c.cells id (λ _. blank_cell false slots)) (removed w id)
@@ -190,7 +190,7 @@ module _ (began : List Cell) (x slots : ℕ) (c d : Core) (w : Walk) (s : Sweep)
             let same = without_strong-like c.cells new y (record { live = ap (λ (a : Cell). a.live) other; strong = λ l. ap (λ (a : Cell). a.strong) other }) in
             let was = k.others y n in (λ u. was.0 (same.0 u), λ u. same.1 (was.1 u));
         gone = λ y l n. ⊎_elim
-            (λ t. ap (λ v. is_live new v) t ∙ ap (λ (a : Cell). a.live) (edit-here c.cells id (λ _. blank_cell false slots) (live-there c.cells id e.sound.exact.none live) (live-within c.cells id live)))
+            (λ t. ap (λ v. is_live new v) t ∙ ap (λ (a : Cell). a.live) (edit-here c.cells id (λ _. blank_cell false slots) (live-there c.cells id e.sound.consistent.exact.none live) (live-within c.cells id live)))
             (λ t. ap (λ (a : Cell). a.live) (apart y t) ∙ k.gone y l (λ o. n (among-filter (λ z. not (z == id)) w.left y o (ap not (ne_eqb y id t)))))
             (cases_eq y id);
       }
@@ -232,7 +232,7 @@ module _ (began : List Cell) (x slots : ℕ) where
       (turned-behind began x slots c d w s slot g _ (logs.Strengthen «from» place to) e k «from» place to false e.fits.0 (listed began x slots c d w s slot g _ (logs.Strengthen «from» place to) e k does.greens.of does.greens.there to does.target_listed))
   by-event c d u v logged act (end w s slot g at) e n q k = absurd (cc)
 
-  run-along : (c : Core) (u : RoundView) (d : Core) (v : RoundView) (n : ℕ) → Runs slots c u d v n → IsQuietRound slots c.cells u → IsAlong began x c.cells u → IsAlong began x d.cells v
+  run-along : (c : Core) (u : RoundView) (d : Core) (v : RoundView) (n : ℕ) → OpenRun slots c u d v n → IsQuietRound slots c.cells u → IsAlong began x c.cells u → IsAlong began x d.cells v
   run-along c u _ _ _ none q k = k
   run-along c u _ _ _ (looks d v w n runs still passes) q k = looks-along began x slots d.cells v w passes (run-along c u d v n runs q k)
   run-along c u _ _ _ (event d e v w act logged n runs one still_open) q k =
@@ -258,7 +258,7 @@ module _ (slots : ℕ) (c d : Core) (x events : ℕ) (r : IsWholeRound slots c d
   left-held id m z =
       let q : IsQuietSweep r.last.cells slots r.walk r.swept r.greening = last-quiet slots c d x events r in
       let h = q.green id (left-green slots r.last d r.walk r.swept r.slot r.greening (end-asked r.ends.proceeds) r.ends q id m) in
-      let some = held-counts r.last.cells r.ends.sound.exact h.0 h.1 id h.3 in
+      let some = held-counts r.last.cells r.ends.sound.consistent.exact h.0 h.1 id h.3 in
       omega (arith, some, z)
 
   -- an object of the round has a strong pointer to it at the end, or is no more
@@ -273,7 +273,7 @@ module _ (slots : ℕ) (c d : Core) (x events : ℕ) (r : IsWholeRound slots c d
   dominated-held : (id : ℕ) → IsDominated c.cells x id → IsWithoutStrong c.cells id → id ≢ x → ⊥
   dominated-held _ itself u n = n refl
   dominated-held _ (joins id live not_root held all) u n =
-      let some = held-counts c.cells r.starts.sound.exact held.0 held.1 id held.2 in
+      let some = held-counts c.cells r.starts.sound.consistent.exact held.0 held.1 id held.2 in
       let zero = u.zero in
       omega (arith, some, zero)
 

@@ -1,17 +1,17 @@
 -- Before its verdict a quiet round only makes pointers weak that lead out of its objects, and each of its objects is strongly dominated by the first.
-use Rattle.std.proofs.Common.{◌≡◌, ◌≢◌, ℕ, Bool, true, false, not, cond, if◌then◌else◌, ◌==◌, List, [], ◌∷◌, ◌++◌, refl, sym, ap, ◌∙◌, subst, Option, Some, arith, ⊎_elim, ne_eqb, true≢false, eq-eqb}
+use Rattle.std.proofs.Common.{◌≡◌, ◌≢◌, ℕ, Bool, true, false, not, cond, if◌then◌else◌, ◌==◌, List, [], ◌∷◌, refl, sym, ap, ◌∙◌, subst, Option, Some, arith, ⊎_elim, ne_eqb, true≢false, eq-eqb}
 use Rattle.std.specs.Prelude.{Contains, ◌&&◌}
 use Rattle.std.specs.Option.{option_map_or, unwrap_or}
 use Rattle.std.proofs.lemmas.Bool.{and_parts, and_from, cases_eq, eqb-true, eqb-false, not-true, not_from_false}
 use Rattle.std.proofs.lemmas.List.Elements.{Contains-append_cases}
 use Rattle.plain_model.specs.Graphs.{root}
-use Rattle.store_model.specs.Cells.{Pointer, Cell, cell_at, pointer_at, is_live, same, other_strength, hits, counted, IsExact}
-use Rattle.store_model.specs.Strong.{IsStrongAt}
-use Rattle.store_model.specs.Records.{HasPointer}
+use Rattle.cell_model.specs.Cells.{Pointer, Cell, cell_at, pointer_at, is_live, same, other_strength, hits, counted, IsExact}
+use Rattle.cell_model.specs.Strong.{IsStrongAt}
+use Rattle.cell_model.specs.Records.{HasPointer}
 use Rattle.store_model.specs.Core.{Round, Core}
 use Rattle.store_model.specs.Steps.{with_listed}
-use Rattle.store_model.proofs.EditLaws.{live-within, live-there}
-use Rattle.store_model.proofs.CountLaws.{relinked-bit, relinked-counted, relinked-exact}
+use Rattle.cell_model.proofs.EditLaws.{live-within, live-there}
+use Rattle.cell_model.proofs.CountLaws.{relinked-bit, relinked-counted, relinked-exact}
 use Rattle.store_model.proofs.OnceLaws.{only-one}
 use Rattle.ref_tables.specs.Queue.{has}
 use Rattle.red_walk.specs.Walk.{Walk, moved, joined_by}
@@ -24,6 +24,7 @@ use Rattle.core_store.specs.Collects.{Weakens}
 use Rattle.core_store.specs.RoundView.{Walking}
 use Rattle.quiet_rounds.specs.Laws.{IsQuietEvent}
 use Rattle.quiet_rounds.specs.WholeRounds.{IsDominated, itself, joins}
+use Rattle.quiet_rounds.specs.RoundNotes.{is_to_join, listed_if}
 use Rattle.quiet_rounds.proofs.Ends.{held-counts}
 use Rattle.quiet_rounds.proofs.Moves.{weakened, weakened-less, weakened-here}
 use Rattle.quiet_rounds.proofs.Strengths.{AreSameGraph, counted-parts, counted-from, turn-graph, turn-which, turn-apart}
@@ -102,21 +103,13 @@ weakened-count cells id slot e u lu n =
     counted-own : (c : Cell) (b : Bool) → c.bit ≡ b → counted b c ≡ c.strong
     counted-own c b q = ap (λ x. cond (same x b) c.strong c.weak) q ∙ ap (λ t. cond t c.strong c.weak) (same-itself b)
 
--- an object joins where the bit is set
-abbrev pub grown_by : Bool → List ℕ → ℕ → List ℕ
-grown_by b list target = if b then list ++ target ∷ [] else list
-
-grown-more : (b : Bool) (list : List ℕ) (target id : ℕ) → Contains list id → Contains (grown_by b list target) id
+grown-more : (b : Bool) (list : List ℕ) (target id : ℕ) → Contains list id → Contains (listed_if b list target) id
 grown-more true list target id m = Rattle.std.proofs.lemmas.List.Elements.Contains-append_left list (target ∷ []) id m
 grown-more false list target id m = m
 
-grown-has : (b : Bool) (list : List ℕ) (target : ℕ) → b ≡ true → Contains (grown_by b list target) target
+grown-has : (b : Bool) (list : List ℕ) (target : ℕ) → b ≡ true → Contains (listed_if b list target) target
 grown-has true list target e = Rattle.std.proofs.lemmas.List.Elements.Contains-append_right list (target ∷ []) target (Rattle.store_model.proofs.Lists.Contains-here target [])
 grown-has false list target e = absurd (cc)
-
--- it isn't the root nor of the list, and no strong pointer leads to it
-abbrev pub goes_by : List Cell → List ℕ → ℕ → Bool
-goes_by cells list target = not (target == root) && (not (has list target) && has_no_strong (cell_at cells target))
 
 module _ (start : List Cell) (x : ℕ) (cells : List Cell) (list : List ℕ) (exact : IsExact cells) (h : IsFrom start x cells list) (id slot target : ℕ) (p : HasPointer cells id slot target true) (some : target ≢ 0) (listed : Contains list id) where
   graph : AreSameGraph cells (weakened cells id slot)
@@ -162,34 +155,34 @@ module _ (start : List Cell) (x : ℕ) (cells : List Cell) (list : List ℕ) (ex
           absurd (omega (arith, one, z))
 
   -- it joins where no strong pointer is left to it, but for the root and objects of the round
-  module _ (b : Bool) (is : goes_by (weakened cells id slot) list target ≡ b) where
+  module _ (b : Bool) (is : is_to_join (weakened cells id slot) list target ≡ b) where
     parts : b ≡ true → (target ≢ root) × ((cell_at (weakened cells id slot) target).strong ≡ 0)
     parts e =
         let all = and_parts (not (target == root)) (not (has list target) && has_no_strong (cell_at (weakened cells id slot) target)) (is ∙ e) in
         (eqb-false target root (not-true (target == root) all.0), eqb-true (cell_at (weakened cells id slot) target).strong 0 (and_parts (not (has list target)) (has_no_strong (cell_at (weakened cells id slot) target)) all.1).1)
 
-    grown-dominated : (c : Bool) → b ≡ c → (y : ℕ) → Contains (grown_by c list target) y → IsDominated start x y
+    grown-dominated : (c : Bool) → b ≡ c → (y : ℕ) → Contains (listed_if c list target) y → IsDominated start x y
     grown-dominated true e y m = ⊎_elim (λ l. h.dominated y l) (λ l. subst (λ z. IsDominated start x z) (only-one target y l) (target-joins (parts e))) (Contains-append_cases list (target ∷ []) y m)
       where
         target-joins : (target ≢ root) × ((cell_at (weakened cells id slot) target).strong ≡ 0) → IsDominated start x target
         target-joins both = joins target (sym (h.graph.live target) ∙ p.target_live some) both.0 (id, slot, led) (only both.1)
     grown-dominated false e y m = h.dominated y m
 
-    grown-zero : (y : ℕ) → is_live (weakened cells id slot) y ≡ true → y ≢ root → (Contains (grown_by b list target) y → ⊥) → (cell_at (weakened cells id slot) y).strong ≡ 0 → (cell_at start y).strong ≡ 0
+    grown-zero : (y : ℕ) → is_live (weakened cells id slot) y ≡ true → y ≢ root → (Contains (listed_if b list target) y → ⊥) → (cell_at (weakened cells id slot) y).strong ≡ 0 → (cell_at start y).strong ≡ 0
     grown-zero y l r n z =
         let old : is_live cells y ≡ true = sym (graph.live y) ∙ l in
         let out : Contains list y → ⊥ = λ m. n (grown-more b list target y m) in
         ⊎_elim
-        (λ e. absurd (n (subst (λ v. Contains (grown_by b list target) v) (sym e) (grown-has b list target (sym is ∙ goes e)))))
+        (λ e. absurd (n (subst (λ v. Contains (listed_if b list target) v) (sym e) (grown-has b list target (sym is ∙ goes e)))))
         (λ e. h.zero y old r out (sym (weakened-count cells id slot exact y old (λ t. e (sym t ∙ p.target))) ∙ z))
         (cases_eq y target)
       where
-        goes : y ≡ target → goes_by (weakened cells id slot) list target ≡ true
-        goes e = subst (λ v. goes_by (weakened cells id slot) list v ≡ true) e
+        goes : y ≡ target → is_to_join (weakened cells id slot) list target ≡ true
+        goes e = subst (λ v. is_to_join (weakened cells id slot) list v ≡ true) e
             (and_from (not (y == root)) (not (has list y) && has_no_strong (cell_at (weakened cells id slot) y)) (not_from_false (y == root) (ne_eqb y root r))
             (and_from (not (has list y)) (has_no_strong (cell_at (weakened cells id slot) y)) (not_from_false (has list y) (absent list y (λ m. n (grown-more b list target y m)))) (eq-eqb (cell_at (weakened cells id slot) y).strong 0 z)))
 
-    pub weakened-from : IsFrom start x (weakened cells id slot) (grown_by b list target)
+    pub weakened-from : IsFrom start x (weakened cells id slot) (listed_if b list target)
     weakened-from = record {
       graph = record { live = λ u. graph.live u ∙ h.graph.live u; target = λ u k. graph.target u k ∙ h.graph.target u k };
       weaker = λ u k e. h.weaker u k (was u k e);
@@ -216,21 +209,25 @@ module _ (slots : ℕ) (c d : Core) (w : Walk) (id slot target : ℕ) (j : Optio
   of_is : weakens.of ≡ walked w
   of_is = some-same weakens.of (walked w) (sym weakens.there ∙ sym h.before)
 
-  listed_by : (b : Bool) (r : Round) → (if b then with_listed r target else r).list ≡ grown_by b r.list target
+  -- nothing was copied before it
+  pub none-copied : w.copies ≡ []
+  none-copied = sym (ap (λ (r : Round). r.copies) of_is) ∙ weakens.uncopied
+
+  listed_by : (b : Bool) (r : Round) → (if b then with_listed r target else r).list ≡ listed_if b r.list target
   listed_by true r = refl
   listed_by false r = refl
 
   -- the list after it
-  pub list-is : (joined_by (moved slots w) j).list ≡ grown_by (goes_by (weakened c.cells id slot) w.list target) w.list target
+  pub list-is : (joined_by (moved slots w) j).list ≡ listed_if (is_to_join (weakened c.cells id slot) w.list target) w.list target
   list-is =
       sym h.in_step_behind.whole
       ∙ (ap (λ (o : Option Round). option_map_or (λ (r : Round). r.list) o []) (h.behind ∙ weakens.round_is)
-      ∙ (listed_by (goes_by (weakened c.cells id slot) weakens.of.list target) weakens.of
-      ∙ (ap (λ (r : Round). grown_by (goes_by (weakened c.cells id slot) r.list target) r.list target) of_is
-      ∙ ap (λ (l : List ℕ). grown_by (goes_by (weakened c.cells id slot) l target) l target) h.in_step.whole)))
+      ∙ (listed_by (is_to_join (weakened c.cells id slot) weakens.of.list target) weakens.of
+      ∙ (ap (λ (r : Round). listed_if (is_to_join (weakened c.cells id slot) r.list target) r.list target) of_is
+      ∙ ap (λ (l : List ℕ). listed_if (is_to_join (weakened c.cells id slot) l target) l target) h.in_step.whole)))
 
   pub weaken-from : (start : List Cell) (x : ℕ) → IsFrom start x c.cells w.list → IsFrom start x d.cells (joined_by (moved slots w) j).list
   weaken-from start x k =
       let listed : Contains w.list id = subst (λ l. Contains l id) h.in_step.whole (subst (λ (r : Round). Contains r.list id) of_is weakens.listed) in
       subst (λ cells. IsFrom start x cells (joined_by (moved slots w) j).list) (ap (λ (y : Core). y.cells) (sym h.after))
-      (subst (λ l. IsFrom start x (weakened c.cells id slot) l) (sym list-is) (weakened-from start x c.cells w.list h.sound.exact k id slot target h.fits.0 h.fits.1 listed (goes_by (weakened c.cells id slot) w.list target) refl))
+      (subst (λ l. IsFrom start x (weakened c.cells id slot) l) (sym list-is) (weakened-from start x c.cells w.list h.sound.consistent.exact k id slot target h.fits.0 h.fits.1 listed (is_to_join (weakened c.cells id slot) w.list target) refl))

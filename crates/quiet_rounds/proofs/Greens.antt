@@ -4,11 +4,11 @@ use Rattle.std.specs.Prelude.{Contains, option_map}
 use Rattle.std.proofs.lemmas.Bool.{cases_eq, cases_lt, eqb-true}
 use Rattle.std.proofs.lemmas.List.{get_or_append_left}
 use Rattle.std.proofs.lemmas.List.Elements.{Contains-append_left, Contains-push, Contains-push_cases, Contains-get_or}
-use Rattle.store_model.specs.Cells.{pointer_at, is_live, is_strong, edit, flipped}
+use Rattle.cell_model.specs.Cells.{pointer_at, is_live, is_strong, edit, flipped}
 use Rattle.store_model.specs.Core.{Core, Round}
-use Rattle.store_model.specs.Records.{HasPointer}
+use Rattle.cell_model.specs.Records.{HasPointer}
 use Rattle.store_model.proofs.Lists.{Contains-here}
-use Rattle.store_model.proofs.EditLaws.{live-there}
+use Rattle.cell_model.proofs.EditLaws.{live-there}
 use Rattle.red_walk.specs.Walk.{Walk}
 use Rattle.green_walk.specs.declared.copied_slots.CopiedSlot.{CopiedSlot}
 use Rattle.green_walk.specs.declared.sweep.Found.TheVariants.{Made}
@@ -49,14 +49,14 @@ module _ {slots : ℕ} {c : Core} {w : Walk} {s : Sweep} {g : Greening} (h : IsQ
       → IsToWeaken (AtInto id g.copied) x k (pointer_at (edit c.cells id (flipped id)) x k).target
   flip-none_out x k m n st =
       let new = edit c.cells id (flipped id) in
-      let graph = flip-graph c.cells id h.sound.exact stored in
+      let graph = flip-graph c.cells id h.sound.consistent.exact stored in
       let now = counted-parts new (pointer_at new x k) st in
       let some : (pointer_at c.cells x k).target ≢ 0 = λ z. now.0 (graph.target x k ∙ z) in
       let apart : x ≢ id = λ z. n (subst (λ y. Contains (g.green ++ id ∷ []) y) (sym z) (Contains-push g.green id)) in
       ⊎_elim
       (λ t. (graph.target x k ∙ t, h.quiet.copied.all x k (left-lives h x m) (some-within h x k (left-stored h x m) some)))
       (λ t.
-      let was = counted-from c.cells (pointer_at c.cells x k) some (sym (flip-apart c.cells id h.sound.exact stored x k apart t) ∙ now.1) in
+      let was = counted-from c.cells (pointer_at c.cells x k) some (sym (flip-apart c.cells id h.sound.consistent.exact stored x k apart t) ∙ now.1) in
       let none = h.quiet.none_out x k m (λ o. n (Contains-append_left g.green (id ∷ []) x o)) was in
       absurd (subst (λ stage. IsToWeaken stage x k (pointer_at c.cells x k).target) a.stage none))
       (cases_eq (pointer_at c.cells x k).target id)
@@ -68,13 +68,13 @@ module _ {slots : ℕ} {c : Core} {w : Walk} {s : Sweep} {g : Greening} (h : IsQ
         was.0,
         was.1,
         waits-more g id (AtInto id g.copied) None was.0 was.2,
-        flip-held c.cells id h.sound.exact stored was.0 was.1 x (waits-apart g was.0 id was.2 a.waiting) (waits-apart g x id (green-done g x m) a.waiting) was.3,
+        flip-held c.cells id h.sound.consistent.exact stored was.0 was.1 x (waits-apart g was.0 id was.2 a.waiting) (waits-apart g x id (green-done g x m) a.waiting) was.3,
       )
 
   -- the flipped object is held by the pointer that comes from elsewhere
   flip-held_now : IsHeldStrongly (edit c.cells id (flipped id)) (flip_walk g id) id
   flip-held_now =
-      let exact = h.sound.exact in
+      let exact = h.sound.consistent.exact in
       let is : Contains g.seeds id = subst (λ ids. Contains ids id) (sym a.seeds) (Contains-here id a.rest) in
       let other = h.quiet.seeds id is in
       let u = other.0 in
@@ -99,7 +99,7 @@ module _ {slots : ℕ} {c : Core} {w : Walk} {s : Sweep} {g : Greening} (h : IsQ
       let within : place < length g.green = omega (arith, l, few) in
       let was = h.quiet.walked place slot (subst (λ stage. WasWalked g stage place slot) (sym a.stage) l) within in
       let first = slice_index_or g.green place 0 in
-      let target = (flip-graph c.cells id h.sound.exact stored).target first slot in
+      let target = (flip-graph c.cells id h.sound.consistent.exact stored).target first slot in
       let now = waits-more g id (AtInto id g.copied) None (pointer_at c.cells first slot).target was in
       subst (λ x. waits (flip_walk g id) (pointer_at (edit c.cells id (flipped id)) x slot).target ≡ false) (sym (get_or_append_left g.green (id ∷ []) 0 place within))
       (subst (λ x. waits (flip_walk g id) x ≡ false) (sym target) now)
@@ -107,9 +107,9 @@ module _ {slots : ℕ} {c : Core} {w : Walk} {s : Sweep} {g : Greening} (h : IsQ
   flip-quiet : IsQuietSweep (edit c.cells id (flipped id)) slots w s (flip_walk g id)
   flip-quiet =
       let q = h.quiet in
-      let graph = flip-graph c.cells id h.sound.exact stored in
+      let graph = flip-graph c.cells id h.sound.consistent.exact stored in
       record {
-        zero = λ x m n. flip-zero c.cells id h.sound.exact stored x (λ z. n (subst (λ y. Contains (g.green ++ id ∷ []) y) (sym z) (Contains-push g.green id)))
+        zero = λ x m n. flip-zero c.cells id h.sound.consistent.exact stored x (λ z. n (subst (λ y. Contains (g.green ++ id ∷ []) y) (sym z) (Contains-push g.green id)))
             (q.zero x m (λ o. n (Contains-append_left g.green (id ∷ []) x o)));
         none_out = flip-none_out;
         green = λ x m. ⊎_elim (λ o. flip-held_still x o) (λ e. subst (λ y. IsHeldStrongly (edit c.cells id (flipped id)) (flip_walk g id) y) e flip-held_now) (Contains-push_cases g.green id x m);
@@ -153,7 +153,7 @@ module _ {slots : ℕ} {c : Core} {w : Walk} {s : Sweep} {g : Greening} (h : IsQ
       let here = (counted-parts new (pointer_at new x k) st).1 in
       let strong : is_strong new (pointer_at new «from» slot) ≡ true = subst (λ y. is_strong new (pointer_at new «from» y) ≡ true) f (subst (λ y. is_strong new (pointer_at new y k) ≡ true) e here) in
       let was : is_strong c.cells (pointer_at c.cells «from» slot) ≡ true = fits.strength some in
-      true≢false (sym strong ∙ turn-turned c.cells «from» slot h.sound.exact fits.live fits.within ∙ ap not was)
+      true≢false (sym strong ∙ turn-turned c.cells «from» slot h.sound.consistent.exact fits.live fits.within ∙ ap not was)
 
   weakened-none_out : (x k : ℕ) → Contains w.left x → (Contains g.green x → ⊥) → is_counted_strong (turned_at c.cells «from» slot) (pointer_at (turned_at c.cells «from» slot) x k) ≡ true
       → IsToWeaken (AtInto to (behind_first (may_lead_to g to) a.rest)) x k (pointer_at (turned_at c.cells «from» slot) x k).target
@@ -161,7 +161,7 @@ module _ {slots : ℕ} {c : Core} {w : Walk} {s : Sweep} {g : Greening} (h : IsQ
       ⊎_elim
       (λ e. absurd (no-more_strong x k e.0 e.1 st))
       (λ same.
-      let exact = h.sound.exact in
+      let exact = h.sound.consistent.exact in
       let was : is_counted_strong c.cells (pointer_at c.cells x k) ≡ true = sym (turn-apart c.cells «from» slot exact fits.live fits.within x k same) ∙ st in
       let waiting : IsToWeaken (AtInto to a.rest) x k (pointer_at c.cells x k).target = subst (λ stage. IsToWeaken stage x k (pointer_at c.cells x k).target) a.stage (h.quiet.none_out x k m n was) in
       let copied = waiting.1.0 in
@@ -177,20 +177,20 @@ module _ {slots : ℕ} {c : Core} {w : Walk} {s : Sweep} {g : Greening} (h : IsQ
       (λ (e : a.first ≡ copied). absurd (no-more_strong x k (sym is_id ∙ ap (λ (y : CopiedSlot). y.id) (sym e) ∙ a.id) (sym is_slot ∙ ap (λ (y : CopiedSlot). y.slot) (sym e) ∙ a.at) st))
       (λ rest. ((turn-graph c.cells «from» slot exact fits.live fits.within).target x k ∙ waiting.0, (copied, rest, is_id, is_slot)))
       (behind-first (may_lead_to g to) a.rest a.first copied a.leads there may))
-      (turn-which c.cells «from» slot h.sound.exact fits.live fits.within x k)
+      (turn-which c.cells «from» slot h.sound.consistent.exact fits.live fits.within x k)
 
   weakened-held : (x : ℕ) → Contains g.green x → IsHeldStrongly (turned_at c.cells «from» slot) (record g { stage = AtInto to (behind_first (may_lead_to g to) a.rest) }) x
   weakened-held x m =
       let was = h.quiet.green x m in
       ⊎_elim
       (λ e. absurd (waits-apart g was.0 «from» was.2 source-waits e.0))
-      (λ same. (was.0, was.1, was.2, turn-held c.cells «from» slot h.sound.exact fits.live fits.within was.0 was.1 x same was.3))
-      (turn-which c.cells «from» slot h.sound.exact fits.live fits.within was.0 was.1)
+      (λ same. (was.0, was.1, was.2, turn-held c.cells «from» slot h.sound.consistent.exact fits.live fits.within was.0 was.1 x same was.3))
+      (turn-which c.cells «from» slot h.sound.consistent.exact fits.live fits.within was.0 was.1)
 
   weakened-quiet : IsQuietSweep (turned_at c.cells «from» slot) slots w s (record g { stage = AtInto to (behind_first (may_lead_to g to) a.rest) })
   weakened-quiet =
       let q = h.quiet in
-      let exact = h.sound.exact in
+      let exact = h.sound.consistent.exact in
       let rest = behind_first (may_lead_to g to) a.rest in
       let graph = turn-graph c.cells «from» slot exact fits.live fits.within in
       record {
@@ -258,7 +258,7 @@ module _ {slots : ℕ} {c : Core} {w : Walk} {s : Sweep} {g : Greening} (h : IsQ
   stronger-walked : (stage : GreenStage) → ((place k : ℕ) → WasWalked (stronger_walk g to stage) stage place k → (place < a.place) ⊎ ((place ≡ a.place) × ((k ≤ slot) ⊎ (slots ≤ k))))
       → (place k : ℕ) → WasWalked (stronger_walk g to stage) stage place k → waits (stronger_walk g to stage) (pointer_at (turned_at c.cells «from» slot) (slice_index_or (g.green ++ to ∷ []) place 0) k).target ≡ false
   stronger-walked stage ways place k l =
-      let graph = turn-graph c.cells «from» slot h.sound.exact fits.live fits.within in
+      let graph = turn-graph c.cells «from» slot h.sound.consistent.exact fits.live fits.within in
       let a_within = a.within in
       ⊎_elim
       (λ before.
@@ -279,9 +279,9 @@ module _ {slots : ℕ} {c : Core} {w : Walk} {s : Sweep} {g : Greening} (h : IsQ
       ⊎_elim
       (λ e. n (subst (λ y. Contains (g.green ++ to ∷ []) y) (sym e.0) (Contains-append_left g.green (to ∷ []) «from» is-green)))
       (λ same.
-      let was = sym (turn-apart c.cells «from» slot h.sound.exact fits.live fits.within x k same) ∙ st in
+      let was = sym (turn-apart c.cells «from» slot h.sound.consistent.exact fits.live fits.within x k same) ∙ st in
       subst (λ stage. IsToWeaken stage x k (pointer_at c.cells x k).target) a.stage (h.quiet.none_out x k m (λ o. n (Contains-append_left g.green (to ∷ []) x o)) was))
-      (turn-which c.cells «from» slot h.sound.exact fits.live fits.within x k)
+      (turn-which c.cells «from» slot h.sound.consistent.exact fits.live fits.within x k)
 
   -- what was green is held as before, since the pointer was weak
   stronger-held_still : (stage : GreenStage) (x : ℕ) → Contains g.green x → IsHeldStrongly (turned_at c.cells «from» slot) (stronger_walk g to stage) x
@@ -291,13 +291,13 @@ module _ {slots : ℕ} {c : Core} {w : Walk} {s : Sweep} {g : Greening} (h : IsQ
       (λ e.
       let strong : is_strong c.cells (pointer_at c.cells «from» slot) ≡ true = subst (λ y. is_strong c.cells (pointer_at c.cells «from» y) ≡ true) e.1 (subst (λ y. is_strong c.cells (pointer_at c.cells y was.1) ≡ true) e.0 was.3.strong) in
       absurd (true≢false (sym strong ∙ fits.strength some)))
-      (λ same. (was.0, was.1, waits-more g to stage None was.0 was.2, turn-held c.cells «from» slot h.sound.exact fits.live fits.within was.0 was.1 x same was.3))
-      (turn-which c.cells «from» slot h.sound.exact fits.live fits.within was.0 was.1)
+      (λ same. (was.0, was.1, waits-more g to stage None was.0 was.2, turn-held c.cells «from» slot h.sound.consistent.exact fits.live fits.within was.0 was.1 x same was.3))
+      (turn-which c.cells «from» slot h.sound.consistent.exact fits.live fits.within was.0 was.1)
 
   -- the target is held by the pointer
   stronger-held_now : (stage : GreenStage) → IsHeldStrongly (turned_at c.cells «from» slot) (stronger_walk g to stage) to
   stronger-held_now stage =
-      let graph = turn-graph c.cells «from» slot h.sound.exact fits.live fits.within in (
+      let graph = turn-graph c.cells «from» slot h.sound.consistent.exact fits.live fits.within in (
         «from»,
         slot,
         waits-more g to stage None «from» (green-done g «from» is-green),
@@ -305,7 +305,7 @@ module _ {slots : ℕ} {c : Core} {w : Walk} {s : Sweep} {g : Greening} (h : IsQ
           live = graph.live «from» ∙ fits.live;
           target = graph.target «from» slot ∙ fits.target;
           not_null = some;
-          strong = turn-turned c.cells «from» slot h.sound.exact fits.live fits.within ∙ ap not (fits.strength some);
+          strong = turn-turned c.cells «from» slot h.sound.consistent.exact fits.live fits.within ∙ ap not (fits.strength some);
         },
       )
 
@@ -313,7 +313,7 @@ module _ {slots : ℕ} {c : Core} {w : Walk} {s : Sweep} {g : Greening} (h : IsQ
       → IsQuietSweep (turned_at c.cells «from» slot) slots w s (stronger_walk g to stage)
   stronger-quiet stage apart ways =
       let q = h.quiet in
-      let exact = h.sound.exact in
+      let exact = h.sound.consistent.exact in
       let graph = turn-graph c.cells «from» slot exact fits.live fits.within in
       record {
         zero = λ x m n. turn-zero c.cells «from» slot exact fits.live fits.within x (left-stored h x m) (λ e. n (subst (λ y. Contains (g.green ++ to ∷ []) y) (sym fits.target ∙ e) (Contains-push g.green to)))

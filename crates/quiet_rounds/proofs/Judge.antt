@@ -5,7 +5,7 @@ use Rattle.std.specs.Option.{option_map_or, unwrap_or}
 use Rattle.std.proofs.lemmas.Bool.{cases_lt}
 use Rattle.std.proofs.lemmas.List.{get_or_default, get_or_past, length-map}
 use Rattle.plain_model.specs.Graphs.{root}
-use Rattle.store_model.specs.Cells.{Pointer, null, cell_at, pointer_at, is_live}
+use Rattle.cell_model.specs.Cells.{Pointer, null, cell_at, pointer_at, is_live}
 use Rattle.store_model.specs.Core.{Copy, Ref, Round, Core, is_named}
 use Rattle.store_model.specs.Sound.{IsSound, in_round}
 use Rattle.store_model.specs.Verdict.{IsSeed, was_touched, is_locked, has_name, has_other, IsLive, seed, from_live, IsCondemned}
@@ -25,7 +25,7 @@ use Rattle.core_store.specs.declared.act.Act.TheVariants as act
 use Rattle.core_store.specs.Changes.{is_counted_strong}
 use Rattle.core_store.specs.Collects.{Judges}
 use Rattle.core_store.specs.RoundView.{Walking, Sweeping, IsWalking}
-use Rattle.quiet_rounds.specs.Quiet.{IsQuiet, IsQuietWalk, HasOther, IsLedTo, from_seed, over, AreCopied, IsQuietSweep, IsQuietRound}
+use Rattle.quiet_rounds.specs.Quiet.{NoneActive, IsQuietWalk, HasOther, IsLedTo, from_seed, over, AreCopied, IsQuietSweep, IsQuietRound}
 use Rattle.quiet_rounds.specs.Laws.{IsQuietEvent, NoneJoins}
 use Rattle.quiet_rounds.proofs.Pointers.{other-pointer}
 use Rattle.quiet_rounds.proofs.Copies.{copy-of, copied-tells, copied-has}
@@ -45,7 +45,7 @@ named-by (r ∷ rs) id h = (r, Contains-here r rs)
 
 -- ---- a walk over which no client is active, all of whose objects were copied
 
-module _ (slots : ℕ) (c : Core) (w : Walk) (j : Judged) (s : IsSound c) (slots_are : c.moment.state.slots ≡ slots) (quiet : IsQuiet c) (there : c.round ≡ Some (walked w)) (k : IsWalking slots c.moment.state.ids w) (q : IsQuietWalk slots c.cells w)
+module _ (slots : ℕ) (c : Core) (w : Walk) (j : Judged) (s : IsSound c) (slots_are : c.moment.state.slots ≡ slots) (quiet : NoneActive c) (there : c.round ≡ Some (walked w)) (k : IsWalking slots c.moment.state.ids w) (q : IsQuietWalk slots c.cells w)
     (all : map (λ e. e.0) w.copies ≡ w.list) (seeds : Picks (IsSeed c (walked w)) w.left j.seeds) (live : Picks (IsLive c (walked w)) w.left j.live) where
   in_the_round : in_round c ≡ w.list
   in_the_round = ap (λ (r : Option Round). option_map_or (λ (r : Round). r.list) r []) there ∙ k.whole
@@ -69,14 +69,14 @@ module _ (slots : ℕ) (c : Core) (w : Walk) (j : Judged) (s : IsSound c) (slots
       nothing-in (by.0.pass, a.0) (subst (λ l. Contains l (by.0.pass, a.0)) quiet a.1)
   other id m (has_other copy e l) =
       let is = ap (λ (y : Copy). y.strong + y.weak) (q.copies id copy e) in
-      other-pointer c.cells s.exact w.copies w.list (distinct_from w.list k.walk.ids.once) all (λ v n. (lives v n).0) (copied-in w all) q.copies id (lives id m).0 (lives id m).1 (omega (arith, is, l))
+      other-pointer c.cells s.consistent.exact w.copies w.list (distinct_from w.list k.walk.ids.once) all (λ v n. (lives v n).0) (copied-in w all) q.copies id (lives id m).0 (lives id m).1 (omega (arith, is, l))
 
   -- all slots of each object were looked at
   none-strong : (id slot : ℕ) → Contains w.list id → is_counted_strong c.cells (pointer_at c.cells id slot) ≡ false
   none-strong id slot m =
       ⊎_elim
       (λ l. subst (λ v. is_counted_strong c.cells (pointer_at c.cells v slot) ≡ false) (get_or_default w.list m.0 0 id m.1 ∙ m.2) (q.walked m.0 before m.1 slot l))
-      (λ l. ap (λ (p : Pointer). is_counted_strong c.cells p) (get_or_past (cell_at c.cells id).pointers slot null (let n = s.slotted id (lives id m).0 in omega (arith, l, n, slots_are))))
+      (λ l. ap (λ (p : Pointer). is_counted_strong c.cells p) (get_or_past (cell_at c.cells id).pointers slot null (let n = s.consistent.slotted id (lives id m).0 in omega (arith, l, n, slots_are))))
       (cases_lt slot slots)
     where
       before : m.0 < w.place
@@ -94,7 +94,7 @@ module _ (slots : ℕ) (c : Core) (w : Walk) (j : Judged) (s : IsSound c) (slots
   copied-target id copy m slot = ap (λ (y : Copy). get_or y.targets slot 0) (q.copies id copy m) ∙ target-map (cell_at c.cells id).pointers slot
 
   copied-length : (id : ℕ) (copy : Copy) → Contains w.copies (id, copy) → length copy.targets ≡ slots
-  copied-length id copy m = ap (λ (y : Copy). length y.targets) (q.copies id copy m) ∙ length-map (cell_at c.cells id).pointers (λ (p : Pointer). p.target) ∙ s.slotted id (lives id (copied-in w all id copy m)).0 ∙ slots_are
+  copied-length id copy m = ap (λ (y : Copy). length y.targets) (q.copies id copy m) ∙ length-map (cell_at c.cells id).pointers (λ (p : Pointer). p.target) ∙ s.consistent.slotted id (lives id (copied-in w all id copy m)).0 ∙ slots_are
 
   copied-slots : AreCopied slots c.cells (green_started slots j w)
   copied-slots = record {

@@ -4,10 +4,10 @@ use Rattle.std.specs.Prelude.{Contains}
 use Rattle.std.specs.Option.{option_map_or}
 use Rattle.std.proofs.lemmas.Bool.{and_cases, and_left, and_from, not-false, not_from_false}
 use Rattle.std.proofs.lemmas.List.Elements.{Contains-append_left}
-use Rattle.store_model.specs.Cells.{Cell, cell_at, pointer_at, is_live}
+use Rattle.cell_model.specs.Cells.{Cell, cell_at, pointer_at, is_live}
 use Rattle.store_model.specs.Core.{Core, Round}
 use Rattle.store_model.specs.Sound.{in_round, IsSound}
-use Rattle.store_model.proofs.RecordLaws.{slot-within}
+use Rattle.cell_model.proofs.RecordLaws.{slot-within}
 use Rattle.red_walk.specs.Ids.{has}
 use Rattle.red_walk.specs.Walk.{Walk}
 use Rattle.red_walk.proofs.Members.{Contains-has, has-Contains, absent}
@@ -132,7 +132,7 @@ module _ {slots : ℕ} {c : Core} {w : Walk} {s : Sweep} {g : Greening} (h : IsQ
 
   -- a slot that isn't null is one of its object's
   pub some-within : (id slot : ℕ) → is_live c.cells id ≡ true → (pointer_at c.cells id slot).target ≢ 0 → slot < slots
-  some-within id slot l n = let within = slot-within (cell_at c.cells id) slot n in let all = h.sound.slotted id l in let same = h.slots_are in omega (arith, within, all, same)
+  some-within id slot l n = let within = slot-within (cell_at c.cells id) slot n in let all = h.sound.consistent.slotted id l in let same = h.slots_are in omega (arith, within, all, same)
 
   -- 0 is no object
   pub null-waits : (stage : GreenStage) (green : List ℕ) (test : Option Test) → waits (record g { green = green; stage = stage; test = test }) 0 ≡ false

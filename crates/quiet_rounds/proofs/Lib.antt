@@ -24,3 +24,8 @@ pub mod Stayed
 pub mod StayedEvents
 pub mod Deleted
 pub mod Collections
+pub mod JournalEvents
+pub mod NotedLists
+pub mod OpenRounds
+pub mod NotedRounds
+pub mod StepsEnd

@@ -4,7 +4,7 @@ use Rattle.std.specs.Prelude.{Contains, IfSome}
 use Rattle.std.specs.Option.{option_map_or}
 use Rattle.std.proofs.lemmas.Bool.{eqb-true, eqb-false, cases_lt}
 use Rattle.std.proofs.lemmas.List.{get_or-drop}
-use Rattle.store_model.specs.Cells.{Cell, cell_at, pointer_at}
+use Rattle.cell_model.specs.Cells.{Cell, cell_at, pointer_at}
 use Rattle.store_model.specs.Core.{Round, Core}
 use Rattle.store_model.specs.Sound.{IsSound}
 use Rattle.red_walk.specs.declared.red_at.RedAt.{RedAt}
@@ -235,7 +235,7 @@ module _ (slots : ℕ) (cells : List Cell) where
 -- the objects of the round have so many slots
 long-in : (slots : ℕ) (c : Core) (w : Walk) (s : Sweep) (slot : ℕ) (g : Greening) → IsSound c → c.moment.state.slots ≡ slots → round_of (Sweeping w s slot g) ≡ c.round → (id : ℕ) → Contains w.left id → length (cell_at c.cells id).pointers ≡ slots
 long-in slots c w s slot g sound slots_are before id m =
-    sound.slotted id (sound.round_live id (subst (λ (o : Option Round). Contains (option_map_or (λ (r : Round). r.list) o []) id) before m)).0 ∙ slots_are
+    sound.consistent.slotted id (sound.round_live id (subst (λ (o : Option Round). Contains (option_map_or (λ (r : Round). r.list) o []) id) before m)).0 ∙ slots_are
 
 quiet-in : (slots : ℕ) (c : Core) (u : RoundView) → IsSound c → c.moment.state.slots ≡ slots → round_of u ≡ c.round → IsInStep slots c.moment.state.ids u → IsQuietRound slots c.cells u → IsQuietIn slots c.cells u
 quiet-in slots c Closed sound slots_are before in_step k = tt

@@ -5,10 +5,10 @@ use Rattle.std.proofs.Math.Bool.{and-false}
 use Rattle.std.proofs.lemmas.Bool.{cases_eq, cases_lt, eqb-true}
 use Rattle.std.proofs.lemmas.List.{get_or_append_left}
 use Rattle.std.proofs.lemmas.List.Elements.{Contains-append_cases}
-use Rattle.store_model.specs.Cells.{Pointer, Cell, cell_at, pointer_at, is_live, is_strong, same, relinked, other_strength, hits, counted, IsExact}
-use Rattle.store_model.specs.Records.{HasPointer}
-use Rattle.store_model.proofs.EditLaws.{live-within, live-there}
-use Rattle.store_model.proofs.CountLaws.{relinked-bit, relinked-which, relinked-slot, relinked-counted}
+use Rattle.cell_model.specs.Cells.{Pointer, Cell, cell_at, pointer_at, is_live, is_strong, same, relinked, other_strength, hits, counted, IsExact}
+use Rattle.cell_model.specs.Records.{HasPointer}
+use Rattle.cell_model.proofs.EditLaws.{live-within, live-there}
+use Rattle.cell_model.proofs.CountLaws.{relinked-bit, relinked-which, relinked-slot, relinked-counted}
 use Rattle.store_model.proofs.OnceLaws.{nothing-in, only-one}
 use Rattle.red_walk.specs.declared.red_at.RedAt.TheVariants as red
 use Rattle.red_walk.specs.Walk.{Walk, first_of, moved, joined}

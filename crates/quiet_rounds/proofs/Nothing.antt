@@ -5,7 +5,7 @@ use Rattle.std.proofs.lemmas.Bool.{eqb-true, cases_lt}
 use Rattle.store_model.proofs.Lists.{Contains-here}
 use Rattle.std.proofs.lemmas.List.{get_or_past}
 use Rattle.std.proofs.lemmas.List.Elements.{Contains-get_or}
-use Rattle.store_model.specs.Cells.{Cell, Pointer, null, cell_at, pointer_at}
+use Rattle.cell_model.specs.Cells.{Cell, Pointer, null, cell_at, pointer_at}
 use Rattle.red_walk.specs.Ids.{has, IsIdList}
 use Rattle.red_walk.specs.Walk.{Walk}
 use Rattle.red_walk.proofs.Members.{Contains-has, has-Contains}

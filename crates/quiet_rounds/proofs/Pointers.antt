@@ -5,15 +5,15 @@ use Rattle.std.specs.List.{AllByRecursion}
 use Rattle.std.proofs.lemmas.Bool.{cases_eq, eqb-true, cond-true}
 use Rattle.std.proofs.lemmas.List.Sums.{sum_by-cons, sum_by-set}
 use Rattle.plain_model.specs.Graphs.{root}
-use Rattle.store_model.specs.Cells.{Pointer, null, Cell, blank_cell, cell_at, pointer_in, is_live, hits, aims_in, self_pointers, own_strong, IsExact}
+use Rattle.cell_model.specs.Cells.{Pointer, null, Cell, blank_cell, cell_at, pointer_in, is_live, hits, aims_in, self_pointers, own_strong, IsExact}
 use Rattle.store_model.specs.Core.{Copy}
 use Rattle.store_model.specs.Sound.{copy_of}
 use Rattle.store_model.specs.Verdict.{copied_names}
 use Rattle.store_model.proofs.Lists.{each, Contains-here, Contains-later}
 use Rattle.store_model.proofs.OnceLaws.{nothing-in}
 use Rattle.store_model.proofs.StepLaws.{Contains-cons}
-use Rattle.store_model.proofs.EditLaws.{live-within}
-use Rattle.store_model.proofs.FlipLaws.{sum_by-plus, hits-both}
+use Rattle.cell_model.proofs.EditLaws.{live-within}
+use Rattle.cell_model.proofs.FlipLaws.{sum_by-plus, hits-both}
 use Rattle.store_model.proofs.VerdictLaws.{AllDistinct}
 use Rattle.quiet_rounds.specs.Quiet.{HasOther}
 

@@ -35,7 +35,7 @@ by-event slots c d u v event logged (strengthen w s slot «from» k to g at) e q
 by-event slots c d u v event logged (end w s slot g at) e q = quiet-end slots c d w s slot g at e q
 
 -- an event of the collector begins no transaction
-active-stays : (m : Moment) (logged : Option CellRecord) → (next m (entry_of logged)).state.active ≡ m.state.active
+pub active-stays : (m : Moment) (logged : Option CellRecord) → (next m (entry_of logged)).state.active ≡ m.state.active
 active-stays m (Some (logs.Free id)) = refl
 active-stays m logged = refl
 

@@ -4,12 +4,12 @@ use Rattle.store_model.specs.Core.{Core}
 use Rattle.core_store.specs.RoundView.{RoundView, Closed, Walking, Sweeping}
 use Rattle.red_walk.specs.Walk.{opened}
 use Rattle.quiet_rounds.specs.Quiet.{IsQuietRound}
-use Rattle.quiet_rounds.specs.WholeRounds.{Runs, none, looks, event, IsWholeRound}
+use Rattle.quiet_rounds.specs.WholeRounds.{OpenRun, none, looks, event, IsWholeRound}
 use Rattle.quiet_rounds.proofs.Looks.{quiet-looks}
 use Rattle.quiet_rounds.proofs.Rounds.{quiet-events}
 
 -- where it was quiet at the start it is so at the end
-pub run-quiet : (slots : ℕ) (c : Core) (u : RoundView) (d : Core) (v : RoundView) (n : ℕ) → Runs slots c u d v n → IsQuietRound slots c.cells u → IsQuietRound slots d.cells v
+pub run-quiet : (slots : ℕ) (c : Core) (u : RoundView) (d : Core) (v : RoundView) (n : ℕ) → OpenRun slots c u d v n → IsQuietRound slots c.cells u → IsQuietRound slots d.cells v
 run-quiet slots c u _ _ _ none q = q
 run-quiet slots c u _ _ _ (looks d v w n runs still passes) q =
     quiet-looks slots d v w still.sound still.slots_are still.quiet still.round still.in_step passes (run-quiet slots c u d v n runs q)

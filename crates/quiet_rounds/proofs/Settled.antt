@@ -2,7 +2,7 @@
 use Rattle.std.proofs.Common.{◌≡◌, ◌≢◌, ℕ, ◌<◌, ◌≤◌, ◌&&◌, not, if◌then◌else◌, nat_lt, Bool, true, false, List, [], ◌∷◌, length, drop, Option, Some, None, refl, sym, ap, ◌∙◌, subst, arith, inl, inr, ⊎_elim, true≢false}
 use Rattle.std.specs.Prelude.{Contains, ◌⊎◌, slice_index_or}
 use Rattle.std.proofs.lemmas.Bool.{ltb-true, ltb-false}
-use Rattle.store_model.specs.Cells.{Cell, pointer_at}
+use Rattle.cell_model.specs.Cells.{Cell, pointer_at}
 use Rattle.store_model.proofs.StepLaws.{Contains-cons}
 use Rattle.red_walk.specs.Ids.{has}
 use Rattle.red_walk.specs.Walk.{Walk}

@@ -1,7 +1,7 @@
 -- What a quiet round leaves as it was: every object but those that it frees.
 use Rattle.std.proofs.Common.{◌≡◌, ◌≢◌, ℕ, ◌+◌, ◌==◌, if◌then◌else◌, slice_index_or, Bool, true, false, List, refl, sym, ap, ◌∙◌, subst}
 use Rattle.std.specs.Prelude.{Contains}
-use Rattle.store_model.specs.Cells.{Cell, cell_at, pointer_at, is_live, object_of, IsExact}
+use Rattle.cell_model.specs.Cells.{Cell, cell_at, pointer_at, is_live, object_of, IsExact}
 use Rattle.store_model.proofs.DeletionLaws.{target-map}
 use Rattle.plain_model.specs.declared.object.Object.{Object}
 use Rattle.red_walk.specs.Walk.{Walk}

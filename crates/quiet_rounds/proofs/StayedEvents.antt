@@ -2,14 +2,14 @@
 use Rattle.std.proofs.Common.{◌≡◌, ◌≢◌, ℕ, Bool, true, false, List, [], map, Option, Some, None, refl, sym, ap, ◌∙◌, subst, inr, ⊎_elim, true≢false}
 use Rattle.std.specs.Prelude.{Contains}
 use Rattle.std.specs.Option.{option_map_or, unwrap_or}
-use Rattle.store_model.specs.Cells.{Cell, null, blank_cell, pointer_at, is_live, object_of, edit, relinked, other_strength, flipped, IsExact}
+use Rattle.cell_model.specs.Cells.{Cell, null, blank_cell, pointer_at, is_live, object_of, edit, relinked, other_strength, flipped, IsExact}
 use Rattle.store_model.specs.Core.{Core, Round}
 use Rattle.store_model.specs.Sound.{HasNoReason, IsOnce}
 use Rattle.store_model.specs.Verdict.{IsCondemned}
 use Rattle.store_model.proofs.CollectLaws.{strength-objects, flip-objects}
-use Rattle.store_model.proofs.CountLaws.{relinked-live}
-use Rattle.store_model.proofs.EditLaws.{live-there, live-within, edit-here, edit-other}
-use Rattle.store_model.proofs.FlipLaws.{flip-live}
+use Rattle.cell_model.proofs.CountLaws.{relinked-live}
+use Rattle.cell_model.proofs.EditLaws.{live-there, live-within, edit-here, edit-other}
+use Rattle.cell_model.proofs.FlipLaws.{flip-live}
 use Rattle.store_model.proofs.OnceLaws.{nothing-in}
 use Rattle.store_model.proofs.StepLaws.{relinked-object_other}
 use Rattle.store_model.proofs.VerdictLaws.{verdict}
@@ -85,7 +85,7 @@ module _ (slots : ℕ) (first : List Cell) (c d : Core) (w : Walk) (j : Judged) 
   listed id m = subst (λ (l : List ℕ). Contains l id) walking.whole m
 
   no_reason : HasNoReason c (IsCondemned c (walked w))
-  no_reason = verdict c (walked w) e.sound.exact (record {
+  no_reason = verdict c (walked w) e.sound.consistent.exact (record {
     all = all;
     current = λ id copy m. inr (q.copies id copy m);
     once = subst IsOnce (sym walking.whole) walking.walk.ids.once;
@@ -107,13 +107,13 @@ module _ (slots : ℕ) (first : List Cell) (c d : Core) (w : Walk) (j : Judged) 
   stays-led : (id : ℕ) → Contains j.live id → IsLedFrom c.cells w.list id
   stays-led id m =
       led-begun slots c.cells w (started j.condemned c.moment.state.ids) (green_started slots j w) begun refl
-      (λ x n. live-there c.cells x e.sound.exact.none (lives x (behind.greens.left x n)).0) behind.greens.greening.seeds_live (begun.led id m)
+      (λ x n. live-there c.cells x e.sound.consistent.exact.none (lives x (behind.greens.left x n)).0) behind.greens.greening.seeds_live (begun.led id m)
 
   judged-stays : IsStayed first c.cells w.list j.condemned j.condemned
   judged-stays = record {
     chosen_are = λ id m.
         (let d = chosen id m in
-        (listed id d.0, λ l. led-reason c w.list (IsCondemned c (walked w)) e.sound.exact no_reason (λ x r. listed x r.0) (led-same first c.cells w.list h l) d));
+        (listed id d.0, λ l. led-reason c w.list (IsCondemned c (walked w)) e.sound.consistent.exact no_reason (λ x r. listed x r.0) (led-same first c.cells w.list h l) d));
     all_chosen = λ id m n.
         ⊎_elim (λ k. k) (λ l. absurd (n (led-same c.cells first w.list (same-back h) (stays-led id l))))
         (begun.parted id (subst (λ (l : List ℕ). Contains l id) (sym walking.whole) m));
@@ -170,7 +170,7 @@ free-stays slots first c d w s slot id g at e h =
     let new = edit c.cells id blank in
     let list_same : (found s (Made id)).list ≡ s.list = ap (λ (n : SweepAt). (found_at s n (Made id)).list) at in
     let was_live : is_live c.cells id ≡ true = e.fits.0 in
-    let now : is_live new id ≡ false = ap (λ (y : Cell). y.live) (edit-here c.cells id blank (live-there c.cells id e.sound.exact.none was_live) (live-within c.cells id was_live)) in
+    let now : is_live new id ≡ false = ap (λ (y : Cell). y.live) (edit-here c.cells id blank (live-there c.cells id e.sound.consistent.exact.none was_live) (live-within c.cells id was_live)) in
     let others : (x : ℕ) → x ≢ id → IsSameAt c.cells new x = λ x n. let same = edit-other c.cells id x blank n in record { live = ap (λ (y : Cell). y.live) same; object = ap (object_of x) same } in
     let apart : (x : ℕ) → is_live new x ≡ true → x ≢ id = λ x l z. true≢false (sym l ∙ ap (is_live new) z ∙ now) in
     subst (λ (l : List ℕ). IsStayed first new w.list l (unfreed (found s (Made id)))) (sym list_same) (record {
@@ -193,7 +193,7 @@ by-event slots first c d u v event logged (judge w j at) e q h o = judged-stays 
 by-event slots first c d u v event logged (cut w s slot id target strong g at) e q h o = cut-stays slots first c d w s slot id target strong g at e h
 by-event slots first c d u v event logged (free w s slot id g at) e q h o = free-stays slots first c d w s slot id g at e h
 by-event slots first c d u v event logged (flip w s slot id g at) e q h o =
-    stayed-same first c.cells (edit c.cells id (flipped id)) w.list s.list (unfreed s) (flipped-same c.cells id e.sound.exact e.fits.0) h
+    stayed-same first c.cells (edit c.cells id (flipped id)) w.list s.list (unfreed s) (flipped-same c.cells id e.sound.consistent.exact e.fits.0) h
 by-event slots first c d u v event logged (into w s slot «from» k to g at) e q h o =
     stayed-same first c.cells (relinked c.cells «from» k (other_strength (pointer_at c.cells «from» k))) w.list s.list (unfreed s) (turned-same c.cells «from» k) h
 by-event slots first c d u v event logged (strengthen w s slot «from» k to g at) e q h o =

@@ -2,12 +2,12 @@
 use Rattle.std.proofs.Common.{◌≡◌, ◌≢◌, ℕ, ◌<◌, Bool, true, false, not, cond, List, length, refl, sym, ap, ◌∙◌, subst, arith, ◌⊎◌, inl, inr, ⊎_elim, ne_eqb}
 use Rattle.std.specs.Prelude.{◌==◌, ◌&&◌}
 use Rattle.std.proofs.lemmas.Bool.{and_parts, and_from, not-true, eqb-false, not_from_false, false_from_ne_true}
-use Rattle.store_model.specs.Cells.{Pointer, Cell, cell_at, pointer_at, is_live, is_strong, same, edit, relinked, other_strength, flipped, hits, counted, IsExact}
-use Rattle.store_model.specs.Strong.{IsStrongAt}
-use Rattle.store_model.proofs.EditLaws.{live-within, live-there, edit-here, edit-other}
-use Rattle.store_model.proofs.CountLaws.{relinked-live, relinked-bit, relinked-slot, relinked-which, relinked-counted}
-use Rattle.store_model.proofs.RecordLaws.{target-counts}
-use Rattle.store_model.proofs.FlipLaws.{flip-live, flip-pointer_other, flip-target}
+use Rattle.cell_model.specs.Cells.{Pointer, Cell, cell_at, pointer_at, is_live, is_strong, same, edit, relinked, other_strength, flipped, hits, counted, IsExact}
+use Rattle.cell_model.specs.Strong.{IsStrongAt}
+use Rattle.cell_model.proofs.EditLaws.{live-within, live-there, edit-here, edit-other}
+use Rattle.cell_model.proofs.CountLaws.{relinked-live, relinked-bit, relinked-slot, relinked-which, relinked-counted}
+use Rattle.cell_model.proofs.RecordLaws.{target-counts}
+use Rattle.cell_model.proofs.FlipLaws.{flip-live, flip-pointer_other, flip-target}
 use Rattle.core_store.specs.Changes.{is_counted_strong}
 
 -- the same objects are there, and their slots name the same

@@ -3,13 +3,13 @@ use Rattle.std.proofs.Common.{◌≡◌, ◌≢◌, ℕ, ◌+◌, ◌<◌, ◌==
 use Rattle.std.specs.Prelude.{Contains}
 use Rattle.std.specs.Option.{option_map_or}
 use Rattle.std.proofs.lemmas.Bool.{false_from_ne_true}
-use Rattle.store_model.specs.Cells.{Pointer, Cell, null, blank_cell, cell_at, pointer_in, pointer_at, is_live, is_strong, same, edit, hits, counted, relinked}
-use Rattle.store_model.specs.Records.{HasPointer, HasNoPointer}
+use Rattle.cell_model.specs.Cells.{Pointer, Cell, null, blank_cell, cell_at, pointer_in, pointer_at, is_live, is_strong, same, edit, hits, counted, relinked}
+use Rattle.cell_model.specs.Records.{HasPointer, HasNoPointer}
 use Rattle.store_model.specs.Core.{Core, Round}
 use Rattle.store_model.specs.Sound.{in_round}
-use Rattle.store_model.proofs.CountLaws.{relinked-live, relinked-bit, relinked-other, relinked-which, relinked-counted}
-use Rattle.store_model.proofs.EditLaws.{live-there, live-within, edit-other}
-use Rattle.store_model.proofs.RecordLaws.{unpointed}
+use Rattle.cell_model.proofs.CountLaws.{relinked-live, relinked-bit, relinked-other, relinked-which, relinked-counted}
+use Rattle.cell_model.proofs.EditLaws.{live-there, live-within, edit-other}
+use Rattle.cell_model.proofs.RecordLaws.{unpointed}
 use Rattle.store_model.proofs.StoreSound.{same-self}
 use Rattle.red_walk.specs.Walk.{Walk, removed}
 use Rattle.red_walk.proofs.Filters.{filter-among, filter-passes}
@@ -190,7 +190,7 @@ module _ (slots : ℕ) (c d : Core) (w : Walk) (s : Sweep) (slot id target : ℕ
 
   cut-calm : (t : Sweep) → unfreed t ≡ unfreed s → IsCalm c.cells (relinked c.cells id slot null) w w s t g id
   cut-calm t kept =
-      let exact = e.sound.exact in
+      let exact = e.sound.consistent.exact in
       let live = cut-has.0.live in record {
         listed = cut-step.walk.left_listed id (condemned-left slots c d w s slot g _ _ _ e id cut-chosen);
         dead = condemned-dead slots c d w s slot g _ _ _ e id cut-chosen;
@@ -243,7 +243,7 @@ module _ (slots : ℕ) (c d : Core) (w : Walk) (s : Sweep) (slot id : ℕ) (g : 
   free-calm : IsCalm c.cells freed-cells w (removed w id) s (found s (Made id)) g id
   unfolding freed-cells
   free-calm =
-      let exact = e.sound.exact in
+      let exact = e.sound.consistent.exact in
       let f : Cell → Cell = λ _. blank_cell false slots in
       let fits = freed-fits in
       let some = live-there c.cells id exact.none fits.0 in record {

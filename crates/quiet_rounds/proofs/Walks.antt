@@ -7,7 +7,7 @@ use Rattle.std.proofs.lemmas.List.{get_or_push, length_push}
 use Rattle.std.proofs.lemmas.List.Elements.{Contains-append_cases}
 use Rattle.std.proofs.lemmas.List.Sums.{count_by-le-length, length-filter}
 use Rattle.plain_model.specs.Graphs.{root}
-use Rattle.store_model.specs.Cells.{Cell, cell_at, pointer_at, is_live}
+use Rattle.cell_model.specs.Cells.{Cell, cell_at, pointer_at, is_live}
 use Rattle.store_model.specs.Core.{Copy, Round, Core, is_named}
 use Rattle.store_model.specs.Sound.{in_round, copy_of}
 use Rattle.store_model.specs.Steps.{with_listed, with_copy}
@@ -143,8 +143,8 @@ module _ (slots : ℕ) (c d : Core) (w : Walk) (id slot target : ℕ) (joins : O
       let here = look-slot _ w.slot _ id slot at in
       moved-quiet slots (weakened c.cells id slot) w p.0
       (subst (λ x. is_counted_strong (weakened c.cells id slot) (pointer_at (weakened c.cells id slot) x w.slot) ≡ false) (sym p.1)
-      (subst (λ k. is_counted_strong (weakened c.cells id slot) (pointer_at (weakened c.cells id slot) id k) ≡ false) (sym here) (weakened-here c.cells id slot target h.sound.exact h.fits.0 h.fits.1)))
-      (weakened-quiet c.cells id slot target h.sound.exact h.fits.0 h.fits.1 slots w lives uncopied q)
+      (subst (λ k. is_counted_strong (weakened c.cells id slot) (pointer_at (weakened c.cells id slot) id k) ≡ false) (sym here) (weakened-here c.cells id slot target h.sound.consistent.exact h.fits.0 h.fits.1)))
+      (weakened-quiet c.cells id slot target h.sound.consistent.exact h.fits.0 h.fits.1 slots w lives uncopied q)
 
   grown : {x : ℕ} → joins ≡ Some x → w.left ++ x ∷ [] ≡ (if is_let_go slots c weakens.of (logs.Weaken id slot target) target then w.left ++ target ∷ [] else w.left)
   grown {x} is =

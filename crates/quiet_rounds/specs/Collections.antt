@@ -1,11 +1,11 @@
 -- Collections beside which no client is active: whole rounds, one after another.
 use Rattle.std.specs.Prelude.{◌≡◌, ◌↔◌, ℕ, ◌+◌, ◌≤◌, List, [], length, Contains, None}
-use Rattle.store_model.specs.Cells.{Cell}
+use Rattle.cell_model.specs.Cells.{Cell}
 use Rattle.store_model.specs.Core.{Core}
 use Rattle.store_model.specs.Sound.{IsOnce, IsSound}
 use Rattle.core_store.specs.declared.act.Act.TheVariants as act
 use Rattle.core_store.specs.RoundView.{Closed}
-use Rattle.quiet_rounds.specs.Quiet.{IsQuiet}
+use Rattle.quiet_rounds.specs.Quiet.{NoneActive}
 use Rattle.quiet_rounds.specs.Laws.{IsQuietEvent}
 use Rattle.quiet_rounds.specs.WholeRounds.{IsWholeRound, IsWithoutStrong}
 
@@ -37,5 +37,5 @@ QueueLaw = (slots : ℕ) (c d : Core) (rounds passed : ℕ) → IsCollection slo
 -- where the queue is empty behind it, there were as many rounds as objects to which no strong pointer led, and there is no such object any more
 abbrev pub AtRestLaw : Type 0
 AtRestLaw =
-    (slots : ℕ) (c d : Core) (rounds passed : ℕ) → IsCollection slots c d rounds passed → IsSound d → IsQuiet d → d.round ≡ None → d.queue ≡ []
+    (slots : ℕ) (c d : Core) (rounds passed : ℕ) → IsCollection slots c d rounds passed → IsSound d → NoneActive d → d.round ≡ None → d.queue ≡ []
     → AreWithoutStrong d.cells [] × ((ids : List ℕ) → AreWithoutStrong c.cells ids → rounds ≡ length ids)

@@ -10,13 +10,13 @@ use Rattle.core_store.specs.Collecting.{is_pop}
 use Rattle.core_store.specs.declared.act.Act.TheVariants as act
 use Rattle.core_store.specs.Events.{core_after}
 use Rattle.core_store.specs.RoundView.{RoundView, round_of, Passes, Proceeds, IsInStep}
-use Rattle.quiet_rounds.specs.Quiet.{IsQuiet, IsQuietRound}
+use Rattle.quiet_rounds.specs.Quiet.{NoneActive, IsQuietRound}
 
 -- an event of the collector on a sound journal beside which no client is active, with the cursor before and behind it
 pub record IsQuietEvent (slots : ℕ) (c d : Core) (u v : RoundView) (event : Act) (logged : Option CellRecord) : Type 0 where
   pub sound : IsSound c
   pub slots_are : c.moment.state.slots ≡ slots
-  pub quiet : IsQuiet c
+  pub quiet : NoneActive c
   pub before : round_of u ≡ c.round
   pub behind : round_of v ≡ d.round
   pub in_step : IsInStep slots c.moment.state.ids u
@@ -36,10 +36,10 @@ pub record NoneJoins (event : Act) (queue behind : List ℕ) : Type 0 where
 abbrev pub QuietEventLaw : Type 0
 QuietEventLaw =
     (slots : ℕ) (c d : Core) (u v : RoundView) (event : Act) (logged : Option CellRecord) → IsQuietEvent slots c d u v event logged → IsQuietRound slots c.cells u
-    → IsQuietRound slots d.cells v × NoneJoins event c.queue d.queue × IsQuiet d
+    → IsQuietRound slots d.cells v × NoneJoins event c.queue d.queue × NoneActive d
 
 -- a quiet round stays quiet over looks
 abbrev pub QuietLooksLaw : Type 0
 QuietLooksLaw =
-    (slots : ℕ) (c : Core) (u v : RoundView) → IsSound c → c.moment.state.slots ≡ slots → IsQuiet c → round_of u ≡ c.round → IsInStep slots c.moment.state.ids u
+    (slots : ℕ) (c : Core) (u v : RoundView) → IsSound c → c.moment.state.slots ≡ slots → NoneActive c → round_of u ≡ c.round → IsInStep slots c.moment.state.ids u
     → Passes slots c.cells u v → IsQuietRound slots c.cells u → IsQuietRound slots c.cells v

@@ -1,11 +1,11 @@
 -- Rounds of the collector beside which no client is active: what holds of them at each moment.
 use Rattle.std.specs.Prelude.{◌≡◌, ◌≢◌, ℕ, ◌<◌, true, false, List, [], length, slice_index_or, Contains, ◌⊎◌, ◌∷◌}
-use Rattle.store_model.specs.Cells.{Cell, cell_at, pointer_at, is_live}
+use Rattle.cell_model.specs.Cells.{Cell, cell_at, pointer_at, is_live}
 use Rattle.store_model.specs.Core.{Core, Copy}
 use Rattle.store_model.specs.Sound.{copy_of}
 use Rattle.red_walk.specs.Walk.{Walk}
 use Rattle.green_walk.specs.declared.copied_slots.CopiedSlot.{CopiedSlot}
-use Rattle.store_model.specs.Strong.{IsStrongAt}
+use Rattle.cell_model.specs.Strong.{IsStrongAt}
 use Rattle.green_walk.specs.declared.sweep.SweepAt.TheVariants.{End as SweepEnd}
 use Rattle.green_walk.specs.Sweeping.{Sweeping as Sweep, next as next_of_sweep, unfreed}
 use Rattle.green_walk.specs.Greening.{Greening, GreenStage, AtSeed, AtInto, AtOut, waits}
@@ -13,8 +13,8 @@ use Rattle.core_store.specs.Changes.{is_counted_strong}
 use Rattle.core_store.specs.RoundView.{RoundView, Closed, Walking, Sweeping}
 
 -- no client is active
-abbrev pub IsQuiet : Core → Type 0
-IsQuiet c = c.moment.state.active ≡ []
+abbrev pub NoneActive : Core → Type 0
+NoneActive c = c.moment.state.active ≡ []
 
 -- the first slots of the object, so many, hold no strong pointer
 abbrev pub HasNoStrongIn : List Cell → ℕ → ℕ → Type 0

@@ -1,8 +1,8 @@
 -- Whole rounds beside which no client is active: which objects they are about, which they delete, what they leave, and how many events they take.
 use Rattle.std.specs.Prelude.{◌≡◌, ◌≢◌, ◌↔◌, ℕ, ◌+◌, ◌*◌, ◌≤◌, true, false, List, length, Contains, Option, None}
 use Rattle.plain_model.specs.Graphs.{root}
-use Rattle.store_model.specs.Cells.{Cell, cell_at, pointer_at, is_live, object_of}
-use Rattle.store_model.specs.Strong.{IsStrongAt}
+use Rattle.cell_model.specs.Cells.{Cell, cell_at, pointer_at, is_live, object_of}
+use Rattle.cell_model.specs.Strong.{IsStrongAt}
 use Rattle.store_model.specs.Core.{Core}
 use Rattle.store_model.specs.Sound.{IsSound}
 use Rattle.store_model.specs.RestLaws.{HasStrongIn}
@@ -13,7 +13,7 @@ use Rattle.core_store.specs.declared.act.Act.{Act}
 use Rattle.core_store.specs.declared.act.Act.TheVariants as act
 use Rattle.core_store.specs.RoundView.{RoundView, Closed, Walking, Sweeping, is_closed, round_of, Passes, IsInStep}
 use Rattle.log_record.specs.declared.cell_record.CellRecord.{CellRecord}
-use Rattle.quiet_rounds.specs.Quiet.{IsQuiet}
+use Rattle.quiet_rounds.specs.Quiet.{NoneActive}
 use Rattle.quiet_rounds.specs.Laws.{IsQuietEvent}
 
 -- ---- what a round is about
@@ -34,15 +34,15 @@ pub data IsLedFromOutside (cells : List Cell) (x : ℕ) : ℕ → Type 0 where
 pub record IsStill (slots : ℕ) (c : Core) (u : RoundView) : Type 0 where
   pub sound : IsSound c
   pub slots_are : c.moment.state.slots ≡ slots
-  pub quiet : IsQuiet c
+  pub quiet : NoneActive c
   pub round : round_of u ≡ c.round
   pub in_step : IsInStep slots c.moment.state.ids u
 
 -- looks and events of an open round, one after another: so many events
-pub data Runs (slots : ℕ) (c : Core) (u : RoundView) : Core → RoundView → ℕ → Type 0 where
-  none : Runs slots c u c u 0
-  looks : (d : Core) (v w : RoundView) (n : ℕ) → Runs slots c u d v n → IsStill slots d v → Passes slots d.cells v w → Runs slots c u d w n
-  event : (d e : Core) (v w : RoundView) (event : Act) (logged : Option CellRecord) (n : ℕ) → Runs slots c u d v n → IsQuietEvent slots d e v w event logged → is_closed w ≡ false → Runs slots c u e w (n + 1)
+pub data OpenRun (slots : ℕ) (c : Core) (u : RoundView) : Core → RoundView → ℕ → Type 0 where
+  none : OpenRun slots c u c u 0
+  looks : (d : Core) (v w : RoundView) (n : ℕ) → OpenRun slots c u d v n → IsStill slots d v → Passes slots d.cells v w → OpenRun slots c u d w n
+  event : (d e : Core) (v w : RoundView) (event : Act) (logged : Option CellRecord) (n : ℕ) → OpenRun slots c u d v n → IsQuietEvent slots d e v w event logged → is_closed w ≡ false → OpenRun slots c u e w (n + 1)
 
 -- a round that opens with the object, and closes, so many events in all
 pub record IsWholeRound (slots : ℕ) (c d : Core) (x events : ℕ) : Type 0 where
@@ -55,7 +55,7 @@ pub record IsWholeRound (slots : ℕ) (c d : Core) (x events : ℕ) : Type 0 whe
   pub slot : ℕ
   pub greening : Greening
   pub between : ℕ
-  pub runs : Runs slots opening (Walking (opened c.moment.state.ids x)) last (Sweeping walk swept slot greening) between
+  pub runs : OpenRun slots opening (Walking (opened c.moment.state.ids x)) last (Sweeping walk swept slot greening) between
   pub ends : IsQuietEvent slots last d (Sweeping walk swept slot greening) Closed act.End None
   pub count : events ≡ between + 2
 

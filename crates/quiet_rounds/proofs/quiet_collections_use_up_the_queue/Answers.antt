@@ -1,5 +1,5 @@
 use Rattle.quiet_rounds.proofs.Collections.{rounds-made, queue, rest}
-use Rattle.quiet_rounds.proofs.quiet_collections_come_to_rest.Goals as goal
+use Rattle.quiet_rounds.proofs.quiet_collections_use_up_the_queue.Goals as goal
 
 pub returns-clause-rounds : goal.returns-clause-rounds
 returns-clause-rounds c = rounds-made
