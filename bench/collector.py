@@ -3,10 +3,10 @@
 
     bench/collector.py PROGRAM [--runs N] [--sizes N,N,..] [--shapes NAME,NAME,..]
 
-PROGRAM replays scripts as `brahma replay` does, on a store of 8,192 ids: that is this program where `PAGES` and `IDS` in
-crates/brahma_shell/src/store.rt are 1024 and 8192, and where the same number of ids stands in its definitions and
-proofs. The time of a heap is that of its script with `gc all` behind it, less that with `gc step`: user and system time,
-each the least of N runs. Behind the times of a shape stand the exponents of their growth: 1 is growth in proportion.
+PROGRAM replays scripts as `brahma replay` does, on a store of 8,192 ids: that is this program where `PAGES` in
+crates/brahma_shell/src/store.rt is 1024. The time of a heap is that of its script with `gc all` behind it, less that
+with `gc step`: user and system time, each the least of N runs. Behind the times of a shape stand the exponents of their
+growth: 1 is growth in proportion.
 """
 import argparse
 import math

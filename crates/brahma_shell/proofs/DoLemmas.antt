@@ -3,10 +3,10 @@ use Rattle.std.proofs.Common.{◌≡◌, ⊎_elim, inl, inr, ℕ, List, [], Opti
 use Rattle.std.specs.Prelude.{Result, OnOk, IfErr}
 use Rattle.std.specs.Io.KnownBytes.{Appends}
 use Rattle.core_store.specs.JournalView.{JournalView}
-use Rattle.brahma_shell.specs.declared.grammar.Line.{Line}
+use Rattle.script_lines.specs.declared.grammar.Line.{Line}
 use Rattle.brahma_shell.specs.declared.replay.Stop.{Stop}
 use Rattle.brahma_shell.specs.declared.replay.Stop.TheVariants as stop
-use Rattle.brahma_shell.specs.Grammar.{IsAccepted, meaning_of}
+use Rattle.script_lines.specs.Grammar.{IsAccepted, meaning_of}
 use Rattle.brahma_shell.specs.Replay.{Performs, CutsOff, StopsCall, StopsPerform, DoesLine, CutsLine, StopsLine}
 use Rattle.brahma_shell.proofs.GcLemmas.{cuts-none}
 use Rattle.brahma_shell.proofs.GrowthLemmas.{Grows-by_none}

@@ -8,26 +8,26 @@ use Rattle.std.proofs.lemmas.Bool.{cases_eq}
 use Rattle.std.proofs.lemmas.List.{append-nil}
 use Rattle.std.proofs.lemmas.List.Sums.{sum_by-append}
 use Rattle.plain_model.specs.declared.calls.Entry.{Entry}
+use Rattle.plain_model.specs.History.{History}
 use Rattle.plain_model.specs.Text.{text_of, line_of}
 use Rattle.core_store.specs.declared.note.Note.{Note}
 use Rattle.core_store.specs.Collecting.{is_pop}
 use Rattle.core_store.specs.JournalView.{JournalView, last_left}
 use Rattle.brahma_shell.specs.declared.gc.Stepped.{Stepped}
-use Rattle.brahma_shell.specs.declared.grammar.Line.{Line}
-use Rattle.brahma_shell.specs.declared.grammar.Line.TheVariants.{CollectStep, CollectAll}
+use Rattle.script_lines.specs.declared.grammar.Line.{Line}
+use Rattle.script_lines.specs.declared.grammar.Line.TheVariants.{CollectStep, CollectAll}
 use Rattle.brahma_shell.specs.declared.replay.Stop.{Stop}
 use Rattle.brahma_shell.specs.declared.replay.Stop.TheVariants as stop
 use Rattle.brahma_shell.specs.Points.{Point, after_notes, point_of, entries_in, MayRest, IsExactAt}
 use Rattle.brahma_shell.specs.Growth.{Grows, GrowsByEvent}
 use Rattle.brahma_shell.specs.Follows.{IsOfCollector, AreOfCollector, GivesStep}
-use Rattle.brahma_shell.specs.Output.{AppendsFront}
+use Rattle.script_lines.specs.Output.{AppendsFront}
 use Rattle.brahma_shell.specs.Replay.{Performs, CutsOff, StepsOnce, StopsPerform}
 use Rattle.brahma_shell.specs.Rest.{StaysQuiet}
-use Rattle.brahma_shell.specs.Top.{store_ids}
 use Rattle.brahma_shell.proofs.FollowLemmas.{text_of-append}
 use Rattle.brahma_shell.proofs.GrowthLemmas.{Grows-none, Grows-trans, Grows-by_none, Grows-then_none, Grows-point, entries_in-append}
-use Rattle.brahma_shell.proofs.OutputLemmas.{Appends-none, Appends-trans, AppendsFront-after}
-use Rattle.brahma_shell.proofs.PointLemmas.{left_of_point}
+use Rattle.script_lines.proofs.OutputLemmas.{Appends-none, Appends-trans, AppendsFront-after}
+use Rattle.brahma_shell.proofs.PointLemmas.{left_of_point, ids_of_point}
 use Rattle.brahma_shell.proofs.QuietLemmas.{IsQuietSoFar, quiet-below}
 
 -- ---- one step
@@ -151,16 +151,18 @@ all-rest a b d popped text w x y c quiet h p = (
 )
 
 -- no round is open, and enough objects were looked at
-pub all-popped : (a d : JournalView) (popped : ℕ) (w y : Option (List ℕ)) → Collected a d popped w y → ((point_of a).moment.state.active ≡ [] → IsQuietSoFar d popped) → last_left d.notes ≡ 0 → store_ids ≤ popped → (all : List ℕ) × Performs a d CollectAll all × Appends w y all
-all-popped a d popped w y c quiet closed enough =
-    let never : (point_of a).moment.state.active ≡ [] → ⊥ = λ idle. let below = quiet-below d popped (quiet idle) in omega (arith, below, enough) in
+pub all-popped : (a d : JournalView) (popped : ℕ) (w y : Option (List ℕ)) → Collected a d popped w y → ((point_of a).moment.state.active ≡ [] → IsQuietSoFar d popped) → last_left d.notes ≡ 0 → 1 ≤ a.history.ids → a.history.ids ≤ popped → (all : List ℕ) × Performs a d CollectAll all × Appends w y all
+all-popped a d popped w y c quiet closed some enough =
+    let same : d.history.ids ≡ a.history.ids = ap (λ (h : History). h.ids) c.grows.history in
+    let ids : (point_of a).moment.state.ids ≡ a.history.ids = ids_of_point a in
+    let never : (point_of a).moment.state.active ≡ [] → ⊥ = λ idle. let below = quiet-below d popped (omega (arith, some, same)) (quiet idle) in omega (arith, below, enough, same) in
     let left : (after_notes (point_of a) c.notes).left ≡ 0 = sym (ap (λ (p : Point). p.left) (Grows-point a d c.notes c.grows)) ∙ left_of_point d ∙ closed in (
       text_of (entries_in c.notes),
       record {
         notes = c.notes;
         grows = c.grows;
         unmarked = c.unmarked;
-        gives = record { each = c.each; ends = inr (left, omega (arith, enough, c.pops)); rests = λ idle. absurd (never idle); exact = λ idle. absurd (never idle) };
+        gives = record { each = c.each; ends = inr (left, omega (arith, enough, c.pops, ids)); rests = λ idle. absurd (never idle); exact = λ idle. absurd (never idle) };
         printed = refl;
       },
       c.printed,
@@ -201,19 +203,19 @@ pub counted-no : (n k : ℕ) (b : Bool) → n ≡ k → b ≡ false → n ≡ k 
 counted-no n k b e f = rw f (omega (arith, e))
 
 -- an object is taken out of the queue only where fewer were
-pop-below : (b d : JournalView) (s : Stepped) (text : List ℕ) (popped : ℕ) → StepsOnce (Some s) b d text → popped ≤ 8 → (popped ≡ 8 → 0 < last_left b.notes) → s.popped ≡ true → popped < 8
-pop-below b d s text popped h within round p =
+pop-below : (b d : JournalView) (s : Stepped) (text : List ℕ) (popped ids : ℕ) → StepsOnce (Some s) b d text → popped ≤ ids → (popped ≡ ids → 0 < last_left b.notes) → s.popped ≡ true → popped < ids
+pop-below b d s text popped ids h within round p =
     let closed = h.2.opens p in
     ⊎_elim
     (λ e. let some = round e in absurd (omega (arith, closed, some)))
     (λ n. omega (arith, n, within))
-    (cases_eq popped 8)
+    (cases_eq popped ids)
 
-pub step-within : (b d : JournalView) (s : Stepped) (text : List ℕ) (popped now : ℕ) → StepsOnce (Some s) b d text → popped ≤ 8 → (popped ≡ 8 → 0 < last_left b.notes) → now ≡ popped + cond s.popped 1 0 → now ≤ 8
-step-within b d s text popped now h within round e = by s.popped refl
+pub step-within : (b d : JournalView) (s : Stepped) (text : List ℕ) (popped now ids : ℕ) → StepsOnce (Some s) b d text → popped ≤ ids → (popped ≡ ids → 0 < last_left b.notes) → now ≡ popped + cond s.popped 1 0 → now ≤ ids
+step-within b d s text popped now ids h within round e = by s.popped refl
   where
-    by : (t : Bool) → s.popped ≡ t → now ≤ 8
-    by true p = let below = pop-below b d s text popped h within round p in let more : now ≡ popped + 1 = rw p at e in omega (arith, below, more)
+    by : (t : Bool) → s.popped ≡ t → now ≤ ids
+    by true p = let below = pop-below b d s text popped ids h within round p in let more : now ≡ popped + 1 = rw p at e in omega (arith, below, more)
     by false p = let same : now ≡ popped + 0 = rw p at e in omega (arith, same, within)
 
 -- the measure of a step that takes an object, and of one that leaves less of the round
@@ -223,17 +225,17 @@ less-pop k m left old l = omega (arith, l)
 less-left : (k left old : ℕ) → left < old → k + left < k + old
 less-left k left old l = omega (arith, l)
 
-pub step-smaller : (b d : JournalView) (s : Stepped) (text : List ℕ) (popped now most : ℕ) → StepsOnce (Some s) b d text → popped ≤ 8 → (popped ≡ 8 → 0 < last_left b.notes) → now ≡ popped + cond s.popped 1 0 → s.left < most → (8 - now) * most + last_left d.notes < (8 - popped) * most + last_left b.notes
-step-smaller b d s text popped now most h within round e fits =
+pub step-smaller : (b d : JournalView) (s : Stepped) (text : List ℕ) (popped now ids most : ℕ) → StepsOnce (Some s) b d text → popped ≤ ids → (popped ≡ ids → 0 < last_left b.notes) → now ≡ popped + cond s.popped 1 0 → s.left < most → (ids - now) * most + last_left d.notes < (ids - popped) * most + last_left b.notes
+step-smaller b d s text popped now ids most h within round e fits =
     let last = left-more b d s text h in
     rw last (by s.popped refl)
   where
-    by : (t : Bool) → s.popped ≡ t → (8 - now) * most + s.left < (8 - popped) * most + last_left b.notes
+    by : (t : Bool) → s.popped ≡ t → (ids - now) * most + s.left < (ids - popped) * most + last_left b.notes
     by true p =
-        let below = pop-below b d s text popped h within round p in
+        let below = pop-below b d s text popped ids h within round p in
         let more : now ≡ popped + 1 = rw p at e in
-        let one : 8 - popped ≡ 8 - now + 1 = omega (arith, below, more) in
-        rw one (less-pop (8 - now) most s.left (last_left b.notes) fits)
+        let one : ids - popped ≡ ids - now + 1 = omega (arith, below, more) in
+        rw one (less-pop (ids - now) most s.left (last_left b.notes) fits)
     by false p =
         let same : now ≡ popped = omega (arith, (rw p at e)) in
-        rw same (less-left ((8 - popped) * most) s.left (last_left b.notes) (h.2.lower p))
+        rw same (less-left ((ids - popped) * most) s.left (last_left b.notes) (h.2.lower p))

@@ -4,10 +4,10 @@ use Rattle.std.proofs.lemmas.List.{append-nil, map-append}
 use Rattle.std.proofs.lemmas.List.Sums.{fold_push}
 use Rattle.plain_model.specs.declared.calls.Entry.{Entry}
 use Rattle.plain_model.specs.History.{History, start_of, end_of, next, moment_after, with_entry}
-use Rattle.store_model.specs.Cells.{Cell}
+use Rattle.cell_model.specs.Cells.{Cell}
 use Rattle.core_store.specs.declared.note.Note.{Note}
 use Rattle.core_store.specs.JournalView.{JournalView}
-use Rattle.brahma_shell.specs.Points.{Point, after_notes, start_point, point_of, entries_in}
+use Rattle.brahma_shell.specs.Points.{Point, after_notes, start_with, start_point, point_of, entries_in}
 use Rattle.brahma_shell.specs.Growth.{IsSameStart, Grows, GrowsBy}
 use Rattle.brahma_shell.proofs.PointLemmas.{after_notes-append}
 
@@ -71,8 +71,8 @@ Grows-then_none a b c xs g h = subst (Grows a c) (append-nil xs) (Grows-trans a 
 
 pub start_point-same : (a b : JournalView) (es : List Entry) → b.history ≡ record a.history { entries = es } → b.opening ≡ a.opening → start_point b ≡ start_point a
 start_point-same a b es history opening =
-    ap (λ (h : History). let p : Point = record { slots = h.slots; cells = b.opening; moment = start_of h; refs = []; left = 0 } in p) history
-    ∙ ap (λ (cells : List Cell). let p : Point = record { slots = a.history.slots; cells = cells; moment = start_of a.history; refs = []; left = 0 } in p) opening
+    ap (λ (h : History). start_with h b.opening) history
+    ∙ ap (λ (cells : List Cell). start_with a.history cells) opening
 
 pub Grows-start : (a b : JournalView) (more : List Note) → Grows a b more → start_point b ≡ start_point a
 Grows-start a b more g = start_point-same a b (a.history.entries ++ entries_in more) g.history g.opening

@@ -13,7 +13,7 @@ use Rattle.plain_model.specs.Machine.{transaction_of}
 use Rattle.plain_model.specs.History.{Moment, end_of, left_to_undo}
 use Rattle.plain_model.specs.Text.{text_of, line_of}
 use Rattle.core_store.specs.JournalView.{JournalView}
-use Rattle.brahma_shell.specs.declared.grammar.Line.TheVariants.{Ask, Abort, Undo}
+use Rattle.script_lines.specs.declared.grammar.Line.TheVariants.{Ask, Abort, Undo}
 use Rattle.brahma_shell.specs.declared.perform.Answer.{Answer}
 use Rattle.brahma_shell.specs.declared.replay.Stop.{Stop}
 use Rattle.brahma_shell.specs.Points.{point_of, entries_in}

@@ -1,14 +1,16 @@
 -- Points of a history, and what the journals are there.
-use Rattle.std.proofs.Common.{◌≡◌, ◌≢◌, ℕ, List, [], ◌∷◌, ◌++◌, Option, Some, None, map, fold, refl, ap, subst, ◌∙◌, ⊎_elim, true, arith}
+use Rattle.std.proofs.Common.{◌≡◌, ◌≢◌, ℕ, List, [], ◌∷◌, ◌++◌, append_assoc, Option, Some, None, map, fold, refl, sym, ap, subst, ◌∙◌, ⊎_elim, true, arith}
 use Rattle.std.specs.List.{last_or}
 use Rattle.std.specs.Option.{option_map_or}
 use Rattle.std.specs.Prelude.{Contains, option_map}
+use Rattle.std.proofs.lemmas.List.{append-nil}
 use Rattle.std.proofs.lemmas.List.Sums.{fold-append}
 use Rattle.plain_model.specs.Graphs.{root}
-use Rattle.plain_model.specs.History.{moment_after, start_of, end_of}
-use Rattle.store_model.specs.Cells.{Cell, cell_at, is_live}
+use Rattle.plain_model.specs.History.{History, Moment, moment_after, start_of, end_of}
+use Rattle.plain_model.proofs.StepLaws.{end_of-ids}
+use Rattle.cell_model.specs.Cells.{Cell, cell_at, is_live}
 use Rattle.store_model.specs.Core.{Core, is_named}
-use Rattle.store_model.specs.Records.{Record, cells_after}
+use Rattle.cell_model.specs.Records.{Record, cells_after}
 use Rattle.store_model.specs.Sound.{IsSound}
 use Rattle.log_record.specs.declared.cell_record.CellRecord.{CellRecord}
 use Rattle.log_record.specs.Records.{record_of}
@@ -45,10 +47,37 @@ left-after : (p : Point) (ns : List Note) (last : Option Note) (d : ℕ) → p.l
 left-after p [] last d e = e
 left-after p (n ∷ ns) last d e = left-after (after_note p n) ns (Some n) d refl
 
+slots-after : (p : Point) (ns : List Note) → (after_notes p ns).slots ≡ p.slots
+slots-after p [] = refl
+slots-after p (n ∷ ns) = slots-after (after_note p n) ns
+
+opening-after : (p : Point) (ns : List Note) → (after_notes p ns).opening ≡ p.opening
+opening-after p [] = refl
+opening-after p (n ∷ ns) = opening-after (after_note p n) ns
+
+notes-after : (p : Point) (ns : List Note) → (after_notes p ns).notes ≡ p.notes ++ ns
+notes-after p [] = sym (append-nil p.notes)
+notes-after p (n ∷ ns) = notes-after (after_note p n) ns ∙ append_assoc p.notes (n ∷ []) ns
+
 -- ---- the end of a journal
 
 pub moment_of_point : (j : JournalView) → entries_in j.notes ≡ j.history.entries → (point_of j).moment ≡ end_of j.history
 moment_of_point j e = moment-after (start_point j) j.notes ∙ ap (moment_after (start_of j.history)) e
+
+pub ids_of_point : (j : JournalView) → (point_of j).moment.state.ids ≡ j.history.ids
+ids_of_point j =
+    let h : History = record j.history { entries = entries_in j.notes } in
+    ap (λ (m : Moment). m.state.ids) (moment-after (start_point j) j.notes) ∙ end_of-ids h
+
+-- the notes lead to the journal
+led_to_point : (slots : ℕ) (j : JournalView) → j.history.slots ≡ slots → AreLed slots (opening_of j) j.notes (core_of j) → AreLed (point_of j).slots (point_of j).opening (point_of j).notes (core_of j)
+led_to_point slots j size led =
+    let same : (point_of j).slots ≡ slots = slots-after (start_point j) j.notes ∙ size in
+    let opening : (point_of j).opening ≡ opening_of j = opening-after (start_point j) j.notes in
+    let notes : (point_of j).notes ≡ j.notes = notes-after (start_point j) j.notes in
+    subst (λ (n : ℕ). AreLed n (point_of j).opening (point_of j).notes (core_of j)) (sym same)
+    (subst (λ (c : Core). AreLed slots c (point_of j).notes (core_of j)) (sym opening)
+    (subst (λ (ns : List Note). AreLed slots (opening_of j) ns (core_of j)) (sym notes) led))
 
 pub left_of_point : (j : JournalView) → (point_of j).left ≡ last_left j.notes
 left_of_point j = left-after (start_point j) j.notes None 0 refl
@@ -65,8 +94,12 @@ not_in : (id : ℕ) → Contains {X = ℕ} [] id → ⊥
 not_in id h = omega (arith, h.1)
 
 -- the collector may rest where its queue is empty and no round is open
-pub may_rest : (slots : ℕ) (j : JournalView) → IsSound (core_of j) → AreLed slots (opening_of j) j.notes (core_of j) → j.queue ≡ [] → j.round ≡ Closed → MayRest (point_of j)
-may_rest slots j sound led empty closed = record {
+pub may_rest : (slots : ℕ) (j : JournalView) → j.history.slots ≡ slots → IsSound (core_of j) → AreLed slots (opening_of j) j.notes (core_of j) → j.queue ≡ [] → j.round ≡ Closed → MayRest (point_of j)
+may_rest slots j size sound led empty closed = record {
+  core = core_of j;
+  led = led_to_point slots j size led;
+  none_queued = empty;
+  none_open = ap round_of closed;
   closed = none_left slots j led (ap round_of closed);
   named = λ id live other zero.
       let cells : (point_of j).cells ≡ cells_of j = cells-after (start_point j) j.notes in

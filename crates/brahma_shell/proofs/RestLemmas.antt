@@ -8,10 +8,10 @@ use Rattle.plain_model.specs.History.{History, Moment, end_of, next}
 use Rattle.plain_model.specs.Machine.{is_stored}
 use Rattle.plain_model.specs.Reachable.{Reachable}
 use Rattle.plain_model.proofs.StepLaws.{end_of-slots, end_of-ids}
-use Rattle.store_model.specs.Cells.{Cell}
+use Rattle.cell_model.specs.Cells.{Cell}
 use Rattle.store_model.specs.Core.{Round, Core}
 use Rattle.store_model.specs.Sound.{IsSound}
-use Rattle.store_model.specs.Records.{Record, Fits, AllFit, after_record, cells_after}
+use Rattle.cell_model.specs.Records.{Record, Fits, AllFit, after_record, cells_after}
 use Rattle.store_model.proofs.AtRest.{at_rest}
 use Rattle.log_record.specs.declared.cell_record.CellRecord.{CellRecord}
 use Rattle.log_record.specs.declared.cell_record.CellRecord.TheVariants as logs
@@ -24,12 +24,11 @@ use Rattle.core_store.specs.Collecting.{is_pop, answer_of}
 use Rattle.core_store.specs.JournalView.{JournalView, cells_of, core_of, logged_in}
 use Rattle.core_store.specs.RoundView.{RoundView, Closed, Walking, Sweeping, round_of, Passes, none, more, IsInStep, Proceeds}
 use Rattle.core_store.specs.Steppings.{MakesEvent, pops}
-use Rattle.quiet_rounds.specs.Quiet.{IsQuiet, IsQuietRound}
+use Rattle.quiet_rounds.specs.Quiet.{NoneActive, IsQuietRound}
 use Rattle.quiet_rounds.specs.Laws.{QuietEventLaw, QuietLooksLaw, IsQuietEvent}
 use Rattle.quiet_rounds.proofs.FewQueued.{few-queued}
 use Rattle.brahma_shell.specs.Points.{Point, point_of, entries_in, IsExactAt}
 use Rattle.brahma_shell.specs.Rest.{StaysQuiet}
-use Rattle.brahma_shell.specs.Top.{store_ids}
 use Rattle.brahma_shell.proofs.GrowthLemmas.{Grows-point}
 use Rattle.brahma_shell.proofs.PointLemmas.{moment_of_point}
 use Rattle.brahma_shell.proofs.StepLemmas.{free-pops, pop-closed}
@@ -86,7 +85,7 @@ fits-logged cells (Some r) f = f
 
 -- a journal, the same after the collector looked, and the journal behind the event that came then
 pub record MakesStep (i j k : JournalView) (r : Collect) : Type 0 where
-  pub size : (i.history.slots ≡ 6) × (i.history.ids ≡ store_ids)
+  pub slots : i.history.slots ≡ 6
   pub sound : IsSound (core_of i)
   pub in_step : IsInStep 6 i.history.ids i.round
   pub entries : entries_in i.notes ≡ i.history.entries
@@ -104,14 +103,14 @@ pub record MakesStep (i j k : JournalView) (r : Collect) : Type 0 where
 
 module _ (i j k : JournalView) (r : Collect) (h : MakesStep i j k r) (idle : (point_of i).moment.state.active ≡ []) where
   -- the journals' sizes
-  looked-size : (j.history.slots ≡ 6) × (j.history.ids ≡ store_ids)
-  looked-size = (ap (λ (x : JournalView). x.history.slots) h.same ∙ h.size.0, ap (λ (x : JournalView). x.history.ids) h.same ∙ h.size.1)
+  looked-slots : j.history.slots ≡ 6
+  looked-slots = ap (λ (x : JournalView). x.history.slots) h.same ∙ h.slots
 
   slots-before : (end_of i.history).state.slots ≡ 6
-  slots-before = end_of-slots i.history ∙ h.size.0
+  slots-before = end_of-slots i.history ∙ h.slots
 
   slots-looked : (end_of j.history).state.slots ≡ 6
-  slots-looked = end_of-slots j.history ∙ looked-size.0
+  slots-looked = end_of-slots j.history ∙ looked-slots
 
   ids-before : (end_of i.history).state.ids ≡ i.history.ids
   ids-before = end_of-ids i.history
@@ -123,13 +122,13 @@ module _ (i j k : JournalView) (r : Collect) (h : MakesStep i j k r) (idle : (po
   ids-behind = ap (λ (x : History). x.ids) h.event.entry
 
   -- no transaction is active at any of them
-  quiet-before : IsQuiet (core_of i)
+  quiet-before : NoneActive (core_of i)
   quiet-before = ap (λ (m : Moment). m.state.active) (sym (moment_of_point i h.entries)) ∙ idle
 
-  quiet-looked : IsQuiet (core_of j)
-  quiet-looked = subst IsQuiet (sym h.core) quiet-before
+  quiet-looked : NoneActive (core_of j)
+  quiet-looked = subst NoneActive (sym h.core) quiet-before
 
-  quiet-behind : IsQuiet (core_of k)
+  quiet-behind : NoneActive (core_of k)
   quiet-behind = ap (λ (c : Core). c.moment.state.active) h.event.core ∙ active-kept (end_of j.history) h.event.logged ∙ quiet-looked
 
   idle-behind : (point_of k).moment.state.active ≡ []
@@ -141,7 +140,7 @@ module _ (i j k : JournalView) (r : Collect) (h : MakesStep i j k r) (idle : (po
       let records = ap logged_in h.event.noted ∙ map-append (λ (n : Note). option_map record_of n.logged) j.notes _ in
       let all = subst (λ (rs : List (Option Record)). AllFit 6 j.opening rs) records (subst (λ (cells : List Cell). AllFit 6 cells (logged_in k.notes)) h.opening h.fit) in
       let last = fits-last 6 j.opening (logged_in j.notes) (option_map record_of h.event.logged) all in
-      fits-logged (core_of j).cells h.event.logged (subst (λ (n : ℕ). IfSome (option_map record_of h.event.logged) (Fits (cells_after n j.opening (logged_in j.notes)))) (sym looked-size.0) last)
+      fits-logged (core_of j).cells h.event.logged (subst (λ (n : ℕ). IfSome (option_map record_of h.event.logged) (Fits (cells_after n j.opening (logged_in j.notes)))) (sym looked-slots) last)
 
   -- so the event is one of a quiet round
   is-quiet_event : IsQuietEvent 6 (core_of j) (core_of k) j.round k.round h.event.event h.event.logged
@@ -166,8 +165,8 @@ module _ (i j k : JournalView) (r : Collect) (h : MakesStep i j k r) (idle : (po
   closed-before : pops r ≡ true → i.round ≡ Closed
   closed-before p = round-closed i.round (ap (λ (c : Core). c.round) (sym h.core) ∙ pop-closed 6 (core_of j) h.event.event h.event.logged k.queue (core_of k).round h.event.collects (sym pops-event ∙ p))
 
-  few-before : length i.queue < store_ids
-  few-before = subst (λ (n : ℕ). length i.queue < n) (ids-before ∙ h.size.1) (few-queued (core_of i) h.sound)
+  few-before : length i.queue < i.history.ids
+  few-before = subst (λ (n : ℕ). length i.queue < n) ids-before (few-queued (core_of i) h.sound)
 
   module _ (events : QuietEventLaw) (looks : QuietLooksLaw) (quiet : IsQuietRound 6 (cells_of i) i.round) where
     quiet-round_looked : IsQuietRound 6 (cells_of j) j.round

@@ -9,18 +9,18 @@ use Rattle.log_record.specs.declared.cell_record.CellRecord.TheVariants as logs
 use Rattle.core_store.specs.declared.act.Act.{Act}
 use Rattle.core_store.specs.declared.act.Act.TheVariants as act
 use Rattle.core_store.specs.declared.collect.Collect.{Collect}
-use Rattle.core_store.specs.declared.collect.Collect.TheVariants.{Idle, Did, Deleted, TraceFull, Memory}
+use Rattle.core_store.specs.declared.collect.Collect.TheVariants.{Did, Deleted}
 use Rattle.core_store.specs.Collects.{Collects, entry_of}
 use Rattle.core_store.specs.Collecting.{is_pop, answer_of}
 use Rattle.core_store.specs.JournalView.{JournalView, core_of, opening_of, last_left}
 use Rattle.core_store.specs.Leads.{AreLed}
 use Rattle.core_store.specs.RoundView.{Closed, left_of}
-use Rattle.core_store.specs.Steppings.{IsEvent, MakesEvent}
+use Rattle.core_store.specs.Steppings.{MakesEvent}
 use Rattle.brahma_shell.specs.Points.{point_of, MayRest}
 use Rattle.brahma_shell.specs.Growth.{Grows, GrowsBy, GrowsByEvent, BecomesFull}
 use Rattle.brahma_shell.proofs.GrowthLemmas.{Grows-trans, Grows-point}
 use Rattle.brahma_shell.proofs.PointLemmas.{may_rest, none_left, left_of_point}
-use Rattle.brahma_shell.proofs.StoreLemmas.{IsSameSize, size-kept, size-marked, size-more, looked, marked-full}
+use Rattle.brahma_shell.proofs.StoreLemmas.{looked, marked-full}
 
 -- ---- what the answer tells
 
@@ -71,19 +71,13 @@ pub nothing : (i j k : JournalView) → j ≡ record i { round = j.round } → k
 nothing i j k same none = record { more = []; entries = refl; grows = subst (λ (x : JournalView). Grows i x []) (sym none) (looked i j same); unmarked = ap (λ (x : JournalView). x.marks) none ∙ ap (λ (x : JournalView). x.marks) same }
 
 -- nothing, and the collector may rest
-pub rests : (i j k : JournalView) → j ≡ record i { round = j.round } → k ≡ j → IsSound (core_of j) → AreLed 6 (opening_of j) j.notes (core_of j) → j.queue ≡ [] → j.round ≡ Closed → GrowsBy i k [] × MayRest (point_of i)
-rests i j k same none sound led empty closed = (nothing i j k same none, subst MayRest (Grows-point i j [] (looked i j same)) (may_rest 6 j sound led empty closed))
+pub rests : (i j k : JournalView) → j ≡ record i { round = j.round } → k ≡ j → i.history.slots ≡ 6 → IsSound (core_of j) → AreLed 6 (opening_of j) j.notes (core_of j) → j.queue ≡ [] → j.round ≡ Closed → GrowsBy i k [] × MayRest (point_of i)
+rests i j k same none size sound led empty closed =
+    let slots : j.history.slots ≡ 6 = ap (λ (x : JournalView). x.history.slots) same ∙ size in
+    (nothing i j k same none, subst MayRest (Grows-point i j [] (looked i j same)) (may_rest 6 j slots sound led empty closed))
 
 -- nothing, since the history is full
 pub full : (i j k : JournalView) → j ≡ record i { round = j.round } → k ≡ record j { marks = record j.marks { trace = true } } → BecomesFull i k
 full i j k same marked =
     let then = marked-full j k marked in
     record { grows = Grows-trans i j k [] [] (looked i j same) then.grows; marked = then.marked }
-
--- the store has its size as before
-pub size-after_collect : (j k : JournalView) (r : Collect) → (r ≡ TraceFull → k ≡ record j { marks = record j.marks { trace = true } }) → (r ≡ Idle → k ≡ j) → (r ≡ Memory → k ≡ j) → (IsEvent r → MakesEvent 6 j k r) → IsSameSize j k
-size-after_collect j k Idle full idle memory event = size-kept j k (idle refl)
-size-after_collect j k (Did popped left) full idle memory event = let m = event tt in size-more j k (entry_of m.logged) m.entry
-size-after_collect j k (Deleted id left) full idle memory event = let m = event tt in size-more j k (entry_of m.logged) m.entry
-size-after_collect j k TraceFull full idle memory event = size-marked j k (full refl)
-size-after_collect j k Memory full idle memory event = size-kept j k (memory refl)

@@ -1,19 +1,22 @@
 -- How the program ends, by how its replay ended.
-use Rattle.std.proofs.Common.{◌≡◌, ◌⊎◌, ◌≤◌, ◌↔◌, ℕ, true, false, List, [], Option, Some, None, refl, sym, ap, subst, ◌∙◌, ⊎_elim, inl, inr, arith}
-use Rattle.std.specs.Prelude.{IfSome, IsNone}
+use Rattle.std.proofs.Common.{◌≡◌, ◌⊎◌, ◌≤◌, ◌↔◌, ◌*◌, ℕ, true, false, List, [], Option, Some, None, refl, sym, ap, subst, ◌∙◌, ⊎_elim, inl, inr, arith}
+use Rattle.std.specs.Prelude.{IfSome}
 use Rattle.std.proofs.lemmas.Bool.{false≢true}
 use Rattle.std.proofs.lemmas.List.{append-nil}
 use Rattle.std.specs.Io.KnownBytes.{Appends}
 use Rattle.core_store.specs.declared.marks.Marks.{Marks}
 use Rattle.core_store.specs.JournalView.{JournalView}
 use Rattle.plain_model.specs.History.{History}
-use Rattle.brahma_shell.specs.Lines.{lines_of}
+use Rattle.script_lines.specs.Lines.{lines_of}
 use Rattle.brahma_shell.specs.Growth.{IsSameStart}
-use Rattle.brahma_shell.specs.Grammar.{IsRefused}
+use Rattle.script_lines.specs.Grammar.{IsRefused}
+use Rattle.script_lines.specs.Output.{EndsWith}
+use Rattle.brahma_shell.specs.declared.store.TheConstants.{PAGES}
 use Rattle.brahma_shell.specs.Follows.{FollowsAll, FollowsUpTo, FollowsPart}
-use Rattle.core_store.specs.Fresh.{fresh_history, graph_of}
-use Rattle.brahma_shell.specs.Top.{EndsWith, HasOnlyLines, IsOfFreshStore, store_ids}
-use Rattle.brahma_shell.proofs.OutputLemmas.{Appends-trans}
+use Rattle.cell_model.specs.Graph.{graph_of}
+use Rattle.core_store.specs.Fresh.{fresh_history}
+use Rattle.brahma_shell.specs.Top.{HasOnlyLines, IsOfFreshStore}
+use Rattle.script_lines.proofs.OutputLemmas.{Appends-trans}
 
 -- ---- what is written
 
@@ -47,7 +50,7 @@ of_journal P None store is p = tt
 of_journal P (Some j) store is p = subst P (sym is) p
 
 -- the replay began with a fresh store
-pub of_fresh : (j k : JournalView) → j.history ≡ fresh_history 6 store_ids → j.limits ≡ record { trace = 1048576; log = 1071644672 } → IsSameStart j k → graph_of k.opening ≡ k.history.opening → IsOfFreshStore k
+pub of_fresh : (j k : JournalView) → j.history ≡ fresh_history 6 (8 * PAGES) → j.limits ≡ record { trace = 1048576; log = 1071644672 } → IsSameStart j k → graph_of k.opening ≡ k.history.opening → IsOfFreshStore k
 of_fresh j k e l s g = record {
   history = s.history ∙ ap (λ (x : History). let r : History = record x { entries = k.history.entries } in r) e;
   opening = g;
@@ -67,13 +70,8 @@ pub end-status : (status : ℕ) → (status ≡ 0) ⊎ ((status ≡ 5) ⊎ (stat
 end-status status is e = ⊎_elim (λ h. omega (arith, h, e)) (λ h. ⊎_elim (λ i. omega (arith, i, e)) (λ i. omega (arith, i, e)) h) is
 
 -- a journal is handed back at this status
-pub handed-at : (n : ℕ) → (n ≡ 2 → ⊥) → (n ≡ 8 → ⊥) → (true ≡ false → (n ≡ 2) ⊎ (n ≡ 8)) × ((n ≡ 2) ⊎ (n ≡ 8) → true ≡ false)
-handed-at n a b = (λ e. absurd (cc), λ s. absurd (⊎_elim a b s))
-
-pub handed-end : (o : Option JournalView) (n : ℕ) → (n ≡ 0) ⊎ ((n ≡ 5) ⊎ (n ≡ 8)) → IsNone o ↔ (n ≡ 8) → IsNone o ↔ ((n ≡ 2) ⊎ (n ≡ 8))
-handed-end o n is h =
-    let other : n ≡ 2 → ⊥ = λ two. ⊎_elim (λ e. omega (arith, e, two)) (λ m. ⊎_elim (λ e. omega (arith, e, two)) (λ e. omega (arith, e, two)) m) is in
-    (λ e. inr (h.0 e), λ s. ⊎_elim (λ two. absurd (other two)) h.1 s)
+pub handed-at : (n : ℕ) → (n ≡ 8 → ⊥) → (true ≡ false → n ≡ 8) × (n ≡ 8 → true ≡ false)
+handed-at n a = (λ e. absurd (cc), λ s. absurd (a s))
 
 -- a script that has only lines has none that is refused
 pub none-refused : (left : Option (List ℕ)) (number : ℕ) (j : JournalView) → FollowsUpTo left number j → HasOnlyLines left → ⊥

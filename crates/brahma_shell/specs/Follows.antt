@@ -10,12 +10,11 @@ use Rattle.plain_model.specs.History.{left_to_undo}
 use Rattle.core_store.specs.declared.note.Note.{Note}
 use Rattle.core_store.specs.Collecting.{is_pop}
 use Rattle.core_store.specs.JournalView.{JournalView}
-use Rattle.brahma_shell.specs.declared.grammar.Line.{Line}
-use Rattle.brahma_shell.specs.declared.grammar.Line.TheVariants.{Nothing, Ask, Abort, Undo, CollectStep, CollectAll}
-use Rattle.brahma_shell.specs.Lines.{lines_of, whole_lines_of}
-use Rattle.brahma_shell.specs.Grammar.{meaning_of, IsAccepted, IsRefused}
+use Rattle.script_lines.specs.declared.grammar.Line.{Line}
+use Rattle.script_lines.specs.declared.grammar.Line.TheVariants.{Nothing, Ask, Abort, Undo, CollectStep, CollectAll}
+use Rattle.script_lines.specs.Lines.{lines_of, whole_lines_of}
+use Rattle.script_lines.specs.Grammar.{meaning_of, IsAccepted, IsRefused}
 use Rattle.brahma_shell.specs.Points.{Point, after_notes, start_point, entries_in, MayRest, IsExactAt}
-use Rattle.brahma_shell.specs.Top.{store_ids}
 
 -- ---- the entries of a line
 
@@ -40,8 +39,8 @@ GivesStep p notes = ((n : Note) × (notes ≡ n ∷ []) × IsOfCollector n.entry
 -- steps of the collector until it may rest, or until no round is open and it has taken as many objects out of its queue as the store has ids
 pub record GivesSteps (p : Point) (notes : List Note) : Type 0 where
   pub each : AreOfCollector notes
-  pub ends : MayRest (after_notes p notes) ⊎ (((after_notes p notes).left ≡ 0) × (store_ids ≤ count_by (λ n. is_pop n.act) notes))
-  -- where no transaction is active it may rest then, and just the reachable objects are stored
+  pub ends : MayRest (after_notes p notes) ⊎ (((after_notes p notes).left ≡ 0) × (p.moment.state.ids ≤ count_by (λ n. is_pop n.act) notes))
+  -- where no transaction is active it may rest then, with an empty queue and no open round, and just the reachable objects are stored
   pub rests : p.moment.state.active ≡ [] → MayRest (after_notes p notes)
   pub exact : p.moment.state.active ≡ [] → IsExactAt (after_notes p notes)
 

@@ -1,15 +1,14 @@
 //! The lines `gc step` and `gc all`.
 ghost use Rattle.std.specs.Prelude.{◌+◌, ◌≤◌, ℕ, List, IfOk, OnOk, IfErr, IsErrOf};
 ghost use Rattle.std.specs.Io.KnownBytes.{Appends};
-ghost use Rattle.outside_io.specs.Causes.{Rose};
+ghost use Rattle.disk_model.specs.Causes.{Rose};
 ghost use Rattle.brahma_shell.specs.Replay.{StepsOnce, Performs, StopsPerform};
 
-use crate::grammar::Line;
-use crate::output;
 use crate::replay::{Stop, print};
-use crate::store::{IDS, Store};
+use crate::store::Store;
 use core_store::Collect;
 use outside_io::Sink;
+use script_lines::{Line, delete_line};
 
 /// A step of the collector that was made.
 #[derive(Clone, Copy, PartialEq, Eq, Debug)]
@@ -33,7 +32,7 @@ pub(crate) fn collect_step<W: Sink>(store: &mut Store, out: &mut W) -> Result<Op
         Collect::Idle => Ok(None),
         Collect::Did { popped, left } => Ok(Some(Stepped { popped, left })),
         Collect::Deleted { id, left } => {
-            print(out, output::delete_line(id).as_str().as_bytes())?;
+            print(out, delete_line(id).as_str().as_bytes())?;
             Ok(Some(Stepped {
                 popped: false,
                 left,
@@ -54,6 +53,7 @@ pub(crate) fn collect_all<W: Sink>(store: &mut Store, out: &mut W) -> Result<(),
     ensures write { IsErrOf result Stop.Write → Rose (W.faults out.old) (W.faults out.new) }
     ensures later { W.faults out.old ≤ W.faults out.new }
 {
+    let ids = store.ids();
     let mut popped = 0;
     'steps: loop {
         let Some(step) = collect_step(store, out)? else {
@@ -62,7 +62,7 @@ pub(crate) fn collect_all<W: Sink>(store: &mut Store, out: &mut W) -> Result<(),
         if step.popped {
             popped += 1;
         }
-        if step.left == 0 && popped >= IDS {
+        if step.left == 0 && popped >= ids {
             return Ok(());
         }
     }

@@ -2,14 +2,15 @@
 ghost use Rattle.std.specs.Prelude.{◌≡◌, ◌+◌, ◌<◌, [], ◌∷◌, ◌++◌, replicate, IsSome, Some, None, IfOk, IfErr, Option};
 ghost use Rattle.plain_model.specs.Machine.{IsInRange, transaction_of};
 ghost use Rattle.plain_model.specs.History.{end_of, left_to_undo};
+ghost use Rattle.script_lines.specs.Grammar.{IsClient};
 ghost use Rattle.brahma_shell.specs.Growth.{GrowsBy};
 ghost use Rattle.brahma_shell.specs.Replay.{answer_text, Performs, StopsCall};
 
-use crate::grammar::Line;
 use crate::replay::Stop;
 use crate::store::Store;
 use core_store::AbortStep;
 use plain_model::{Call, Entry, Reply};
+use script_lines::Line;
 
 /// A call, and what the client is answered.
 #[derive(Clone, Copy, PartialEq, Eq, Debug)]
@@ -21,6 +22,7 @@ pub(crate) struct Answer {
 
 /// Does one call.
 fn call(store: &mut Store, client: u8, call: Call) -> Result<Answer, Stop>
+    requires client { IsClient client }
     requires in_range { IsInRange 6 call }
     requires no_abort { call ≡ Call.Abort → transaction_of (end_of store.old.history).state client ≡ None }
     ensures ok { IfOk result (λ a. (a.client ≡ client) × (a.call ≡ call)
@@ -56,7 +58,7 @@ fn undo_all(store: &mut Store, client: u8)
 
 /// Does the call that a line asks.
 pub(crate) fn ask(store: &mut Store, client: u8, asked: Call) -> Result<Answer, Stop>
-    requires { IsInRange 6 asked × (asked ≡ Call.Abort → ⊥) }
+    requires { IsClient client × IsInRange 6 asked × (asked ≡ Call.Abort → ⊥) }
     ensures ok { IfOk result (λ a. Performs store.old store.new (Line.Ask client asked) (answer_text (Some a))) }
     ensures err { IfErr result (λ s. StopsCall s store.old store.new) }
 {
@@ -65,6 +67,7 @@ pub(crate) fn ask(store: &mut Store, client: u8, asked: Call) -> Result<Answer, 
 
 /// Undoes the client's transaction, and ends it.
 pub(crate) fn abort(store: &mut Store, client: u8) -> Result<Answer, Stop>
+    requires { IsClient client }
     ensures ok { IfOk result (λ a. Performs store.old store.new (Line.Abort client) (answer_text (Some a))) }
     ensures err { IfErr result (λ s. StopsCall s store.old store.new) }
 {
@@ -78,6 +81,7 @@ pub(crate) fn abort(store: &mut Store, client: u8) -> Result<Answer, Stop>
 /// Undoes the last write of the client's transaction that isn't undone, or ends the transaction where there is none.
 /// Nothing is answered to an undo.
 pub(crate) fn undo(store: &mut Store, client: u8) -> Result<Option<Answer>, Stop>
+    requires { IsClient client }
     ensures ok { IfOk result (λ a. Performs store.old store.new (Line.Undo client) (answer_text a)) }
     ensures err { IfErr result (λ s. StopsCall s store.old store.new) }
 {

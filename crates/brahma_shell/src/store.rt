@@ -1,102 +1,66 @@
-//! The store of a replay: its journal, and the frames of its pages.
+//! The store of a replay: a journal with all its frames.
 
-ghost use Rattle.std.specs.Prelude.{◌≡◌, ◌<◌, ℕ, [], ◌∷◌, true, false, length, Bool, IfOk, IsSome, is_some, None};
-ghost use Rattle.std.specs.List.{AllByRecursion};
+ghost use Rattle.std.specs.Prelude.{◌≡◌, ◌<◌, ◌≤◌, ◌*◌, ℕ, [], ◌∷◌, true, false, Bool, IfOk, IsSome, is_some, None};
 ghost use Rattle.plain_model.specs.Machine.{IsInRange, transaction_of};
-ghost use Rattle.plain_model.specs.History.{IsLegal, end_of, left_to_undo};
+ghost use Rattle.plain_model.specs.History.{IsLegal, end_of, is_stopped, left_to_undo};
 ghost use Rattle.plain_laws.specs.Serializable.{IsSerializable};
 ghost use Rattle.store_model.specs.Sound.{IsSound};
-ghost use Rattle.core_store.specs.JournalView.{cells_of, core_of, opening_of};
+ghost use Rattle.core_store.specs.JournalView.{core_of, opening_of};
 ghost use Rattle.core_store.specs.Leads.{AreLed};
-ghost use Rattle.core_store.specs.Fresh.{fresh_history, graph_of};
-ghost use Rattle.core_store.specs.Frames.{pages_held};
-ghost use Rattle.core_store.specs.Limited.{WasFull, pages_for_call};
-ghost use Rattle.core_store.specs.Logged.{want_of, pages_for_undo};
-ghost use Rattle.core_store.specs.Replaced.{next_to_restore};
-ghost use Rattle.core_store.specs.RoundView.{Passes};
-ghost use Rattle.core_store.specs.Steppings.{IsEntered, IsEvent, IsReadyForCollector, pops};
+ghost use Rattle.cell_model.specs.Graph.{graph_of};
+ghost use Rattle.core_store.specs.Fresh.{fresh_history};
+ghost use Rattle.core_store.specs.Limited.{WasFull};
+ghost use Rattle.core_store.specs.Steppings.{IsEntered, IsEvent, pops};
+ghost use Rattle.script_lines.specs.Grammar.{IsClient};
 ghost use Rattle.brahma_shell.specs.Points.{point_of, entries_in, MayRest, IsExactAt};
 ghost use Rattle.brahma_shell.specs.Growth.{GrowsBy, GrowsByEvent, BecomesFull};
 ghost use Rattle.brahma_shell.specs.Rest.{StaysQuiet};
-ghost use Rattle.brahma_shell.specs.Store.{AreFramesOf, AreHeldOf, FollowsChange};
 
-use core_store::{AbortStep, Collect, Frame, Journal, Limits, Note, Three, Want};
+use core_store::{AbortStep, Collect, Journal, Limits, Note};
+use framed_journal::FramedJournal;
 use plain_model::{Call, Entry, Ids, Memory, Reply};
 use std::alloc::Global;
 use std::marker::Model;
 
-/// The slots of an object.
-pub(crate) const SLOTS: usize = 6;
+/// How many slots an object of the program's store has.
+pub const SLOTS: usize = 6;
 
 /// How many pages the store of a replay has.
 const PAGES: u16 = 1;
 
-/// How many ids it has.
-pub(crate) const IDS: u32 = 8;
+/// How many ids a page has.
+const IDS_OF_PAGE: u32 = 8;
 
-/// A journal and the frames of its pages, in order.
+/// A journal with all its frames, whose calls are told in the words of a script.
 #[derive(Drop)]
 pub(crate) struct Store {
-    journal: Journal<SLOTS>,
-    frames: Vec<Frame<SLOTS>>,
+    journal: FramedJournal<SLOTS>,
 }
 
-/// Contracts see the journal. The frames are the pages of its store.
+/// Contracts see the journal.
 impl Model for Store {
     ghost use Rattle.core_store.specs.JournalView.{JournalView};
-    ghost use Rattle.brahma_shell.specs.Store.{AreFramesOf};
 
     ghost Value = { JournalView };
 
     ghost view = { λ s. s.journal };
-
-    ghost invariant = { λ s. AreFramesOf s.journal s.frames.items };
-}
-
-/// Puts the frames back into their places.
-fn put_back(frames: &mut Vec<Frame<SLOTS>>, mut held: Three<SLOTS>)
-    requires within { AllByRecursion (λ h. h.page < length frames.old.items) held }
-    ensures follows { FollowsChange frames.old.items frames.new.items held }
-    ensures count { length frames.new.items ≡ length frames.old.items }
-{
-    'frames: while let Some((page, frame)) = held.take() {
-        frames[page as usize] = frame;
-    }
-}
-
-/// The frames that the collector's next step needs. It looks at what they show, and goes on where there is nothing to do.
-fn frames_to_collect(journal: &mut Journal<SLOTS>, frames: &[Frame<SLOTS>]) -> Three<SLOTS>
-    requires frames { AreFramesOf journal.old frames.now }
-    ensures held { AreHeldOf journal.new result }
-    ensures ready { IsReadyForCollector journal.new result }
-    ensures same { journal.new ≡ record journal.old { round = journal.new.round } }
-    ensures core { core_of journal.new ≡ core_of journal.old }
-    ensures passes { Passes 6 (cells_of journal.old) journal.old.round journal.new.round }
-{
-    let mut held = Three::new();
-    'pages: loop {
-        match journal.wants_collect_step(&held) {
-            Want::Page(page) => held.put(page, frames[page as usize]),
-            Want::LetGo => held = Three::new(),
-            Want::Ready => return held,
-        }
-    }
 }
 
 impl Store {
     /// The fresh store: the root alone.
     pub(crate) fn fresh(alloc: Global) -> Result<Store, Memory>
-        ensures history { IfOk result (λ s. (s.history ≡ fresh_history 6 8) × (s.notes ≡ [])) }
+        ensures history { IfOk result (λ s. (s.history ≡ fresh_history 6 (8 * PAGES)) × (s.notes ≡ [])) }
         ensures limits { IfOk result (λ s. s.limits ≡ record { trace = 1048576; log = 1071644672 }) }
         ensures unmarked { IfOk result (λ s. s.marks.trace ≡ false) }
     {
-        let (journal, frames) = Journal::fresh(alloc, PAGES, Limits::GREATEST)?;
-        Ok(Store { journal, frames })
+        let journal = FramedJournal::fresh(alloc, PAGES, Limits::GREATEST)?;
+        Ok(Store { journal })
     }
 
     /// What happened so far, and what each of its events logged.
     pub(crate) fn history(&self) -> &[Note]
         ensures legal { IsLegal self.now.history }
+        ensures running { is_stopped (end_of self.now.history) ≡ false }
         ensures serializable { IsSerializable self.now.history }
         ensures opening { graph_of self.now.opening ≡ self.now.history.opening }
         ensures entries { entries_in self.now.notes ≡ self.now.history.entries }
@@ -110,44 +74,16 @@ impl Store {
         self.journal.history()
     }
 
-    /// The frames that the call needs.
-    fn frames_for(&self, client: u8, call: &Call) -> Three<SLOTS>
-        requires in_range { IsInRange 6 call.now }
-        requires no_abort { call.now ≡ Call.Abort → transaction_of (end_of self.now.history).state client ≡ None }
-        ensures held { AreHeldOf self.now result }
-        ensures ready { want_of (pages_for_call self.now client call.now) (pages_held result) ≡ Want.Ready }
-    {
-        let mut held = Three::new();
-        'pages: while let Want::Page(page) = self.journal.wants(client, call, &held) {
-            held.put(page, self.frames[page as usize]);
-        }
-        held
-    }
-
-    /// The frames that the next abort step of the client needs.
-    fn frames_for_abort(&self, client: u8) -> Three<SLOTS>
-        ensures held { AreHeldOf self.now result }
-        ensures ready { want_of (pages_for_undo (cells_of self.now) (next_to_restore (end_of self.now.history) client)) (pages_held result) ≡ Want.Ready }
-    {
-        let mut held = Three::new();
-        'pages: while let Want::Page(page) = self.journal.wants_abort_step(client, &held) {
-            held.put(page, self.frames[page as usize]);
-        }
-        held
-    }
-
     /// Does the call.
     pub(crate) fn call(&mut self, client: u8, call: &Call) -> Reply
+        requires client { IsClient client }
         requires in_range { IsInRange 6 call.now }
         requires no_abort { call.now ≡ Call.Abort → transaction_of (end_of self.old.history).state client ≡ None }
         ensures memory { result ≡ Reply.Memory → GrowsBy self.old self.new [] }
         ensures full { result ≡ Reply.TraceFull → BecomesFull self.old self.new }
         ensures entry { IsEntered result → GrowsBy self.old self.new (Entry.Call client call.now result ∷ []) }
     {
-        let mut held = self.frames_for(client, call);
-        let reply = self.journal.apply(&mut held, client, call);
-        put_back(&mut self.frames, held);
-        reply
+        self.journal.call(client, call)
     }
 
     /// Does one step of the client's abort.
@@ -156,10 +92,7 @@ impl Store {
         ensures undone { result ≡ AbortStep.Undone → (0 < left_to_undo (end_of self.old.history) client) × GrowsBy self.old self.new (Entry.Undo client ∷ []) }
         ensures ended { result ≡ AbortStep.Ended → (left_to_undo (end_of self.old.history) client ≡ 0) × GrowsBy self.old self.new (Entry.Call client Call.Abort Reply.Done ∷ []) }
     {
-        let mut held = self.frames_for_abort(client);
-        let step = self.journal.abort_step(&mut held, client);
-        put_back(&mut self.frames, held);
-        step
+        self.journal.abort_step(client)
     }
 
     /// Makes one step of the collector.
@@ -174,12 +107,17 @@ impl Store {
     {
         // The journal is sound, and what its notes say: these calls hand the facts out.
         let _ = self.journal.history();
-        let mut held = frames_to_collect(&mut self.journal, self.frames.as_slice());
+        let step = self.journal.collect_step();
         let _ = self.journal.history();
-        let step = self.journal.collect_step(&mut held);
-        let _ = self.journal.history();
-        put_back(&mut self.frames, held);
         step
+    }
+
+    /// How many ids the store has.
+    pub(crate) fn ids(&self) -> u32
+        ensures value { result ≡ self.now.history.ids }
+        ensures some { 1 ≤ result }
+    {
+        IDS_OF_PAGE * self.journal.frames().len() as u32
     }
 
     /// Whether the client has a transaction.
@@ -203,6 +141,6 @@ impl Store {
     pub(crate) fn into_journal(self) -> Journal<SLOTS>
         ensures { result ≡ self }
     {
-        self.journal
+        self.journal.into_journal()
     }
 }

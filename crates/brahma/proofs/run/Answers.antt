@@ -1,5 +1,4 @@
 use Rattle.brahma.proofs.run.Goals as goal
 
--- src/main.rt:27:1
-pub returns-in-Ok-clause-usage : goal.returns-in-Ok-clause-usage
-returns-in-Ok-clause-usage g c = rw c.in-Ok.is c.brahma-status.ensures.usage
+pub returns-in-Ok-clause-answered : goal.returns-in-Ok-clause-answered
+returns-in-Ok-clause-answered g c = rw c.in-Ok.is c.brahma.ensures

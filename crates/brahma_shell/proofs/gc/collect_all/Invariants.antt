@@ -9,12 +9,12 @@ use Rattle.brahma_shell.proofs.gc.collect_all.Given as goal
 abbrev pub invariant-steps : goal.invariant-steps
 invariant-steps g l = record {
   so_far : Collected l.fn.store l.store l.popped (g.W.Sink.written l.fn.out) (g.W.Sink.written l.out);
-  within : l.popped ≤ 8;
-  in_round : l.popped ≡ 8 → 0 < last_left l.store.notes;
+  within : l.popped ≤ l.ids;
+  in_round : l.popped ≡ l.ids → 0 < last_left l.store.notes;
   quiet : (point_of l.fn.store).moment.state.active ≡ [] → IsQuietSoFar l.store l.popped;
   later : g.W.Sink.faults l.fn.out ≤ g.W.Sink.faults l.out;
 }
 
--- each step takes one of at most 8 objects out of the queue, or leaves less of the round
+-- each step takes one of at most as many objects as the store has ids out of the queue, or leaves less of the round
 abbrev pub decreases-steps : goal.decreases-steps
-decreases-steps g l = (8 - l.popped) * 2 ^ 64 + last_left l.store.notes
+decreases-steps g l = (l.ids - l.popped) * 2 ^ 64 + last_left l.store.notes

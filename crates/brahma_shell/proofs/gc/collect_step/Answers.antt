@@ -1,11 +1,11 @@
 use Rattle.std.proofs.Common.{false, [], refl, ◌∙◌}
 use Rattle.std.proofs.lemmas.Result.{err_from_is_err_and}
 use Rattle.plain_model.specs.declared.calls.Entry.TheVariants.{Delete, Hidden}
-use Rattle.brahma_shell.specs.declared.grammar.Line.TheVariants.{CollectStep}
+use Rattle.script_lines.specs.declared.grammar.Line.TheVariants.{CollectStep}
 use Rattle.brahma_shell.specs.declared.replay.Stop.TheVariants as stop
 use Rattle.brahma_shell.proofs.DoLemmas.{stops-call}
 use Rattle.brahma_shell.proofs.GcLemmas.{steps-event, step-write}
-use Rattle.brahma_shell.proofs.OutputLemmas.{Appends-none}
+use Rattle.script_lines.proofs.OutputLemmas.{Appends-none}
 use Rattle.brahma_shell.proofs.gc.collect_step.Goals as goal
 
 pub returns-in-Did-clause-ok : goal.returns-in-Did-clause-ok

@@ -1,7 +1,7 @@
 use Rattle.std.proofs.lemmas.Result.{err_from_is_err_and}
 use Rattle.brahma_shell.proofs.DoLemmas.{stops-call}
 use Rattle.brahma_shell.proofs.GcLemmas.{steps-performs}
-use Rattle.brahma_shell.proofs.OutputLemmas.{Appends-none}
+use Rattle.script_lines.proofs.OutputLemmas.{Appends-none}
 use Rattle.brahma_shell.proofs.replay.obey.Goals as goal
 
 pub returns-in_err-ask-in-Ask-clause-stopped : goal.returns-in_err-ask-in-Ask-clause-stopped

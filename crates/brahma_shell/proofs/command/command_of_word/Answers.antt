@@ -1,0 +1,8 @@
+use Rattle.std.proofs.Common.{◌≡◌, rules, codes}
+use Rattle.std.proofs.lemmas.Slice.Eq.{text_from_reads}
+use Rattle.brahma_shell.proofs.command.command_of_word.Goals as goal
+
+pub returns-in-replay : goal.returns-in-replay
+returns-in-replay c =
+    let e : c.args.word.now ≡ codes "replay" = search (rules, text_from_reads) in
+    rw e

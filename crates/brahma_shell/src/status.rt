@@ -1,0 +1,22 @@
+//! The program's statuses.
+
+/// The command was done: the script was read to its end, and each of its lines was done.
+pub(crate) const DONE: u8 = 0;
+
+/// The words have no reading.
+pub(crate) const USAGE: u8 = 2;
+
+/// A line of the script was refused.
+pub(crate) const SCRIPT_REFUSED: u8 = 3;
+
+/// The source failed.
+pub(crate) const READ_FAULT: u8 = 4;
+
+/// The sink failed.
+pub(crate) const WRITE_FAULT: u8 = 5;
+
+/// Out of memory.
+pub(crate) const OUT_OF_MEMORY: u8 = 8;
+
+/// The history is full.
+pub(crate) const LIMIT: u8 = 9;

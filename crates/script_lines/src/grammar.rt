@@ -1,0 +1,116 @@
+//! What the lines of a script ask.
+ghost use Rattle.std.specs.Prelude.{◌≡◌, ◌<◌, IfSome, MatchOption, Option, Some};
+ghost use Rattle.script_lines.specs.Operands.{listed};
+ghost use Rattle.script_lines.specs.Grammar.{request_of, is_collector, collector_line, meaning_of, IsAccepted, IsRefused, IsClient, IsLineInRange};
+
+use crate::fields::{Operands, next_field, operands_of};
+use crate::numbers::{client_of, payload_of, register_of, slot_of, source_of};
+use crate::verb::{Verb, verb_of};
+use plain_model::Call;
+
+/// What a line of a script asks.
+#[derive(Clone, Copy, PartialEq, Eq, Debug)]
+pub enum Line {
+    /// Nothing: it has no field, or is a comment.
+    Nothing,
+    /// One call of the client's transaction.
+    Ask { client: u8, call: Call },
+    /// The client's transaction is undone, and ends.
+    Abort { client: u8 },
+    /// The last write of the client's transaction that isn't undone is undone, or the transaction
+    /// ends where there is none.
+    Undo { client: u8 },
+    /// One step of the collector.
+    CollectStep,
+    /// The collector goes on until there is nothing to do, or until it has looked at as many objects of its queue as the
+    /// store has ids.
+    CollectAll,
+}
+
+/// What a client's line asks, by its verb and the fields behind it.
+fn request_of(client: u8, verb: Verb, operands: Operands<'_>) -> Option<Line>
+    requires { IsClient client }
+    ensures value { result ≡ request_of client verb (listed operands.entry) }
+    ensures in_range { IfSome result IsLineInRange }
+{
+    let call = match (verb, operands) {
+        (Verb::Begin, Operands::Nil) => Call::Begin,
+        (Verb::Read, Operands::Three(r, slot, into)) => Call::Read {
+            r: register_of(r)?,
+            slot: slot_of(slot)?,
+            into: register_of(into)?,
+        },
+        (Verb::Make, Operands::One(into)) => Call::Make {
+            into: register_of(into)?,
+        },
+        (Verb::Store, Operands::Three(r, slot, from)) => Call::Store {
+            r: register_of(r)?,
+            slot: slot_of(slot)?,
+            from: source_of(from)?,
+        },
+        (Verb::Get, Operands::One(r)) => Call::GetPay { r: register_of(r)? },
+        (Verb::Set, Operands::Two(r, value)) => Call::SetPay {
+            r: register_of(r)?,
+            value: payload_of(value)?,
+        },
+        (Verb::Commit, Operands::Nil) => Call::Commit,
+        (Verb::Abort, Operands::Nil) => return Some(Line::Abort { client }),
+        (Verb::Undo, Operands::Nil) => return Some(Line::Undo { client }),
+        _ => return None,
+    };
+    Some(Line::Ask { client, call })
+}
+
+/// Whether the first field names the collector.
+fn is_collector(party: &[u8]) -> bool
+    ensures { result ≡ is_collector party.now }
+{
+    matches!(party, b"gc")
+}
+
+/// What a line asks of the collector, by the fields behind `gc`.
+fn collector_line(steps: &[u8], operands: Operands<'_>) -> Option<Line>
+    ensures { result ≡ collector_line steps.now (listed operands.entry) }
+{
+    match (steps, operands) {
+        (b"step", Operands::Nil) => Some(Line::CollectStep),
+        (b"all", Operands::Nil) => Some(Line::CollectAll),
+        _ => None,
+    }
+}
+
+/// What a line asks, where it is in the grammar.
+fn meaning_of(line: &[u8]) -> Option<Line>
+    ensures value { result ≡ meaning_of line.now }
+    ensures in_range { IfSome result IsLineInRange }
+{
+    let Some((party, rest)) = next_field(line) else {
+        return Some(Line::Nothing);
+    };
+    if party.starts_with(b"#") {
+        return Some(Line::Nothing);
+    }
+    let (verb, rest) = next_field(rest)?;
+    if is_collector(party) {
+        return collector_line(verb, operands_of(rest)?);
+    }
+    request_of(client_of(party)?, verb_of(verb)?, operands_of(rest)?)
+}
+
+/// The most bytes that a line may have, without its end.
+const MAX_LINE: usize = 128;
+
+/// The most lines that a script may have.
+const MAX_LINES: u32 = 65_536;
+
+/// What the line of this number asks, where it is within the limits and in the grammar.
+pub fn accepted(number: u32, line: &[u8]) -> Option<Line>
+    ensures value { MatchOption result (IsRefused number line.now)
+        (λ asked. IsAccepted number line.now × (meaning_of line.now ≡ Some asked)) }
+    ensures in_range { IfSome result IsLineInRange }
+{
+    if line.len() > MAX_LINE || number > MAX_LINES {
+        return None;
+    }
+    meaning_of(line)
+}

@@ -1,0 +1,18 @@
+//! The lines of a script: how they are read, what they ask, and the lines that are printed for them.
+//!
+//! A [`LineReader`] finds one line after another in a source, [`accepted`] tells what a line asks as a
+//! [`Line`], and the functions ending in `_line` spell what is printed.
+#![tactic(auto)]
+
+mod fields;
+mod grammar;
+mod lines;
+mod numbers;
+mod output;
+mod verb;
+
+pub use grammar::{Line, accepted};
+pub use lines::{Found, LineReader};
+pub use output::{
+    LINE_ROOM, call_line, delete_line, refused_line, stored_line, write_all, write_last,
+};

@@ -1,0 +1,79 @@
+//! What a field spells.
+ghost use Rattle.std.specs.Prelude.{◌≡◌, ◌<◌, ◌≤◌, ◌^◌, ◌+◌, ◌*◌, IsTrue, SomeIff, IfSome};
+ghost use Rattle.std.specs.Char.{is_ascii_digit, digit_value};
+ghost use Rattle.script_lines.specs.Numbers.{number_within, client_of, register_of, slot_of, payload_of, source_of};
+ghost use Rattle.script_lines.specs.Grammar.{IsClient};
+
+/// The most digits that a number may have.
+const MAX_DIGITS: usize = 20;
+
+/// The number with one more digit behind it, where it is below 2^64.
+fn with_digit(number: u64, digit: u8) -> Option<u64>
+    requires { IsTrue (is_ascii_digit digit) }
+    ensures { SomeIff result (number * 10 + digit_value digit < 2 ^ 64) (number * 10 + digit_value digit) }
+{
+    number.checked_mul(10)?.checked_add(u64::from(digit - b'0'))
+}
+
+/// The number that a field spells, where it is below 2^64.
+pub(crate) fn payload_of(field: &[u8]) -> Option<u64>
+    ensures { result ≡ payload_of field.now }
+{
+    if field.is_empty() || field.len() > MAX_DIGITS {
+        return None;
+    }
+    let mut number = 0;
+    for digit in field {
+        if !digit.is_ascii_digit() {
+            return None;
+        }
+        number = with_digit(number, *digit)?;
+    }
+    Some(number)
+}
+
+/// The number that a field spells, where it is at least `low` and below `limit`.
+fn number_within(low: u8, limit: u8, field: &[u8]) -> Option<u8>
+    ensures { result ≡ number_within low limit field.now }
+{
+    let number = payload_of(field)?;
+    if number < u64::from(low) || number >= u64::from(limit) {
+        return None;
+    }
+    Some(number as u8)
+}
+
+/// The client that a field names.
+pub(crate) fn client_of(field: &[u8]) -> Option<u8>
+    ensures value { result ≡ client_of field.now }
+    ensures within { IfSome result (λ c. IsClient c) }
+{
+    number_within(1, 65, field)
+}
+
+/// The register that a field names.
+pub(crate) fn register_of(field: &[u8]) -> Option<u8>
+    ensures value { result ≡ register_of field.now }
+    ensures below { IfSome result (λ r. r < 8) }
+{
+    number_within(0, 8, field)
+}
+
+/// The slot that a field names.
+pub(crate) fn slot_of(field: &[u8]) -> Option<u8>
+    ensures value { result ≡ slot_of field.now }
+    ensures below { IfSome result (λ s. s < 6) }
+{
+    number_within(0, 6, field)
+}
+
+/// What a slot is to hold: the id in a register, or nothing for `-`.
+pub(crate) fn source_of(field: &[u8]) -> Option<Option<u8>>
+    ensures value { result ≡ source_of field.now }
+    ensures below { IfSome result (λ f. IfSome f (λ r. r < 8)) }
+{
+    if field == b"-".as_slice() {
+        return Some(None);
+    }
+    Some(Some(register_of(field)?))
+}
