@@ -1,4 +1,4 @@
-//! Runs with the counts of strong and weak pointers that were worked out by hand, and audits.
+//! Runs whose audits were worked out by hand.
 ghost use Rattle.std.specs.Prelude.{◌≡◌, ◌≢◌, ◌<◌, ◌≤◌, true};
 ghost use Rattle.plain_model.specs.Machine.{IsInRange};
 
@@ -27,8 +27,8 @@ enum Step {
     Undo(u8, AbortStep),
     /// The collector makes 200 steps, more than there is work for. This is the last object that it deletes, or 0.
     Collect(u32),
-    /// So many strong pointers lead to the object, and so many weak ones.
-    Counts(u32, u32, u32),
+    /// An audit tells that so many objects are live, and that no strong pointer leads to so many of them.
+    Audit(u32, u32),
 }
 
 /// Whether the call is in range, and no abort.
@@ -89,18 +89,17 @@ fn collect(journal: &mut FramedJournal<6>) -> u32 {
     deleted
 }
 
-/// How many strong and how many weak pointers lead to the object, by the frame of its page.
-fn counts(journal: &FramedJournal<6>, id: u32) -> Option<(u32, u32)> {
-    if id == 0 || id > 8192 {
-        return None;
+/// How many objects are live, and to how many of them no strong pointer leads, by an audit that finds no difference.
+fn audited(alloc: Global, journal: &FramedJournal<6>) -> Option<(u32, u32)> {
+    let report = audit_journal(alloc, journal).ok()?;
+    if report.differences.items().is_empty() {
+        return Some((report.live, report.zero));
     }
-    let frame = journal.frames().get(((id - 1) / 8) as usize)?;
-    let cell = frame.page.cell(id);
-    Some((cell.strong, cell.weak))
+    None
 }
 
 /// Makes the step.
-fn perform(rt: &impl Abort, journal: &mut FramedJournal<6>, step: Step) {
+fn perform(rt: &impl Abort, alloc: Global, journal: &mut FramedJournal<6>, step: Step) {
     match step {
         Step::Ask(client, call, reply) => {
             assert_eq!(rt; ask(journal, client, &call), Some(reply), "{step:?}");
@@ -115,22 +114,19 @@ fn perform(rt: &impl Abort, journal: &mut FramedJournal<6>, step: Step) {
             assert_eq!(rt; undo(journal, client), Some(told), "{step:?}");
         }
         Step::Collect(last) => assert_eq!(rt; collect(journal), last, "{step:?}"),
-        Step::Counts(id, strong, weak) => {
-            assert_eq!(rt; counts(journal, id), Some((strong, weak)), "{step:?}");
+        Step::Audit(live, zero) => {
+            assert_eq!(rt; audited(alloc, journal), Some((live, zero)), "{step:?}");
         }
     }
 }
 
-/// How many objects are live after these steps in a fresh store of three pages, and how many of them no strong pointer
-/// leads to. The audit finds no difference.
-fn left_by(rt: &impl Abort, alloc: Global, steps: &[Step]) -> Result<(u32, u32), Memory> {
+/// Makes the steps in a fresh store of three pages.
+fn run(rt: &impl Abort, alloc: Global, steps: &[Step]) -> Result<(), Memory> {
     let mut journal = FramedJournal::fresh(alloc, 3, Limits::GREATEST)?;
     for step in steps {
-        perform(rt, &mut journal, *step);
+        perform(rt, alloc, &mut journal, *step);
     }
-    let report = audit_journal(alloc, &journal)?;
-    assert!(rt; report.differences.items().is_empty());
-    Ok((report.live, report.zero))
+    Ok(())
 }
 
 /// A store into a slot.
@@ -146,15 +142,14 @@ fn a_pointer_beside_another_is_weak(rt: HostRuntime) -> Result<(), Fail> {
         Step::Ask(1, store(0, 0, Some(1)), Reply::Done),
         Step::Ask(1, store(1, 0, Some(1)), Reply::Done),
         Step::Ask(1, store(0, 1, Some(1)), Reply::Done),
-        Step::Counts(2, 1, 2),
-        Step::Counts(1, 1, 0),
+        Step::Audit(2, 0),
         Step::Ask(1, store(0, 0, None), Reply::Done),
         Step::Ask(1, Call::Commit, Reply::Done),
-        Step::Counts(2, 0, 2),
+        Step::Audit(2, 1),
         Step::Collect(0),
-        Step::Counts(2, 1, 1),
+        Step::Audit(2, 0),
     ];
-    assert_eq!(rt; left_by(&rt, rt.alloc(), &steps)?, (2, 0));
+    run(&rt, rt.alloc(), &steps)?;
     Ok(())
 }
 
@@ -167,15 +162,15 @@ fn an_undone_store_comes_back_weak(rt: HostRuntime) -> Result<(), Fail> {
         Step::Ask(1, Call::Commit, Reply::Done),
         Step::Ask(2, Call::Begin, Reply::Done),
         Step::Ask(2, store(0, 0, None), Reply::Done),
-        Step::Counts(2, 0, 0),
+        Step::Audit(2, 1),
         Step::Undo(2, AbortStep::Undone),
         Step::Ask(2, Call::Commit, Reply::Aborting),
         Step::Undo(2, AbortStep::Ended),
-        Step::Counts(2, 0, 1),
+        Step::Audit(2, 1),
         Step::Collect(0),
-        Step::Counts(2, 1, 0),
+        Step::Audit(2, 0),
     ];
-    assert_eq!(rt; left_by(&rt, rt.alloc(), &steps)?, (2, 0));
+    run(&rt, rt.alloc(), &steps)?;
     Ok(())
 }
 
@@ -197,12 +192,12 @@ fn a_store_on_three_pages(rt: HostRuntime) -> Result<(), Fail> {
         },
         Step::Ask(1, store(0, 3, Some(1)), Reply::Done),
         Step::Ask(1, store(0, 3, Some(2)), Reply::Done),
-        Step::Counts(9, 0, 0),
-        Step::Counts(17, 1, 0),
+        Step::Audit(17, 15),
         Step::Ask(1, Call::Commit, Reply::Done),
         Step::Collect(16),
+        Step::Audit(2, 0),
     ];
-    assert_eq!(rt; left_by(&rt, rt.alloc(), &steps)?, (2, 0));
+    run(&rt, rt.alloc(), &steps)?;
     Ok(())
 }
 
