@@ -10,3 +10,4 @@ pub mod Joint
 pub mod Moments
 pub mod CrashImages
 pub mod PlainDisk
+pub mod Events
