@@ -5,7 +5,7 @@ use Rattle.std.proofs.Common.{arith, suc, ◌+◌, ◌<◌, take, length, ◌≡
 use Rattle.std.proofs.lemmas.List.{append_assoc, append-nil}
 use Rattle.disk_model.specs.declared.area.Area.{Area}
 use Rattle.disk_model.specs.Areas.{Bytes, in_area, with_area, is_same}
-use Rattle.disk_model.specs.Pending.{Change, Step, Held, Event, changed, after_step, replayed, elsewhere, after_event, after_change, after_sync, held_after, settled, holding}
+use Rattle.disk_model.specs.Pending.{Change, Step, Held, Event, changed, after_step, replayed, elsewhere, after_event, after_change, after_sync, held_after, settled}
 use Rattle.disk_model.proofs.Areas.{put_twice, in_put, same_is, in_apart, is_same_sym}
 use Rattle.disk_model.proofs.Steps.{replayed-append, one_more, same_after_sync}
 use Rattle.disk_model.proofs.Time.{held_after-push}

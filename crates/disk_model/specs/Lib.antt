@@ -10,3 +10,4 @@ pub mod CrashImages
 pub mod PlainDisk
 pub mod PlainLaws
 pub mod Stays
+pub mod MemoryLaws
