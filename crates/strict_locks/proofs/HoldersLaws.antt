@@ -1,7 +1,5 @@
 -- Laws on the holders of one object.
-use Rattle.std.proofs.Common.{◌≡◌, ◌≢◌, ℕ, true, false, not, ◌&&◌, ◌||◌, ◌==◌, cond, Option, None, Some, is_none, unwrap_or, IfSome, sym, ◌∙◌, ap, subst, arith}
-use Rattle.std.specs.Ordering.{nat_cmp}
-use Rattle.std.specs.BTreeMap.{is_at}
+use Rattle.std.proofs.Common.{◌≡◌, ◌≢◌, ℕ, true, false, not, ◌&&◌, ◌||◌, ◌==◌, cond, Option, None, Some, is_none, unwrap_or, nat_eq, IfSome, sym, ◌∙◌, ap, subst, arith}
 use Rattle.std.specs.Map.{lookup, set_value}
 use Rattle.std.proofs.lemmas.Bool.{cond_both}
 use Rattle.std.proofs.lemmas.Bool.Decides.{nat_tests}
@@ -29,18 +27,18 @@ pub least-other_owner : (h : Holders) (pass o : ℕ) → IsExclusive h → h.own
 least-other_owner h pass o exclusive owner other = let l = least-owner h o exclusive owner in ((other, l.0), λ q stands. l.1 q stands.1)
 
 -- who holds an object that has an entry
-pub holders_of-found : (table : Table) (id : ℕ) (h : Holders) → lookup (is_at (nat_cmp id)) table ≡ Some h → holders_of table id ≡ h
+pub holders_of-found : (table : Table) (id : ℕ) (h : Holders) → lookup (nat_eq id) table ≡ Some h → holders_of table id ≡ h
 holders_of-found table id h found = ap (λ o. unwrap_or o no_holders) found
 
 -- what was found, written back, changes nothing
-pub entries-same : (old new : Table) (id : ℕ) (h written : Holders) → lookup (is_at (nat_cmp id)) old ≡ Some h → written ≡ h → new ≡ set_value (is_at (nat_cmp id)) old written → new ≡ old
-entries-same old new id h written found same writes = writes ∙ set_value_same (is_at (nat_cmp id)) old written (found ∙ ap Some (sym same))
+pub entries-same : (old new : Table) (id : ℕ) (h written : Holders) → lookup (nat_eq id) old ≡ Some h → written ≡ h → new ≡ set_value (nat_eq id) old written → new ≡ old
+entries-same old new id h written found same writes = writes ∙ set_value_same (nat_eq id) old written (found ∙ ap Some (sym same))
 
 -- every object with an entry stays held when one gets a lock that somebody holds
-pub AreHeld-put : (old new : Table) (id : ℕ) (h : Holders) (p : ℕ) → Holds h p → ((q : ℕ) → lookup (is_at (nat_cmp q)) new ≡ cond (is_at (nat_cmp id) q) (Some h) (lookup (is_at (nat_cmp q)) old)) → AreHeld old → AreHeld new
+pub AreHeld-put : (old new : Table) (id : ℕ) (h : Holders) (p : ℕ) → Holds h p → ((q : ℕ) → lookup (nat_eq q) new ≡ cond (nat_eq id q) (Some h) (lookup (nat_eq q) old)) → AreHeld old → AreHeld new
 AreHeld-put old new id h p holds puts held x =
     let P : Option Holders → Type 0 = λ o. IfSome o (λ g. (q : ℕ) × Holds g q) in
-    subst P (sym (puts x)) (cond_both (is_at (nat_cmp id) x) (Some h) (lookup (is_at (nat_cmp x)) old) P (λ _. (p, holds)) (λ _. held x))
+    subst P (sym (puts x)) (cond_both (nat_eq id x) (Some h) (lookup (nat_eq x) old) P (λ _. (p, holds)) (λ _. held x))
 
 -- where another client holds the object, it still does so when this one has given its lock back
 pub another-left : (old new : Holders) (pass : ℕ) (found : Option ℕ) → IsLeastOrNone (StandsInWayOfOwn old pass) found → is_none found ≡ false → ((p : ℕ) → is_owner new p ≡ (not (p == pass) && is_owner old p)) → ((p : ℕ) → is_sharer new p ≡ (not (p == pass) && is_sharer old p)) → (p : ℕ) × Holds new p

@@ -1,5 +1,5 @@
 -- Who holds which object.
-use Rattle.std.specs.Prelude.{◌≡◌, ◌≢◌, ℕ, ◌≤◌, Bool, true, false, not, ◌&&◌, ◌||◌, ◌==◌, List, [], Option, None, unwrap_or, MatchOption, IfSome}
+use Rattle.std.specs.Prelude.{◌≡◌, ◌≢◌, ℕ, ◌≤◌, Bool, true, false, not, ◌&&◌, ◌||◌, ◌==◌, List, [], Option, None, unwrap_or, nat_eq, MatchOption, IfSome}
 use Rattle.std.specs.List.{list_any}
 use Rattle.std.specs.Option.{option_map_or}
 use Rattle.std.specs.Ordering.{nat_cmp}
@@ -11,7 +11,7 @@ pub record Holders : Type 0 where
   pub owner : Option ℕ
   pub sharers : List ℕ
 
--- the objects that are held, ascending, each with its holders
+-- the objects that are held, each once, with its holders, in no order that matters
 abbrev pub Table : Type 0
 Table = List (ℕ × Holders)
 
@@ -21,7 +21,7 @@ no_holders = record { owner = None; sharers = [] }
 
 -- who holds the object
 abbrev pub holders_of : Table → ℕ → Holders
-holders_of table id = unwrap_or (lookup (is_at (nat_cmp id)) table) no_holders
+holders_of table id = unwrap_or (lookup (nat_eq id) table) no_holders
 
 -- whether the client owns the object
 abbrev pub is_owner : Holders → ℕ → Bool
@@ -103,4 +103,4 @@ pub record GivesBack (old new : Table) (pass id : ℕ) : Type 0 where
 
 -- no object without a holder has an entry
 abbrev pub AreHeld : Table → Type 0
-AreHeld table = (id : ℕ) → IfSome (lookup (is_at (nat_cmp id)) table) (λ h. (p : ℕ) × Holds h p)
+AreHeld table = (id : ℕ) → IfSome (lookup (nat_eq id) table) (λ h. (p : ℕ) × Holds h p)

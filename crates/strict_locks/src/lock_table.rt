@@ -6,6 +6,7 @@ ghost use Rattle.std.specs.Prelude.{◌≡◌, ℕ, [], OnOk, OnErr, IfErr, true
 use crate::object_lock::ObjectLock;
 use crate::refusal::LockRefusal;
 use crate::{clients, objects};
+use indexmap::IndexMap;
 use std::alloc::Global;
 use std::collections::BTreeMap;
 use std::marker::Model;
@@ -20,7 +21,7 @@ use std::marker::Model;
 #[derive(Debug, Drop)]
 pub struct LockTable {
     alloc: Global,
-    locks: BTreeMap<u32, ObjectLock>,
+    locks: IndexMap<u32, ObjectLock>,
     lists: BTreeMap<u8, Vec<u32>>,
 }
 
@@ -45,7 +46,7 @@ impl LockTable {
     {
         LockTable {
             alloc,
-            locks: BTreeMap::new(alloc),
+            locks: IndexMap::new(alloc),
             lists: BTreeMap::new(alloc),
         }
     }

@@ -4,11 +4,11 @@ ghost use Rattle.strict_locks.specs.Locks.{holders_of, is_holder, Holds, IsExclu
 ghost use Rattle.strict_locks.specs.Clients.{NamesHeld};
 
 use crate::object_lock::ObjectLock;
+use indexmap::IndexMap;
 use std::alloc::AllocError;
-use std::collections::BTreeMap;
 
 /// Whether the client owns or shares the object.
-pub(crate) fn is_held_by(locks: &BTreeMap<u32, ObjectLock>, pass: u8, id: u32) -> bool
+pub(crate) fn is_held_by(locks: &IndexMap<u32, ObjectLock>, pass: u8, id: u32) -> bool
     ensures { result ≡ is_holder (holders_of locks.now.entries id) pass }
 {
     match locks.get(&id) {
@@ -18,21 +18,21 @@ pub(crate) fn is_held_by(locks: &BTreeMap<u32, ObjectLock>, pass: u8, id: u32) -
 }
 
 /// The client that keeps this one from sharing the object.
-pub(crate) fn other_owner(locks: &BTreeMap<u32, ObjectLock>, pass: u8, id: u32) -> Option<u8>
+pub(crate) fn other_owner(locks: &IndexMap<u32, ObjectLock>, pass: u8, id: u32) -> Option<u8>
     ensures { IsLeastOrNone (StandsInWayOfShare (holders_of locks.now.entries id) pass) result }
 {
     locks.get(&id)?.other_owner(pass)
 }
 
 /// The least client that keeps this one from owning the object.
-pub(crate) fn other_holder(locks: &BTreeMap<u32, ObjectLock>, pass: u8, id: u32) -> Option<u8>
+pub(crate) fn other_holder(locks: &IndexMap<u32, ObjectLock>, pass: u8, id: u32) -> Option<u8>
     ensures { IsLeastOrNone (StandsInWayOfOwn (holders_of locks.now.entries id) pass) result }
 {
     locks.get(&id)?.other_holder(pass)
 }
 
 /// The least client that holds the object.
-pub(crate) fn least_holder(locks: &BTreeMap<u32, ObjectLock>, id: u32) -> Option<u8>
+pub(crate) fn least_holder(locks: &IndexMap<u32, ObjectLock>, id: u32) -> Option<u8>
     ensures least { IsLeastOrNone (Holds (holders_of locks.now.entries id)) result }
     ensures exclusive { IsExclusive (holders_of locks.now.entries id) }
 {
@@ -41,7 +41,7 @@ pub(crate) fn least_holder(locks: &BTreeMap<u32, ObjectLock>, id: u32) -> Option
 
 /// Adds the client to those that share the object. Out of memory leaves the locks as they were.
 pub(crate) fn share(
-    locks: &mut BTreeMap<u32, ObjectLock>,
+    locks: &mut IndexMap<u32, ObjectLock>,
     pass: u8,
     id: u32,
 ) -> Result<(), AllocError>
@@ -64,7 +64,7 @@ pub(crate) fn share(
 
 /// Makes the client the owner of the object. Out of memory leaves the locks as they were.
 pub(crate) fn own(
-    locks: &mut BTreeMap<u32, ObjectLock>,
+    locks: &mut IndexMap<u32, ObjectLock>,
     pass: u8,
     id: u32,
 ) -> Result<(), AllocError>
@@ -86,7 +86,7 @@ pub(crate) fn own(
 }
 
 /// Takes the client from the holders of the object.
-fn give_back(locks: &mut BTreeMap<u32, ObjectLock>, pass: u8, id: u32)
+fn give_back(locks: &mut IndexMap<u32, ObjectLock>, pass: u8, id: u32)
     ensures gives { GivesBack locks.old.entries locks.new.entries pass id }
     ensures held { AreHeld locks.old.entries → AreHeld locks.new.entries }
 {
@@ -94,14 +94,14 @@ fn give_back(locks: &mut BTreeMap<u32, ObjectLock>, pass: u8, id: u32)
         return;
     };
     if lock.other_holder(pass).is_none() {
-        locks.remove(&id);
+        locks.swap_remove(&id);
     } else if let Some(lock) = locks.get_mut(&id) {
         lock.give_back(pass);
     }
 }
 
 /// Gives all of the client's locks back. The list names each object that the client holds.
-pub(crate) fn give_back_all(locks: &mut BTreeMap<u32, ObjectLock>, pass: u8, ids: &[u32])
+pub(crate) fn give_back_all(locks: &mut IndexMap<u32, ObjectLock>, pass: u8, ids: &[u32])
     requires { NamesHeld locks.old.entries pass ids.now }
     ensures drops { DropsAll locks.old.entries locks.new.entries pass }
     ensures held { AreHeld locks.old.entries → AreHeld locks.new.entries }
