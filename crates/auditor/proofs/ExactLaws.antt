@@ -9,12 +9,12 @@ use Rattle.cell_model.specs.Cells.{Cell as StoredCell, cell_at, is_live, pointer
 use Rattle.cell_model.specs.Consistent.{AreConsistent}
 use Rattle.cell_model.proofs.RecordLaws.{pointers_to-none}
 use Rattle.cell_page.specs.declared.cell.Cell.{Cell}
-use Rattle.cell_page.specs.Format.{place_of, free_cell}
+use Rattle.cell_page.specs.Format.{place_of, free_cell, page_of_id}
 use Rattle.cell_page.specs.Stored.{cell_of, HoldsPage}
 use Rattle.cell_page.proofs.HeldPages.{held_cell}
 use Rattle.core_store.specs.declared.frame.Frame.{Frame}
 use Rattle.core_store.specs.Fresh.{store_of}
-use Rattle.core_store.specs.Frames.{page_of_id, AllAgree}
+use Rattle.core_store.specs.Frames.{AllAgree}
 use Rattle.core_store.proofs.PageLaws.{id-low, id-high}
 use Rattle.auditor.specs.declared.difference.Difference.{Difference}
 use Rattle.auditor.specs.Recount.{joined, strong_found, weak_found, found_at, page_in, kept_at, difference_between, difference_at, differences_of}

@@ -3,9 +3,8 @@ use Rattle.std.specs.Prelude.{◌≡◌, ℕ, ◌+◌, ◌*◌, ◌<◌, ◌&&�
 use Rattle.std.specs.List.{range_with_len, flat_map}
 use Rattle.cell_model.specs.Cells.{Cell as StoredCell, cell_at, is_live, pointers_to, own_strong}
 use Rattle.cell_page.specs.declared.cell.Cell.{Cell}
-use Rattle.cell_page.specs.Format.{IsPage, place_of, free_cell}
+use Rattle.cell_page.specs.Format.{IsPage, place_of, free_cell, page_of_id}
 use Rattle.core_store.specs.declared.frame.Frame.{Frame}
-use Rattle.core_store.specs.Frames.{page_of_id}
 use Rattle.auditor.specs.declared.difference.Difference.{Difference}
 
 -- two counts in one number

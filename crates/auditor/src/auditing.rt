@@ -12,16 +12,10 @@ use crate::counts::count_all;
 use crate::difference::{Difference, Differences};
 use crate::replay::{get, replay};
 use crate::report::Report;
-use cell_page::Cell;
+use cell_page::{CELLS_OF_PAGE, Cell, ROOT};
 use core_store::{Frame, Note};
 use plain_model::Memory;
 use std::alloc::Global;
-
-/// How many cells a page has.
-const CELLS: usize = 8;
-
-/// The root's id.
-const ROOT: u32 = 1;
 
 /// How many pointers lead to an id: the strong ones, that of the root's own among them, and the weak ones.
 #[derive(Clone, Copy)]
@@ -94,7 +88,7 @@ fn kept<const SLOTS: usize>(frames: &[Frame<SLOTS>], id: u32) -> u64
     requires within { id ≤ 8 * length frames.now }
     ensures { result ≡ kept_at frames.now id }
 {
-    let frame = &frames[(id as usize - 1) / CELLS];
+    let frame = &frames[(id as usize - 1) / CELLS_OF_PAGE];
     let cell = frame.page.cell(id);
     joined(cell.strong, cell.weak)
 }
@@ -157,7 +151,7 @@ fn find_differences<const SLOTS: usize>(
     ensures { IfOk result (λ list. list.items ≡ differences_of (map cell_of cells.now) frames.now) }
 {
     let mut list = Vec::new(alloc);
-    for i in 0..(CELLS * frames.len()) as u32 {
+    for i in 0..(CELLS_OF_PAGE * frames.len()) as u32 {
         let id = i + 1;
         let found = found(cells, zeros, ones, id);
         let found = joined(found.strong, found.weak);
@@ -184,7 +178,7 @@ fn recount<const SLOTS: usize>(
     let zeros = count_all(alloc, cells, false)?;
     let ones = count_all(alloc, cells, true)?;
     let list = find_differences(alloc, cells, zeros.as_slice(), ones.as_slice(), frames)?;
-    let ids = (CELLS * frames.len()) as u32;
+    let ids = (CELLS_OF_PAGE * frames.len()) as u32;
     Ok(Report {
         live: live_in(cells),
         zero: zero_in(cells, zeros.as_slice(), ones.as_slice(), ids),

@@ -16,6 +16,7 @@ ghost use Rattle.brahma_shell.specs.Points.{point_of, entries_in, MayRest, IsExa
 ghost use Rattle.brahma_shell.specs.Growth.{GrowsBy, GrowsByEvent, BecomesFull};
 ghost use Rattle.brahma_shell.specs.Rest.{StaysQuiet};
 
+use cell_page::CELLS_OF_PAGE;
 use core_store::{AbortStep, Collect, Journal, Limits, Note};
 use framed_journal::FramedJournal;
 use plain_model::{Call, Entry, Ids, Memory, Reply};
@@ -27,9 +28,6 @@ pub const SLOTS: usize = 6;
 
 /// How many pages the store of a replay has.
 const PAGES: u16 = 1;
-
-/// How many ids a page has.
-const IDS_OF_PAGE: u32 = 8;
 
 /// A journal with all its frames, whose calls are told in the words of a script.
 #[derive(Drop)]
@@ -117,7 +115,7 @@ impl Store {
         ensures value { result ≡ self.now.history.ids }
         ensures some { 1 ≤ result }
     {
-        IDS_OF_PAGE * self.journal.frames().len() as u32
+        CELLS_OF_PAGE as u32 * self.journal.frames().len() as u32
     }
 
     /// Whether the client has a transaction.

@@ -7,13 +7,14 @@ use Rattle.plain_model.specs.declared.calls.Entry.{Entry}
 use Rattle.plain_model.specs.History.{start_of, end_of, moment_after}
 use Rattle.std.proofs.lemmas.Bool.Decides.{nat_tests}
 use Rattle.std.proofs.lemmas.List.{length-map, append-nil}
+use Rattle.cell_page.specs.Format.{page_of_id}
 use Rattle.core_store.specs.declared.journal.Journal.TheInside.{Inside}
 use Rattle.core_store.specs.declared.note.Note.{Note}
 use Rattle.core_store.specs.declared.three.HeldFrame.{HeldFrame}
 use Rattle.core_store.specs.declared.trace.Trace.{Trace}
 use Rattle.core_store.specs.declared.want.Want.TheVariants.{Ready}
 use Rattle.core_store.specs.Collecting.{CanCollect, pages_to_collect}
-use Rattle.core_store.specs.Frames.{Agree, is_held, pages_held, page_of_id}
+use Rattle.core_store.specs.Frames.{Agree, is_held, pages_held}
 use Rattle.core_store.specs.JournalView.{JournalView, cells_of, core_of}
 use Rattle.core_store.specs.Journal.{view_of, IsSound, Keeps}
 use Rattle.core_store.specs.Limited.{is_past_limit, pages_for_call, pages_for_collector, entries_counted, WasFull}

@@ -37,9 +37,10 @@ use Rattle.green_walk.specs.Sweeping.{Sweeping as Sweep, next as next_of_sweep, 
 use Rattle.green_walk.specs.Greening.{Greening}
 use Rattle.green_walk.proofs.SweepLaws.{free-first, drop-some, free-law}
 use Rattle.log_record.specs.declared.cell_record.CellRecord.TheVariants as logs
+use Rattle.cell_page.specs.Format.{page_of_id}
 use Rattle.core_store.specs.declared.three.HeldFrame.{HeldFrame}
 use Rattle.core_store.specs.declared.act.Act.TheVariants as act
-use Rattle.core_store.specs.Frames.{Agree, is_held, page_of_id}
+use Rattle.core_store.specs.Frames.{Agree, is_held}
 use Rattle.core_store.specs.RoundView.{RoundView, Sweeping, round_of, IsSweeping, IsInStep, Proceeds, free}
 use Rattle.core_store.specs.Replaced.{replaced}
 use Rattle.core_store.specs.Transactions.{Running, running_at}

@@ -13,14 +13,14 @@ use Rattle.cell_page.specs.Format.{IsCell, IsPage, first_id, place_of, free_cell
 use Rattle.core_store.specs.declared.frame.Frame.{Frame}
 use Rattle.core_store.specs.Fresh.{AreFresh}
 
-place-is : (number place : ℕ) → place < 8 → place_of (8 * number + place + 1) ≡ place
-place-is number place within = omega arith
+place-is : (number first place : ℕ) → first ≡ first_id number → place < 8 → place_of (first + place) ≡ place
+place-is number first place begins within = omega (arith, begins, within)
 
 -- one cell more of a page
-pub page-more : {slots : ℕ} (number place : ℕ) (page : List (Cell slots)) (before some more : List (Cell slots)) (c : Cell slots) → IsPage number page → place < 8 → c ≡ get_or page (place_of (8 * number + place + 1)) c
+pub page-more : {slots : ℕ} (number first place : ℕ) (page : List (Cell slots)) (before some more : List (Cell slots)) (c : Cell slots) → IsPage number page → first ≡ first_id number → place < 8 → c ≡ get_or page (place_of (first + place)) c
     → some ≡ before ++ take place page → more ≡ some ++ c ∷ [] → more ≡ before ++ take (place + 1) page
-page-more number place page before some more c rules within is so_far next =
-    let here : c ≡ get_or page place c = is ∙ ap (λ (k : ℕ). get_or page k c) (place-is number place within) in
+page-more number first place page before some more c rules begins within is so_far next =
+    let here : c ≡ get_or page place c = is ∙ ap (λ (k : ℕ). get_or page k c) (place-is number first place begins within) in
     let there : place < length page = omega (arith, rules.eight) in
     next ∙ ap (λ (cs : List (Cell _)). cs ++ c ∷ []) so_far ∙ append_assoc before (take place page) (c ∷ [])
     ∙ ap (λ (d : Cell _). before ++ (take place page ++ d ∷ [])) here

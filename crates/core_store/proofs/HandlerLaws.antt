@@ -15,6 +15,7 @@ use Rattle.plain_model.specs.History.{Moment}
 use Rattle.strict_locks.specs.Locks.{Table, holders_of, is_sharer, StandsInWayOfOwn, Nobody, AddsShare, AddsOwner}
 use Rattle.log_record.specs.declared.cell_record.CellRecord.TheVariants as logs
 use Rattle.cell_page.specs.declared.cell.Cell.{Cell}
+use Rattle.cell_page.specs.Format.{page_of_id}
 use Rattle.cell_page.specs.Stored.{cell_of}
 use Rattle.cell_model.specs.Cells.{Cell as StoredCell, cell_at, pointer_at, pointer_in, is_live, edit, pays, blank_cell}
 use Rattle.store_model.specs.Core.{Core}
@@ -23,7 +24,7 @@ use Rattle.strength_counts.proofs.Slots.{target_in-pointers}
 use Rattle.core_store.specs.declared.three.HeldFrame.{HeldFrame}
 use Rattle.core_store.specs.declared.plan.Plan.TheVariants as plan
 use Rattle.core_store.specs.Changes.{has_no_strong}
-use Rattle.core_store.specs.Frames.{page_of_id, is_held, Agree, IsSameElsewhere}
+use Rattle.core_store.specs.Frames.{is_held, Agree, IsSameElsewhere}
 use Rattle.core_store.specs.RoundView.{RoundView}
 use Rattle.core_store.specs.Slots.{CanChange, IsReadyToChange, IsReadyToEdit}
 use Rattle.core_store.specs.Transactions.{Running, just_begun, loaded, writing}

@@ -4,12 +4,12 @@ use Rattle.std.specs.Prelude.{◌==◌, ◌&&◌, ◌||◌}
 use Rattle.std.proofs.lemmas.Bool.{eqb-true, eqb-false}
 use Rattle.std.proofs.lemmas.List.{get_or-take, get_or-drop}
 use Rattle.cell_model.specs.Cells.{Cell, Pointer, blank_cell, cell_at, pointer_in, pointer_at, same}
-use Rattle.cell_page.specs.Format.{first_id, place_of}
+use Rattle.cell_page.specs.Format.{first_id, page_of_id, place_of}
 use Rattle.cell_page.specs.Stored.{page_of}
 use Rattle.core_store.specs.declared.three.HeldFrame.{HeldFrame}
 use Rattle.core_store.specs.declared.round_at.RoundAt.{RoundAt}
 use Rattle.core_store.specs.declared.round_at.RoundAt.TheVariants as at
-use Rattle.core_store.specs.Frames.{page_of_id, is_held, Agree}
+use Rattle.core_store.specs.Frames.{is_held, Agree}
 use Rattle.core_store.specs.Logged.{if_any, object_and_targets}
 use Rattle.core_store.specs.Slots.{HoldsPagesOf}
 use Rattle.core_store.specs.Changes.{is_counted_strong}

@@ -9,11 +9,12 @@ use Rattle.plain_model.specs.declared.calls.Call.{Call as TransactionCall}
 use Rattle.plain_laws.proofs.Entries.{same_or_apart}
 use Rattle.cell_model.specs.Cells.{Cell, pointer_at, is_live}
 use Rattle.store_model.specs.Core.{Core}
+use Rattle.cell_page.specs.Format.{page_of_id}
 use Rattle.core_store.specs.declared.plan.Plan.{Plan}
 use Rattle.core_store.specs.declared.plan.Plan.TheVariants as plan
 use Rattle.core_store.specs.declared.three.HeldFrame.{HeldFrame}
 use Rattle.core_store.specs.declared.want.Want.TheVariants.{Page}
-use Rattle.core_store.specs.Frames.{page_of_id, pages_held, AreOnce, IsNext}
+use Rattle.core_store.specs.Frames.{pages_held, AreOnce, IsNext}
 use Rattle.core_store.specs.Logged.{want_of, if_any, object_and_targets, objects_of_undo}
 use Rattle.core_store.specs.Plans.{IsGranted}
 use Rattle.core_store.specs.Ready.{objects_of_plan}

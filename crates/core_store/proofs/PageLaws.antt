@@ -6,11 +6,11 @@ use Rattle.std.proofs.Math.Bool.{or-false, or_assoc}
 use Rattle.std.proofs.lemmas.List.{map-append, drop-set-lt, drop-set-add, take-set-le}
 use Rattle.std.proofs.lemmas.List.Folds.{list_any_at}
 use Rattle.cell_model.specs.Cells.{Cell as StoredCell, cell_at, edit}
-use Rattle.cell_page.specs.Format.{first_id}
+use Rattle.cell_page.specs.Format.{first_id, page_of_id}
 use Rattle.cell_page.specs.Stored.{page_of, HoldsPage}
 use Rattle.cell_page.proofs.HeldPages.{HoldsPage-other}
 use Rattle.core_store.specs.declared.three.HeldFrame.{HeldFrame}
-use Rattle.core_store.specs.Frames.{page_of_id, pages_held, is_page_among, is_held, AreOnce, Agree, IsSameElsewhere}
+use Rattle.core_store.specs.Frames.{pages_held, is_page_among, is_held, AreOnce, Agree, IsSameElsewhere}
 
 -- ---- ids and their pages
 

@@ -6,12 +6,12 @@ use Rattle.std.proofs.lemmas.List.{length-take, get_or-take, length-set}
 use Rattle.std.proofs.lemmas.List.Elements.{All-from_recursion}
 use Rattle.cell_model.specs.Cells.{Cell as StoredCell, cell_at, edit}
 use Rattle.cell_page.specs.declared.cell.Cell.{Cell}
-use Rattle.cell_page.specs.Format.{IsCell, HasId, first_id, place_of}
+use Rattle.cell_page.specs.Format.{IsCell, HasId, first_id, page_of_id, place_of}
 use Rattle.cell_page.specs.Stored.{cell_of, HoldsPage}
 use Rattle.cell_page.proofs.Pages.{place_within}
 use Rattle.cell_page.proofs.HeldPages.{held_cell, HoldsPage-edit}
 use Rattle.core_store.specs.declared.three.HeldFrame.{HeldFrame}
-use Rattle.core_store.specs.Frames.{pages_held, is_held, page_of_id, Agree}
+use Rattle.core_store.specs.Frames.{pages_held, is_held, Agree}
 use Rattle.core_store.specs.Inside.{AreKept}
 use Rattle.core_store.proofs.PageLaws.{id-low, id-high, AreOnce-pages, Agree-edit}
 

@@ -11,10 +11,10 @@ use Rattle.cell_model.specs.Cells.{Cell, cell_at}
 use Rattle.store_model.specs.Core.{Core}
 use Rattle.log_record.specs.declared.cell_record.CellRecord.{CellRecord}
 use Rattle.log_record.specs.declared.cell_record.CellRecord.TheVariants as logs
+use Rattle.cell_page.specs.Format.{page_of_id}
 use Rattle.core_store.specs.declared.plan.Plan.{Plan}
 use Rattle.core_store.specs.declared.plan.Plan.TheVariants as plan
 use Rattle.core_store.specs.Changes.{stored_change, store_record}
-use Rattle.core_store.specs.Frames.{page_of_id}
 use Rattle.core_store.specs.Logged.{stored_target, record_in, logged_by, objects_in, pages_for, object_and_targets}
 use Rattle.core_store.specs.Work.{work_of, pages_of_work}
 use Rattle.core_store.specs.Tables.{TablesView}

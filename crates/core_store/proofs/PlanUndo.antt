@@ -12,7 +12,7 @@ use Rattle.plain_model.specs.History.{left_to_undo}
 use Rattle.plain_laws.proofs.Entries.{same_or_apart}
 use Rattle.cell_model.specs.Cells.{Cell}
 use Rattle.store_model.specs.Core.{Core}
-use Rattle.core_store.specs.Frames.{page_of_id}
+use Rattle.cell_page.specs.Format.{page_of_id}
 use Rattle.core_store.specs.Logged.{objects_of_undo, pages_for_undo}
 use Rattle.core_store.specs.Replaced.{replaced, next_to_restore}
 use Rattle.core_store.specs.Transactions.{Running, running_at}

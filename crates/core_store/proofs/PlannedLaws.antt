@@ -5,10 +5,11 @@ use Rattle.std.specs.List.{AllByRecursion}
 use Rattle.plain_model.specs.declared.calls.Call.{Call as TransactionCall}
 use Rattle.plain_model.specs.declared.calls.Reply.{Reply}
 use Rattle.plain_model.specs.Machine.{IsInRange}
+use Rattle.cell_page.specs.Format.{page_of_id}
 use Rattle.core_store.specs.declared.handlers.Outcome.{Outcome}
 use Rattle.core_store.specs.declared.plan.Plan.{Plan}
 use Rattle.core_store.specs.declared.three.HeldFrame.{HeldFrame}
-use Rattle.core_store.specs.Frames.{page_of_id, is_held}
+use Rattle.core_store.specs.Frames.{is_held}
 use Rattle.core_store.specs.Owed.{entries_needed}
 use Rattle.core_store.specs.Plans.{IsGranted, IsRefused, IsPlanned, entries_needed_by}
 use Rattle.core_store.specs.Ready.{Does, DoesPlanned, IsReady, IsReadyToCall, objects_of_plan}

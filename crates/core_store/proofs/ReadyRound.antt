@@ -20,11 +20,12 @@ use Rattle.green_walk.specs.Greening.{Greening, waits, next as next_of_green, Is
 use Rattle.green_walk.specs.GreenLaws.{IsAskedOf}
 use Rattle.green_walk.proofs.GreenAsked.{asked as asked-law, waits-live}
 use Rattle.green_walk.proofs.GreenAnswers.{test-law}
+use Rattle.cell_page.specs.Format.{page_of_id}
 use Rattle.core_store.specs.declared.three.HeldFrame.{HeldFrame}
 use Rattle.core_store.specs.declared.round_at.RoundAt.{RoundAt}
 use Rattle.core_store.specs.declared.round_at.RoundAt.TheVariants as at
 use Rattle.core_store.specs.declared.want.Want.TheVariants.{Ready}
-use Rattle.core_store.specs.Frames.{page_of_id, pages_held, is_held}
+use Rattle.core_store.specs.Frames.{pages_held, is_held}
 use Rattle.core_store.specs.Logged.{want_of}
 use Rattle.core_store.specs.Slots.{HoldsPagesOf}
 use Rattle.core_store.specs.RoundView.{RoundView, Closed, Walking, Sweeping, asked, asked_by_walk, asked_by_green, asked_by_sweep, round_of, IsWalking, IsSweeping, IsInStep}

@@ -6,8 +6,9 @@ use Rattle.cell_model.specs.Cells.{Cell, edit}
 use Rattle.strength_counts.specs.Held.{Held, is_held as is_cell_held, AreOnce as AreCellsOnce}
 use Rattle.strength_counts.specs.Laws.{with_held}
 use Rattle.strength_counts.proofs.StoreEdits.{with_held-edit}
+use Rattle.cell_page.specs.Format.{page_of_id}
 use Rattle.core_store.specs.declared.three.HeldFrame.{HeldFrame}
-use Rattle.core_store.specs.Frames.{page_of_id, pages_held, Agree}
+use Rattle.core_store.specs.Frames.{pages_held, Agree}
 use Rattle.core_store.specs.Changes.{has_no_strong}
 use Rattle.core_store.specs.Slots.{IsChanged, HasPlace}
 use Rattle.core_store.proofs.PageLaws.{is_held-pages, elsewhere-refl, elsewhere-trans, elsewhere-pages, elsewhere-edit}

@@ -9,13 +9,13 @@ use Rattle.cell_model.specs.Cells.{Pointer, Cell as StoredCell, null, cell_at, p
 use Rattle.cell_model.proofs.EditLaws.{live-there, live-within}
 use Rattle.strength_counts.proofs.StoreEdits.{edit-same}
 use Rattle.cell_page.specs.declared.cell.Cell.{Cell}
-use Rattle.cell_page.specs.Format.{IsCell}
+use Rattle.cell_page.specs.Format.{IsCell, page_of_id}
 use Rattle.cell_page.specs.Stored.{pointers_from, cell_of}
 use Rattle.cell_page.proofs.PointerLemmas.{length-pointers_from, get_or-pointers_from}
 use Rattle.strength_counts.specs.Held.{Held}
 use Rattle.core_store.specs.declared.slots.SlotChange.{SlotChange}
 use Rattle.core_store.specs.declared.three.HeldFrame.{HeldFrame}
-use Rattle.core_store.specs.Frames.{page_of_id, is_held, Agree}
+use Rattle.core_store.specs.Frames.{is_held, Agree}
 use Rattle.core_store.specs.Changes.{has_no_strong}
 use Rattle.core_store.specs.Logged.{if_any, object_and_targets}
 use Rattle.core_store.specs.Slots.{HoldsCellsOf, IsReadyToChange, HasPlace}

@@ -11,10 +11,11 @@ use Rattle.std.proofs.lemmas.List.{length-map}
 use Rattle.std.proofs.lemmas.List.Folds.{list_any-append, list_all-append}
 use Rattle.std.proofs.lemmas.Map.Keys.{IsDistinct-cons}
 use Rattle.std.proofs.lemmas.Map.Made.{length-le_from_is_member}
+use Rattle.cell_page.specs.Format.{page_of_id}
 use Rattle.core_store.specs.declared.three.HeldFrame.{HeldFrame}
 use Rattle.core_store.specs.declared.want.Want.{Want}
 use Rattle.core_store.specs.declared.want.Want.TheVariants.{Page, LetGo, Ready}
-use Rattle.core_store.specs.Frames.{page_of_id, pages_held, is_page_among, are_all_among, is_held, AreOnce}
+use Rattle.core_store.specs.Frames.{pages_held, is_page_among, are_all_among, is_held, AreOnce}
 use Rattle.core_store.specs.Logged.{begins_late, next_page, want_of}
 use Rattle.core_store.proofs.PageLaws.{page-there, is_held-among, pages_held-put}
 

@@ -3,10 +3,11 @@ use Rattle.std.proofs.Common.{◌≡◌, ℕ, true, false, List, [], ◌∷◌, 
 use Rattle.std.specs.Prelude.{◌==◌, ◌||◌, not, Bool, if◌then◌else◌, Option, Some, None}
 use Rattle.std.proofs.lemmas.Bool.{cases_Bool}
 use Rattle.cell_model.specs.Cells.{Cell as StoredCell, pointer_at}
+use Rattle.cell_page.specs.Format.{page_of_id}
 use Rattle.core_store.specs.declared.three.HeldFrame.{HeldFrame}
 use Rattle.core_store.specs.declared.want.Want.{Want}
 use Rattle.core_store.specs.declared.want.Want.TheVariants.{LetGo}
-use Rattle.core_store.specs.Frames.{page_of_id, pages_held, is_page_among, are_all_among, is_held, holds_nothing}
+use Rattle.core_store.specs.Frames.{pages_held, is_page_among, are_all_among, is_held, holds_nothing}
 use Rattle.core_store.specs.Logged.{if_any, begins_late, next_page, want_of}
 use Rattle.core_store.specs.Work.{page_or, pages_of_work, three_pages}
 use Rattle.core_store.proofs.PageLaws.{is_held-among}

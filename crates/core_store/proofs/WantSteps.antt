@@ -3,11 +3,12 @@ use Rattle.std.proofs.Common.{◌≡◌, ℕ, ◌+◌, ◌<◌, true, false, Lis
 use Rattle.std.specs.Prelude.{Some}
 use Rattle.cell_model.specs.Cells.{Cell as StoredCell, cell_at, pointer_in, pointer_at}
 use Rattle.cell_page.specs.declared.cell.Cell.{Cell}
+use Rattle.cell_page.specs.Format.{page_of_id}
 use Rattle.cell_page.specs.Stored.{cell_of}
 use Rattle.strength_counts.proofs.Slots.{target_in-pointers}
 use Rattle.core_store.specs.declared.want.Work.{Work}
 use Rattle.core_store.specs.declared.want.Want.TheVariants.{Page}
-use Rattle.core_store.specs.Frames.{page_of_id, is_page_among}
+use Rattle.core_store.specs.Frames.{is_page_among}
 use Rattle.core_store.specs.Logged.{next_page}
 use Rattle.core_store.specs.Work.{page_or, three_pages}
 

@@ -1,14 +1,10 @@
 -- Pages of the store that are held, and what it is for them to agree with its cells.
-use Rattle.std.specs.Prelude.{◌≡◌, ℕ, ◌-◌, ◌/◌, ◌*◌, ◌<◌, ◌==◌, Bool, true, false, List, [], ◌∷◌, length, map, Some, slice_get}
+use Rattle.std.specs.Prelude.{◌≡◌, ℕ, ◌*◌, ◌<◌, ◌==◌, Bool, true, false, List, [], ◌∷◌, length, map, Some, slice_get}
 use Rattle.std.specs.List.{list_any, list_all, AllByRecursion}
 use Rattle.cell_model.specs.Cells.{Cell as StoredCell}
 use Rattle.cell_page.specs.Stored.{page_of, HoldsPage}
 use Rattle.core_store.specs.declared.frame.Frame.{Frame}
 use Rattle.core_store.specs.declared.three.HeldFrame.{HeldFrame}
-
--- the page of an id: page 0 has the ids 1 to 8, and so on
-abbrev pub page_of_id : ℕ → ℕ
-page_of_id id = (id - 1) / 8
 
 -- the pages of the held frames, in the order in which they were put
 abbrev pub pages_held : {slots : ℕ} → List (HeldFrame slots) → List ℕ

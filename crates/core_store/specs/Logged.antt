@@ -12,8 +12,9 @@ use Rattle.cell_model.specs.Cells.{Cell, cell_at, pointer_at}
 use Rattle.log_record.specs.declared.cell_record.CellRecord.{CellRecord}
 use Rattle.log_record.specs.declared.cell_record.CellRecord.TheVariants as logs
 use Rattle.log_record.specs.Records.{payload_place, after_cell_record}
+use Rattle.cell_page.specs.Format.{page_of_id}
 use Rattle.core_store.specs.Changes.{stored_change, restored_change, store_record, undo_record}
-use Rattle.core_store.specs.Frames.{page_of_id, is_page_among, are_all_among}
+use Rattle.core_store.specs.Frames.{is_page_among, are_all_among}
 use Rattle.core_store.specs.declared.want.Want.{Want}
 use Rattle.core_store.specs.declared.want.Want.TheVariants.{Page, LetGo, Ready}
 

@@ -6,9 +6,10 @@ use Rattle.cell_model.specs.Cells.{Pointer, Cell, is_live, is_strong, cell_at, p
 use Rattle.cell_model.specs.Consistent.{AreConsistent}
 use Rattle.strength_counts.specs.Held.{Held, is_held as is_cell_held}
 use Rattle.strength_counts.specs.Laws.{ArePart}
+use Rattle.cell_page.specs.Format.{page_of_id}
 use Rattle.core_store.specs.declared.three.HeldFrame.{HeldFrame}
 use Rattle.core_store.specs.declared.slots.SlotChange.{SlotChange}
-use Rattle.core_store.specs.Frames.{page_of_id, is_held, Agree, IsSameElsewhere}
+use Rattle.core_store.specs.Frames.{is_held, Agree, IsSameElsewhere}
 use Rattle.core_store.specs.Changes.{after_change, has_no_strong, is_counted_strong}
 use Rattle.core_store.specs.Logged.{object_and_targets}
 

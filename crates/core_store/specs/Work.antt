@@ -5,10 +5,10 @@ use Rattle.cell_model.specs.Cells.{Cell, pointer_at}
 use Rattle.plain_model.specs.declared.write.Place.{Place}
 use Rattle.plain_model.specs.declared.write.Place.TheVariants.{Slot}
 use Rattle.plain_model.specs.declared.write.Write.{Write}
+use Rattle.cell_page.specs.Format.{page_of_id}
 use Rattle.core_store.specs.declared.plan.Plan.{Plan}
 use Rattle.core_store.specs.declared.plan.Plan.TheVariants as plan
 use Rattle.core_store.specs.declared.want.Work.{Work}
-use Rattle.core_store.specs.Frames.{page_of_id}
 use Rattle.core_store.specs.Logged.{object_and_targets}
 
 -- the object on which a plan works, with its slot and what that is to hold, where it changes one

@@ -6,12 +6,9 @@ ghost use Rattle.cell_page.specs.Format.{IsSlotCount, IsPage};
 ghost use Rattle.core_store.specs.Fresh.{AreFresh};
 
 use crate::frame::Frame;
-use cell_page::{Cell, Page};
+use cell_page::{CELLS_OF_PAGE, Cell, Page, first_id};
 use plain_model::Memory;
 use std::alloc::Global;
-
-/// How many cells a page has.
-const CELLS: u32 = 8;
 
 /// The frames of a fresh store of so many pages, in order.
 pub(crate) fn frames<const SLOTS: usize>(
@@ -33,16 +30,16 @@ pub(crate) fn frames<const SLOTS: usize>(
 /// Appends the cells of the page of this number.
 fn append_page<const SLOTS: usize>(
     cells: &mut Vec<Cell<SLOTS>>,
-    number: u32,
+    number: u16,
     page: &Page<SLOTS>,
 ) -> Result<(), Memory>
     requires few { number < 1024 }
     requires rules { IsPage number page.now }
     ensures { IfOk result (λ _. cells.new.items ≡ cells.old.items ++ page.now) }
 {
-    for place in 0..CELLS {
-        let id = CELLS * number + place + 1;
-        cells.push(*page.cell(id))?;
+    let first = first_id(number);
+    for place in 0..CELLS_OF_PAGE as u32 {
+        cells.push(*page.cell(first + place))?;
     }
     Ok(())
 }
@@ -57,7 +54,7 @@ pub(crate) fn cells<const SLOTS: usize>(
 {
     let mut cells = Vec::new(alloc);
     for (number, frame) in frames.iter().enumerate() {
-        append_page(&mut cells, number as u32, &frame.page)?;
+        append_page(&mut cells, number as u16, &frame.page)?;
     }
     Ok(cells)
 }

@@ -15,9 +15,6 @@ use std::alloc::Global;
 use std::collections::{BTreeMap, BTreeSet};
 use strict_locks::LockTable;
 
-/// The root's id.
-pub(crate) const ROOT: u32 = 1;
-
 /// The free ids, the marks, the locks and the transactions.
 #[derive(Debug, Drop)]
 pub(crate) struct Tables<const SLOTS: usize> {

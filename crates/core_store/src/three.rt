@@ -2,19 +2,16 @@
 
 ghost use Rattle.std.specs.Prelude.{◌≡◌, ℕ, ◌<◌, ◌==◌, List, [], ◌∷◌, ◌++◌, length, true, false, slice_index_or, IfSome, IfNone};
 ghost use Rattle.cell_model.specs.Cells.{Cell as StoredCell, cell_at, edit};
-ghost use Rattle.cell_page.specs.Format.{IsSlotCount, IsCell};
+ghost use Rattle.cell_page.specs.Format.{IsSlotCount, IsCell, page_of_id};
 ghost use Rattle.cell_page.specs.Stored.{cell_of};
-ghost use Rattle.core_store.specs.Frames.{page_of_id, pages_held, is_held, holds_nothing, are_all_among, AreOnce, Agree};
+ghost use Rattle.core_store.specs.Frames.{pages_held, is_held, holds_nothing, are_all_among, AreOnce, Agree};
 
 use crate::frame::Frame;
-use cell_page::{Cell, Page};
+use cell_page::{Cell, Page, page_of};
 use std::marker::Model;
 
 /// How many pages a call works on at most.
 const MOST: usize = 3;
-
-/// How many cells a page has.
-const CELLS: u32 = 8;
 
 /// A frame that is held, and the number of its page.
 #[derive(Clone, Copy)]
@@ -69,14 +66,6 @@ fn are_among<const SLOTS: usize>(frames: &[HeldFrame<SLOTS>], pages: &[u16]) -> 
         }
     }
     true
-}
-
-/// The page of an id.
-pub(crate) fn page_of(id: u32) -> u16
-    requires { (0 < id) × (id < 65536) }
-    ensures { result ≡ page_of_id id }
-{
-    ((id - 1) / CELLS) as u16
 }
 
 impl<const SLOTS: usize> Three<SLOTS> {

@@ -6,7 +6,8 @@ ghost use Rattle.core_store.specs.Views.{view_of};
 ghost use Rattle.core_store.specs.Steps.{Ends, TakesAt, AreNames, is_queued, JoinsIfQueued, NamesNothing};
 
 use crate::references;
-use crate::tables::{ROOT, Tables};
+use crate::tables::Tables;
+use cell_page::ROOT;
 
 impl<const SLOTS: usize> Tables<SLOTS> {
     /// The client's transaction is over: it gives its locks back, owes nothing more and names nothing any more.

@@ -2,12 +2,13 @@
 
 ghost use Rattle.std.specs.Prelude.{◌≡◌, ℕ, ◌<◌, List, IfSome, [], ◌∷◌, true, map};
 ghost use Rattle.cell_model.specs.Cells.{Cell as StoredCell, cell_at, is_live, pointer_at};
-ghost use Rattle.cell_page.specs.Format.{IsSlotCount};
-ghost use Rattle.core_store.specs.Frames.{page_of_id, pages_held, is_held, Agree, AreOnce};
+ghost use Rattle.cell_page.specs.Format.{IsSlotCount, page_of_id};
+ghost use Rattle.core_store.specs.Frames.{pages_held, is_held, Agree, AreOnce};
 ghost use Rattle.core_store.specs.Logged.{want_of, next_page};
 ghost use Rattle.core_store.specs.Work.{IsWork, HasSmallTargets, pages_of_work, page_or, three_pages};
 
-use crate::three::{Three, page_of};
+use crate::three::Three;
+use cell_page::page_of;
 
 /// What is to be done before a call can be made.
 #[derive(Clone, Copy, PartialEq, Eq, Debug)]

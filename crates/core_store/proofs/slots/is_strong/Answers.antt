@@ -1,5 +1,6 @@
 use Rattle.std.proofs.Common.{rules, true, ◌≡◌, ◌≢◌, ℕ, ◌<◌, ◌≤◌, sym, ◌∙◌, subst, arith, ⊎_elim}
-use Rattle.core_store.specs.Frames.{page_of_id, is_held}
+use Rattle.cell_page.specs.Format.{page_of_id}
+use Rattle.core_store.specs.Frames.{is_held}
 use Rattle.core_store.proofs.SlotReady.{first-of}
 use Rattle.core_store.proofs.SlotStart.{old-of}
 use Rattle.core_store.proofs.LookLaws.{beq-same, strong-look, null-look}

@@ -1,6 +1,7 @@
 use Rattle.std.proofs.Common.{rules, ◌≡◌, ℕ, ◌<◌, true, sym, ap, ◌∙◌, subst}
 use Rattle.cell_model.specs.Cells.{Cell as StoredCell}
-use Rattle.core_store.specs.Frames.{is_held, page_of_id}
+use Rattle.cell_page.specs.Format.{page_of_id}
+use Rattle.core_store.specs.Frames.{is_held}
 use Rattle.core_store.proofs.SlotStart.{pays-rules, pays-edit}
 use Rattle.core_store.proofs.slots.pay.Goals as goal
 

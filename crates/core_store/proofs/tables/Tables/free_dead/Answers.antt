@@ -1,6 +1,6 @@
 use Rattle.std.proofs.Common.{Some, true, false, rules, ◌≡◌, ℕ, ◌<◌, List, refl, sym, ap, ◌∙◌, subst}
 use Rattle.cell_page.specs.declared.cell.Cell.{Cell}
-use Rattle.cell_page.specs.Format.{IsCell}
+use Rattle.cell_page.specs.Format.{IsCell, page_of_id}
 use Rattle.cell_model.specs.Cells.{Cell as StoredCell, edit, blank_cell}
 use Rattle.red_walk.specs.Walk.{removed}
 use Rattle.green_walk.specs.declared.sweep.Found.TheVariants.{Made}
@@ -8,7 +8,7 @@ use Rattle.green_walk.specs.Sweeping.{found}
 use Rattle.log_record.specs.declared.cell_record.CellRecord.TheVariants as logs
 use Rattle.core_store.specs.declared.act.Act.TheVariants as act
 use Rattle.core_store.specs.declared.round_at.RoundAt.TheVariants as at
-use Rattle.core_store.specs.Frames.{Agree, is_held, page_of_id}
+use Rattle.core_store.specs.Frames.{Agree, is_held}
 use Rattle.core_store.specs.RoundView.{Rounds, Sweeping, IsInStep}
 use Rattle.core_store.specs.Tables.{TablesView}
 use Rattle.core_store.specs.Collecting.{Collected}

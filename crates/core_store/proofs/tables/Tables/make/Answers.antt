@@ -6,8 +6,8 @@ use Rattle.core_store.proofs.MapLaws.{owed-loaded, on_err}
 use Rattle.core_store.proofs.HandlerLaws.{small-make, nobody-free, does-make}
 use Rattle.cell_page.specs.declared.cell.Cell.{Cell}
 use Rattle.cell_model.specs.Cells.{Cell as StoredCell, edit, blank_cell}
-use Rattle.core_store.specs.Frames.{Agree, is_held, page_of_id}
-use Rattle.cell_page.specs.Format.{IsCell}
+use Rattle.core_store.specs.Frames.{Agree, is_held}
+use Rattle.cell_page.specs.Format.{IsCell, page_of_id}
 use Rattle.strict_locks.specs.Locks.{Table as Locks}
 use Rattle.core_store.specs.Tables.{TablesView}
 use Rattle.ref_tables.specs.Refs.{entries_of}

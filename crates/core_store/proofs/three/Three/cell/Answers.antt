@@ -10,11 +10,11 @@ returns-clause-stored g c = λ cells agree.
     let place = c.place_of-place.ensures in
     let d = c.index-self-place.result in
     ap (λ (x : Cell g.row.SLOTS). cell_of x) c.cell.ensures.placed
-    ∙ cell-place cells c.self.inside.frames c.self.inside.count c.place_of-place.result c.args.id d (rw (← c.self.view_is) at agree) c.requires.above.0 place.within (place.page d ∙ c.page_of.ensures) c.cell.result.now
+    ∙ cell-place cells c.self.inside.frames c.self.inside.count c.place_of-place.result c.args.id d (rw (← c.self.view_is) at agree) c.requires.above.0 place.within (place.page d ∙ c.page_of.ensures.page) c.cell.result.now
 
 pub returns-clause-rules : goal.returns-clause-rules
 returns-clause-rules g c =
     let place = c.place_of-place.ensures in
     let d = c.index-self-place.result in
     subst (λ (x : Cell g.row.SLOTS). IsCell c.args.id x) (sym c.cell.ensures.placed)
-    (IsCell-place c.requires.agrees.0 c.self.inside.frames c.self.inside.count c.place_of-place.result c.args.id d (rw (← c.self.view_is) at c.requires.agrees.1) c.requires.above.0 place.within (place.page d ∙ c.page_of.ensures) c.cell.result.now)
+    (IsCell-place c.requires.agrees.0 c.self.inside.frames c.self.inside.count c.place_of-place.result c.args.id d (rw (← c.self.view_is) at c.requires.agrees.1) c.requires.above.0 place.within (place.page d ∙ c.page_of.ensures.page) c.cell.result.now)

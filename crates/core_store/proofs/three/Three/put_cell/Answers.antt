@@ -16,7 +16,7 @@ returns-clause-stored g c = λ cells agree.
     let d = c.index-self-place.result in
     let h : HeldFrame g.row.SLOTS = record { page = (get_or c.self.inside.frames c.place_of-place.result d).page; frame = record { page = c.put_cell.new.self } } in
     Agree-place cells c.self.inside.frames c.self.inside.count c.place_of-place.result h d c.args.cell c.self.invariant (rw (← c.self.view_is) at agree)
-    c.requires.above.0 c.requires.rules place.within (place.page d ∙ c.page_of.ensures) refl c.put_cell.ensures.placed
+    c.requires.above.0 c.requires.rules place.within (place.page d ∙ c.page_of.ensures.page) refl c.put_cell.ensures.placed
 
 pub returns-clause-pages : goal.returns-clause-pages
 returns-clause-pages g c =
