@@ -14,7 +14,7 @@ use Rattle.core_store.specs.Frames.{pages_held}
 use Rattle.core_store.specs.Logged.{want_of}
 use Rattle.core_store.specs.JournalView.{JournalView, cells_of, core_of, with_note}
 use Rattle.core_store.specs.Limited.{is_past_limit, pages_for_collector}
-use Rattle.core_store.specs.RoundView.{asked, is_event, left_of, Proceeds}
+use Rattle.core_store.specs.RoundView.{asked, is_event, left_of, Passes, Proceeds}
 use Rattle.core_store.specs.Events.{core_after}
 use Rattle.core_store.specs.Collects.{Collects, BeginsGreen, entry_of}
 use Rattle.core_store.specs.Collecting.{answer_of}
@@ -39,6 +39,12 @@ left_told _ = None
 abbrev pub pops : Collect → Bool
 pops (Did popped left) = popped
 pops _ = false
+
+-- the collector looked at slots one after another, at each of which nothing was to do, and nothing else changed
+pub record OnlyLooks (slots : ℕ) (old new : JournalView) : Type 0 where
+  pub passes : Passes slots (cells_of old) old.round new.round
+  pub same : new ≡ record old { round = new.round }
+  pub core : core_of new ≡ core_of old
 
 -- the pages are held that the collector's next event needs, unless the history is full
 pub record IsReadyForCollector {slots : ℕ} (j : JournalView) (held : List (HeldFrame slots)) : Type 0 where

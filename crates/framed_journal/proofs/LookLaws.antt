@@ -11,7 +11,7 @@ use Rattle.core_store.specs.Limited.{pages_for_collector}
 use Rattle.core_store.specs.Logged.{want_of}
 use Rattle.core_store.specs.RoundView.{RoundView, Passes, none, more, left_of}
 use Rattle.framed_journal.specs.Holding.{AreFramesOf, AreHeldOf}
-use Rattle.framed_journal.specs.Steps.{Looks}
+use Rattle.core_store.specs.Steppings.{OnlyLooks}
 use Rattle.framed_journal.proofs.HoldLaws.{less_room}
 
 -- what was held is held still
@@ -26,11 +26,11 @@ looks-behind : (slots : ℕ) (cells : List Cell) {u v w : RoundView} → Passes 
 looks-behind slots cells p none = p
 looks-behind slots cells p (more x q e) = more x (looks-behind slots cells p q) e
 
-pub Looks-none : (slots : ℕ) (j : JournalView) → Looks slots j j
-Looks-none slots j = record { passes = none; same = refl; core = refl }
+pub OnlyLooks-none : (slots : ℕ) (j : JournalView) → OnlyLooks slots j j
+OnlyLooks-none slots j = record { passes = none; same = refl; core = refl }
 
-pub Looks-more : (slots : ℕ) (i j k : JournalView) → Looks slots i j → Passes slots (cells_of j) j.round k.round → k ≡ record j { round = k.round } → core_of k ≡ core_of j → Looks slots i k
-Looks-more slots i j k before passes same core = record {
+pub OnlyLooks-more : (slots : ℕ) (i j k : JournalView) → OnlyLooks slots i j → Passes slots (cells_of j) j.round k.round → k ≡ record j { round = k.round } → core_of k ≡ core_of j → OnlyLooks slots i k
+OnlyLooks-more slots i j k before passes same core = record {
   passes = looks-behind slots (cells_of i) before.passes (subst (λ (cells : List Cell). Passes slots cells j.round k.round) (ap (λ (x : Core). x.cells) before.core) passes);
   same = same ∙ ap (λ (x : JournalView). let y : JournalView = record x { round = k.round } in y) before.same;
   core = core ∙ before.core;

@@ -12,27 +12,21 @@ use Rattle.core_store.specs.Events.{after_event}
 use Rattle.core_store.specs.JournalView.{JournalView, cells_of, core_of, with_note}
 use Rattle.core_store.specs.Logged.{logged_by_undo}
 use Rattle.core_store.specs.Replaced.{next_to_restore}
-use Rattle.core_store.specs.RoundView.{Passes, left_of, touched_by_record}
-use Rattle.core_store.specs.Steppings.{MakesEvent}
+use Rattle.core_store.specs.RoundView.{left_of, touched_by_record}
+use Rattle.core_store.specs.Steppings.{MakesEvent, OnlyLooks}
 
 -- ---- the collector
-
--- the collector looked at slots one after another, at each of which nothing was to do, and nothing else changed
-pub record Looks (slots : ℕ) (old new : JournalView) : Type 0 where
-  pub passes : Passes slots (cells_of old) old.round new.round
-  pub same : new ≡ record old { round = new.round }
-  pub core : core_of new ≡ core_of old
 
 -- the collector looked on as far as this journal, and there made the event that came next
 pub record MakesNextEvent (slots : ℕ) (old new : JournalView) (result : Collect) : Type 0 where
   pub looked : JournalView
-  pub looks : Looks slots old looked
+  pub looks : OnlyLooks slots old looked
   pub event : MakesEvent slots looked new result
 
 -- the collector looked on as far as this journal, and there told that the history is full
 pub record MarksFull (slots : ℕ) (old new : JournalView) : Type 0 where
   pub looked : JournalView
-  pub looks : Looks slots old looked
+  pub looks : OnlyLooks slots old looked
   pub marked : new ≡ record looked { marks = record looked.marks { trace = true } }
 
 -- ---- an abort

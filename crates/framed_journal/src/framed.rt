@@ -20,7 +20,7 @@ ghost use Rattle.core_store.specs.Safe.{IsSafe};
 ghost use Rattle.core_store.specs.RoundView.{Closed, ids_in, left_of, touched_by_record, IsInStep};
 ghost use Rattle.core_store.specs.Owed.{entries_needed};
 ghost use Rattle.core_store.specs.Limited.{AreLimits, WasFull, is_past_limit};
-ghost use Rattle.core_store.specs.Steppings.{IsEntered, IsEvent, left_told, pops};
+ghost use Rattle.core_store.specs.Steppings.{IsEntered, IsEvent, left_told, pops, OnlyLooks};
 ghost use Rattle.core_store.specs.Fresh.{fresh_history, store_of, AreByIds};
 ghost use Rattle.core_store.specs.Clients.{AreNumbered};
 ghost use Rattle.core_store.specs.Spelled.{AreSpelled, AreOfIds};
@@ -28,7 +28,7 @@ ghost use Rattle.core_store.specs.RedWalks.{no_walk, AreWalked};
 ghost use Rattle.core_store.specs.Logged.{logged_by, logged_by_undo};
 ghost use Rattle.core_store.specs.Replaced.{next_to_restore};
 ghost use Rattle.framed_journal.specs.Holding.{AreFramesOf};
-ghost use Rattle.framed_journal.specs.Steps.{Looks, MakesNextEvent, MarksFull, UndoesAll, with_undos};
+ghost use Rattle.framed_journal.specs.Steps.{MakesNextEvent, MarksFull, UndoesAll, with_undos};
 
 use crate::holding::{hold_for_abort_step, hold_for_call, hold_for_collect_step, put_back};
 use cell_page::Cell;
@@ -237,7 +237,7 @@ impl<const SLOTS: usize> FramedJournal<SLOTS> {
         ensures marked { result ≡ Collect.TraceFull → MarksFull SLOTS self.old self.new }
         ensures idle { (result ≡ Collect.Idle) ↔ (is_past_limit self.old 1 ≡ false) × (self.old.queue ≡ []) × (self.old.round ≡ Closed) }
         ensures unchanged { result ≡ Collect.Idle → self.new ≡ self.old }
-        ensures memory { result ≡ Collect.Memory → Looks SLOTS self.old self.new }
+        ensures memory { result ≡ Collect.Memory → OnlyLooks SLOTS self.old self.new }
         ensures event { IsEvent result → MakesNextEvent SLOTS self.old self.new result }
         ensures safe { (id left : ℕ) → result ≡ Collect.Deleted id left → IsReachableInSomeOutcome (end_of self.old.history).state id → ⊥ }
         ensures lower { (left : ℕ) → left_told result ≡ Some left → (left ≡ left_of SLOTS self.new.round) × (pops result ≡ false → left < last_left self.old.notes) }

@@ -8,9 +8,8 @@ ghost use Rattle.core_store.specs.Frames.{pages_held};
 ghost use Rattle.core_store.specs.Limited.{pages_for_call};
 ghost use Rattle.core_store.specs.Logged.{want_of, pages_for_undo};
 ghost use Rattle.core_store.specs.Replaced.{next_to_restore};
-ghost use Rattle.core_store.specs.Steppings.{IsReadyForCollector};
+ghost use Rattle.core_store.specs.Steppings.{IsReadyForCollector, OnlyLooks};
 ghost use Rattle.framed_journal.specs.Holding.{AreFramesOf, AreHeldOf, FollowsChange};
-ghost use Rattle.framed_journal.specs.Steps.{Looks};
 
 use core_store::{Frame, Journal, Three, Want};
 use plain_model::Call;
@@ -64,7 +63,7 @@ pub(crate) fn hold_for_collect_step<const SLOTS: usize>(
     requires none { held.old ≡ [] }
     ensures held { AreHeldOf journal.new held.new }
     ensures ready { IsReadyForCollector journal.new held.new }
-    ensures looks { Looks SLOTS journal.old journal.new }
+    ensures looks { OnlyLooks SLOTS journal.old journal.new }
 {
     'pages: loop {
         match journal.wants_collect_step(held) {

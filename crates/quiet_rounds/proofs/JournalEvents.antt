@@ -19,12 +19,12 @@ use Rattle.core_store.specs.Collects.{Collects}
 use Rattle.core_store.specs.Collecting.{is_pop, answer_of}
 use Rattle.core_store.specs.JournalView.{JournalView, cells_of, core_of, logged_in}
 use Rattle.core_store.specs.RoundView.{RoundView, IsInStep, Proceeds}
-use Rattle.core_store.specs.Steppings.{MakesEvent, pops}
+use Rattle.core_store.specs.Steppings.{MakesEvent, pops, OnlyLooks}
 use Rattle.core_store.proofs.LeftLaws.{in_step-passes}
 use Rattle.quiet_rounds.specs.Quiet.{NoneActive, IsQuietRound}
 use Rattle.quiet_rounds.specs.Laws.{IsQuietEvent}
 use Rattle.quiet_rounds.specs.WholeRounds.{IsStill}
-use Rattle.quiet_rounds.specs.JournalSteps.{IsSoundJournal, OnlyLooks, CollectorSteps, none, looks, event, note_of, JournalEventLaw, JournalLooksLaw, NotedLaw}
+use Rattle.quiet_rounds.specs.JournalSteps.{IsSoundJournal, CollectorSteps, none, looks, event, note_of, JournalEventLaw, JournalLooksLaw, NotedLaw}
 use Rattle.quiet_rounds.proofs.Looks.{quiet-looks}
 use Rattle.quiet_rounds.proofs.Rounds.{quiet-events, active-stays}
 

@@ -21,13 +21,13 @@ use Rattle.core_store.specs.Collects.{entry_of}
 use Rattle.core_store.specs.Collecting.{is_pop}
 use Rattle.core_store.specs.JournalView.{JournalView, cells_of, core_of}
 use Rattle.core_store.specs.RoundView.{RoundView, Closed, Walking, Sweeping, is_closed, round_of, left_of, IsInStep, Passes, Proceeds, skip, start, weaken, scan, judge, cut, free, flip, into, strengthen, end}
-use Rattle.core_store.specs.Steppings.{MakesEvent}
+use Rattle.core_store.specs.Steppings.{MakesEvent, OnlyLooks}
 use Rattle.core_store.proofs.LeftLaws.{left-proceeds, left-passes}
 use Rattle.quiet_rounds.specs.Quiet.{NoneActive, IsQuietRound}
 use Rattle.quiet_rounds.specs.Laws.{IsQuietEvent, NoneJoins}
 use Rattle.quiet_rounds.specs.WholeRounds.{IsStill}
 use Rattle.quiet_rounds.specs.Collections.{IsCollection, none as none_yet, pass, round, AreWithoutStrong, IsUsedUp}
-use Rattle.quiet_rounds.specs.JournalSteps.{IsSoundJournal, OnlyLooks, CollectorSteps, none, looks, event, note_of}
+use Rattle.quiet_rounds.specs.JournalSteps.{IsSoundJournal, CollectorSteps, none, looks, event, note_of}
 use Rattle.quiet_rounds.specs.StepsEnd.{is_start, rounds_in, popped_in, most_events, StepsQueueLaw, StepsRoundsLaw, StepsEndLaw, StepsIdleLaw}
 use Rattle.quiet_rounds.proofs.Collections.{used-none, used-more, rounds-made, rest, started-without_strong}
 use Rattle.quiet_rounds.proofs.Fewer.{fewer}

@@ -7,8 +7,8 @@ use Rattle.core_store.specs.declared.collect.Collect.{Collect}
 use Rattle.core_store.specs.Collecting.{is_pop}
 use Rattle.core_store.specs.Collects.{entry_of}
 use Rattle.core_store.specs.JournalView.{JournalView, cells_of, core_of, logged_in}
-use Rattle.core_store.specs.RoundView.{IsInStep, Passes, left_of}
-use Rattle.core_store.specs.Steppings.{MakesEvent, pops}
+use Rattle.core_store.specs.RoundView.{IsInStep, left_of}
+use Rattle.core_store.specs.Steppings.{MakesEvent, OnlyLooks, pops}
 use Rattle.quiet_rounds.specs.Quiet.{NoneActive, IsQuietRound}
 use Rattle.quiet_rounds.specs.Laws.{IsQuietEvent, NoneJoins}
 use Rattle.quiet_rounds.specs.WholeRounds.{IsStill}
@@ -19,12 +19,6 @@ pub record IsSoundJournal (slots : ℕ) (j : JournalView) : Type 0 where
   pub sound : IsSound (core_of j)
   pub in_step : IsInStep slots j.history.ids j.round
   pub fit : AllFit slots j.opening (logged_in j.notes)
-
--- the collector looked at slots at which there was nothing to do, and nothing else changed
-pub record OnlyLooks (slots : ℕ) (i j : JournalView) : Type 0 where
-  pub passes : Passes slots (cells_of i) i.round j.round
-  pub same : j ≡ record i { round = j.round }
-  pub core : core_of j ≡ core_of i
 
 -- the note of an event
 abbrev pub note_of : (slots : ℕ) (i j : JournalView) (r : Collect) → MakesEvent slots i j r → Note

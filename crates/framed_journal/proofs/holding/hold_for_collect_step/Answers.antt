@@ -3,14 +3,14 @@ use Rattle.core_store.specs.declared.three.HeldFrame.{HeldFrame}
 use Rattle.core_store.specs.Limited.{pages_for_collector}
 use Rattle.core_store.proofs.WantLaws.{wanted-put}
 use Rattle.framed_journal.proofs.HoldLaws.{slots-few, AreHeldOf-put, AreHeldOf-none, none-let_go, page_within}
-use Rattle.framed_journal.proofs.LookLaws.{looked-held, looked-frames, Looks-none, Looks-more, smaller-put, smaller-let_go}
+use Rattle.framed_journal.proofs.LookLaws.{looked-held, looked-frames, OnlyLooks-none, OnlyLooks-more, smaller-put, smaller-let_go}
 use Rattle.framed_journal.proofs.holding.hold_for_collect_step.Goals as goal
 
 pub pages-init : goal.pages-init
 pages-init g c = record {
   held = AreHeldOf-none c.args.journal.now c.args.held.now c.requires.none;
   needed = none-let_go (pages_for_collector c.args.journal.now) c.args.held.now c.requires.none;
-  looks = Looks-none g.row.SLOTS c.args.journal.now;
+  looks = OnlyLooks-none g.row.SLOTS c.args.journal.now;
 }
 
 pub bounds-frames-page : goal.bounds-frames-page
@@ -18,7 +18,7 @@ bounds-frames-page g c =
     let i = c.args.journal.now in
     let k = c.wants_collect_step.new.self in
     let next = c.in-Page.ensures.next c.in-Page.page refl in
-    let looks = Looks-more g.row.SLOTS i c.pages.journal k c.pages.invariant.looks c.in-Page.ensures.passes c.in-Page.ensures.same c.in-Page.ensures.core in
+    let looks = OnlyLooks-more g.row.SLOTS i c.pages.journal k c.pages.invariant.looks c.in-Page.ensures.passes c.in-Page.ensures.same c.in-Page.ensures.core in
     page_within k c.args.frames.now c.in-Page.page (looked-frames i k c.args.frames.now looks.same c.requires.frames) next.there
 
 pub put-requires : goal.put-requires
@@ -40,7 +40,7 @@ pages-preserved-in-Page g c =
     let k = c.wants_collect_step.new.self in
     let next = c.in-Page.ensures.next c.in-Page.page refl in
     let h : HeldFrame g.row.SLOTS = record { page = c.in-Page.page; frame = c.index-frames-page.result } in
-    let looks = Looks-more g.row.SLOTS i j k c.pages.invariant.looks c.in-Page.ensures.passes c.in-Page.ensures.same c.in-Page.ensures.core in
+    let looks = OnlyLooks-more g.row.SLOTS i j k c.pages.invariant.looks c.in-Page.ensures.passes c.in-Page.ensures.same c.in-Page.ensures.core in
     let frames = looked-frames i k c.args.frames.now looks.same c.requires.frames in
     record {
       held = AreHeldOf-put k c.args.frames.now c.pages.held c.put.new.self h c.index-frames-page.result frames (looked-held j k c.pages.held c.in-Page.ensures.same c.pages.invariant.held) next.there c.index-frames-page.is c.put.ensures;
@@ -57,22 +57,22 @@ pages-preserved g c =
     let j = c.pages.journal in
     let k = c.wants_collect_step.new.self in
     record {
-      held = AreHeldOf-none k c.new.result c.new.ensures;
-      needed = none-let_go (pages_for_collector k) c.new.result c.new.ensures;
-      looks = Looks-more g.row.SLOTS i j k c.pages.invariant.looks c.in-LetGo.ensures.passes c.in-LetGo.ensures.same c.in-LetGo.ensures.core;
+      held = AreHeldOf-none k c.clear.new.self c.clear.ensures;
+      needed = none-let_go (pages_for_collector k) c.clear.new.self c.clear.ensures;
+      looks = OnlyLooks-more g.row.SLOTS i j k c.pages.invariant.looks c.in-LetGo.ensures.passes c.in-LetGo.ensures.same c.in-LetGo.ensures.core;
     }
 
 pub returns-in-Ready-clause-held : goal.returns-in-Ready-clause-held
 returns-in-Ready-clause-held g c = looked-held c.pages.journal c.wants_collect_step.new.self c.pages.held c.in-Ready.ensures.same c.pages.invariant.held
 
 pub returns-in-Ready-clause-looks : goal.returns-in-Ready-clause-looks
-returns-in-Ready-clause-looks g c = Looks-more g.row.SLOTS c.args.journal.now c.pages.journal c.wants_collect_step.new.self c.pages.invariant.looks c.in-Ready.ensures.passes c.in-Ready.ensures.same c.in-Ready.ensures.core
+returns-in-Ready-clause-looks g c = OnlyLooks-more g.row.SLOTS c.args.journal.now c.pages.journal c.wants_collect_step.new.self c.pages.invariant.looks c.in-Ready.ensures.passes c.in-Ready.ensures.same c.in-Ready.ensures.core
 
 pub offset_bounds-frames-page : goal.offset_bounds-frames-page
 offset_bounds-frames-page g c =
     let i = c.args.journal.now in
     let k = c.wants_collect_step.new.self in
     let next = c.in-Page.ensures.next c.in-Page.page refl in
-    let looks = Looks-more g.row.SLOTS i c.pages.journal k c.pages.invariant.looks c.in-Page.ensures.passes c.in-Page.ensures.same c.in-Page.ensures.core in
+    let looks = OnlyLooks-more g.row.SLOTS i c.pages.journal k c.pages.invariant.looks c.in-Page.ensures.passes c.in-Page.ensures.same c.in-Page.ensures.core in
     let within = page_within k c.args.frames.now c.in-Page.page (looked-frames i k c.args.frames.now looks.same c.requires.frames) next.there in
     omega arith

@@ -5,7 +5,7 @@ use Rattle.core_store.specs.Limited.{pages_for_collector}
 use Rattle.core_store.specs.Logged.{want_of}
 use Rattle.core_store.specs.RoundView.{left_of}
 use Rattle.framed_journal.specs.Holding.{AreHeldOf}
-use Rattle.framed_journal.specs.Steps.{Looks}
+use Rattle.core_store.specs.Steppings.{OnlyLooks}
 use Rattle.framed_journal.proofs.holding.hold_for_collect_step.Given as goal
 
 -- the held frames are the store's, and none is to be let go before the collector looks on
@@ -13,7 +13,7 @@ abbrev pub invariant-pages : goal.invariant-pages
 invariant-pages g l = record {
   held : AreHeldOf l.journal l.held;
   needed : want_of (pages_for_collector l.journal) (pages_held l.held) ≢ LetGo;
-  looks : Looks g.row.SLOTS l.fn.journal l.journal;
+  looks : OnlyLooks g.row.SLOTS l.fn.journal l.journal;
 }
 
 -- each look leaves less of the round, and else one frame more is held

@@ -2,7 +2,7 @@ use Rattle.std.proofs.Common.{◌≤◌, List, sym, subst, ◌∙◌, rules}
 use Rattle.core_store.specs.declared.frame.Frame.{Frame}
 use Rattle.core_store.specs.JournalView.{JournalView}
 use Rattle.framed_journal.specs.Holding.{AreFramesOf}
-use Rattle.framed_journal.specs.Steps.{Looks}
+use Rattle.core_store.specs.Steppings.{OnlyLooks}
 use Rattle.framed_journal.proofs.HoldLaws.{slots-few, places-within, AreFramesOf-changed}
 use Rattle.framed_journal.proofs.LookLaws.{looked-frames}
 use Rattle.framed_journal.proofs.CollectLaws.{size-after_collect, full-before, idle-before, unchanged-before, safe-before, lower-before, opening-before}
@@ -41,45 +41,45 @@ invariant_of-self g c =
 -- the looks, from the value before on
 pub returns-clause-full : goal.returns-clause-full
 returns-clause-full g c =
-    let looks = subst (λ (x : JournalView). Looks g.row.SLOTS x c.hold_for_collect_step.new.journal) c.self.view_is c.hold_for_collect_step.ensures.looks in
+    let looks = subst (λ (x : JournalView). OnlyLooks g.row.SLOTS x c.hold_for_collect_step.new.journal) c.self.view_is c.hold_for_collect_step.ensures.looks in
     full-before g.row.SLOTS c.args.self.now c.hold_for_collect_step.new.journal c.collect_step-step.result looks c.collect_step-step.ensures.full
 
 pub returns-clause-marked : goal.returns-clause-marked
 returns-clause-marked g c = λ e.
-    let looks = subst (λ (x : JournalView). Looks g.row.SLOTS x c.hold_for_collect_step.new.journal) c.self.view_is c.hold_for_collect_step.ensures.looks in
+    let looks = subst (λ (x : JournalView). OnlyLooks g.row.SLOTS x c.hold_for_collect_step.new.journal) c.self.view_is c.hold_for_collect_step.ensures.looks in
     record { looked = c.hold_for_collect_step.new.journal; looks = looks; marked = (c.collect_step-step.ensures.marked e).0 }
 
 pub returns-clause-idle : goal.returns-clause-idle
 returns-clause-idle g c =
-    let looks = subst (λ (x : JournalView). Looks g.row.SLOTS x c.hold_for_collect_step.new.journal) c.self.view_is c.hold_for_collect_step.ensures.looks in
+    let looks = subst (λ (x : JournalView). OnlyLooks g.row.SLOTS x c.hold_for_collect_step.new.journal) c.self.view_is c.hold_for_collect_step.ensures.looks in
     idle-before g.row.SLOTS c.args.self.now c.hold_for_collect_step.new.journal c.collect_step-step.result looks c.collect_step-step.ensures.idle
 
 pub returns-clause-unchanged : goal.returns-clause-unchanged
 returns-clause-unchanged g c = λ e.
-    let looks = subst (λ (x : JournalView). Looks g.row.SLOTS x c.hold_for_collect_step.new.journal) c.self.view_is c.hold_for_collect_step.ensures.looks in
+    let looks = subst (λ (x : JournalView). OnlyLooks g.row.SLOTS x c.hold_for_collect_step.new.journal) c.self.view_is c.hold_for_collect_step.ensures.looks in
     (c.collect_step-step.ensures.unchanged e).0 ∙ unchanged-before g.row.SLOTS c.args.self.now c.hold_for_collect_step.new.journal looks (c.collect_step-step.ensures.idle.0 e).2
 
 pub returns-clause-memory : goal.returns-clause-memory
 returns-clause-memory g c = λ e.
-    let looks = subst (λ (x : JournalView). Looks g.row.SLOTS x c.hold_for_collect_step.new.journal) c.self.view_is c.hold_for_collect_step.ensures.looks in
-    subst (λ (x : JournalView). Looks g.row.SLOTS c.args.self.now x) (sym (c.collect_step-step.ensures.memory e).0) looks
+    let looks = subst (λ (x : JournalView). OnlyLooks g.row.SLOTS x c.hold_for_collect_step.new.journal) c.self.view_is c.hold_for_collect_step.ensures.looks in
+    subst (λ (x : JournalView). OnlyLooks g.row.SLOTS c.args.self.now x) (sym (c.collect_step-step.ensures.memory e).0) looks
 
 pub returns-clause-event : goal.returns-clause-event
 returns-clause-event g c = λ e.
-    let looks = subst (λ (x : JournalView). Looks g.row.SLOTS x c.hold_for_collect_step.new.journal) c.self.view_is c.hold_for_collect_step.ensures.looks in
+    let looks = subst (λ (x : JournalView). OnlyLooks g.row.SLOTS x c.hold_for_collect_step.new.journal) c.self.view_is c.hold_for_collect_step.ensures.looks in
     record { looked = c.hold_for_collect_step.new.journal; looks = looks; event = c.collect_step-step.ensures.event e }
 
 pub returns-clause-safe : goal.returns-clause-safe
 returns-clause-safe g c =
-    let looks = subst (λ (x : JournalView). Looks g.row.SLOTS x c.hold_for_collect_step.new.journal) c.self.view_is c.hold_for_collect_step.ensures.looks in
+    let looks = subst (λ (x : JournalView). OnlyLooks g.row.SLOTS x c.hold_for_collect_step.new.journal) c.self.view_is c.hold_for_collect_step.ensures.looks in
     safe-before g.row.SLOTS c.args.self.now c.hold_for_collect_step.new.journal c.collect_step-step.result looks c.collect_step-step.ensures.safe
 
 pub returns-clause-lower : goal.returns-clause-lower
 returns-clause-lower g c =
-    let looks = subst (λ (x : JournalView). Looks g.row.SLOTS x c.hold_for_collect_step.new.journal) c.self.view_is c.hold_for_collect_step.ensures.looks in
+    let looks = subst (λ (x : JournalView). OnlyLooks g.row.SLOTS x c.hold_for_collect_step.new.journal) c.self.view_is c.hold_for_collect_step.ensures.looks in
     lower-before g.row.SLOTS c.args.self.now c.hold_for_collect_step.new.journal c.collect_step-step.new.self c.collect_step-step.result looks c.collect_step-step.ensures.lower
 
 pub returns-clause-opening : goal.returns-clause-opening
 returns-clause-opening g c =
-    let looks = subst (λ (x : JournalView). Looks g.row.SLOTS x c.hold_for_collect_step.new.journal) c.self.view_is c.hold_for_collect_step.ensures.looks in
+    let looks = subst (λ (x : JournalView). OnlyLooks g.row.SLOTS x c.hold_for_collect_step.new.journal) c.self.view_is c.hold_for_collect_step.ensures.looks in
     opening-before g.row.SLOTS c.args.self.now c.hold_for_collect_step.new.journal c.collect_step-step.new.self looks c.collect_step-step.ensures.opening
