@@ -123,8 +123,6 @@ impl Store {
         ensures value { result ≡ is_some (transaction_of (end_of self.now.history).state client) }
         ensures entries { entries_in self.now.notes ≡ self.now.history.entries }
     {
-        // Each note is of its entry: this call hands the fact out.
-        let _ = self.journal.history();
         self.journal.active(client)
     }
 

@@ -161,7 +161,10 @@ impl<const SLOTS: usize> FramedJournal<SLOTS> {
 
     /// Whether the client has a transaction.
     pub fn active(&self, client: u8) -> bool
-        ensures { result ≡ is_some (transaction_of (end_of self.now.history).state client) }
+        ensures value { result ≡ is_some (transaction_of (end_of self.now.history).state client) }
+
+        // Each note is of its entry.
+        ensures entries { map (λ n. n.entry) self.now.notes ≡ self.now.history.entries }
     {
         self.journal.active(client)
     }
