@@ -86,6 +86,13 @@ impl<const SLOTS: usize> Three<SLOTS> {
         }
     }
 
+    /// Lets all frames go.
+    pub fn clear(&mut self)
+        ensures { self.new ≡ [] }
+    {
+        self.count = 0;
+    }
+
     /// Holds the frame of one page more.
     pub fn put(&mut self, page: u16, frame: Frame<SLOTS>)
         requires room { length self.old < 3 }

@@ -46,10 +46,13 @@ use std::marker::Model;
 pub struct FramedJournal<const SLOTS: usize> {
     journal: Journal<SLOTS>,
     frames: Vec<Frame<SLOTS>>,
+    /// The frames of the call that is made. Between calls none is held.
+    held: Three<SLOTS>,
 }
 
 /// Contracts see the journal. The frames are the pages of its store.
 impl<const SLOTS: usize> Model for FramedJournal<SLOTS> {
+    ghost use Rattle.std.specs.Prelude.{◌≡◌, []};
     ghost use Rattle.core_store.specs.JournalView.{JournalView};
     ghost use Rattle.framed_journal.specs.Holding.{AreFramesOf};
 
@@ -57,7 +60,7 @@ impl<const SLOTS: usize> Model for FramedJournal<SLOTS> {
 
     ghost view = { λ s. s.journal };
 
-    ghost invariant = { λ s. AreFramesOf s.journal s.frames.items };
+    ghost invariant = { λ s. AreFramesOf s.journal s.frames.items × (s.held ≡ []) };
 }
 
 impl<const SLOTS: usize> FramedJournal<SLOTS> {
@@ -72,7 +75,11 @@ impl<const SLOTS: usize> FramedJournal<SLOTS> {
         ensures collector { IfOk result (λ j. (j.queue ≡ []) × (j.round ≡ Closed)) }
     {
         let (journal, frames) = Journal::fresh(alloc, pages, limits)?;
-        Ok(FramedJournal { journal, frames })
+        Ok(FramedJournal {
+            journal,
+            frames,
+            held: Three::new(),
+        })
     }
 
     /// The history so far, and what each of its events logged.
@@ -186,10 +193,9 @@ impl<const SLOTS: usize> FramedJournal<SLOTS> {
         ensures unmarked { IsEntered result → self.new.marks ≡ self.old.marks }
     {
         let frames = self.frames.as_slice();
-        let mut held = Three::new();
-        hold_for_call(&self.journal, frames, &mut held, client, call);
-        let reply = self.journal.apply(&mut held, client, call);
-        put_back(&mut self.frames, &mut held);
+        hold_for_call(&self.journal, frames, &mut self.held, client, call);
+        let reply = self.journal.apply(&mut self.held, client, call);
+        put_back(&mut self.frames, &mut self.held);
         reply
     }
 
@@ -208,10 +214,9 @@ impl<const SLOTS: usize> FramedJournal<SLOTS> {
         ensures opening { (self.new.opening ≡ self.old.opening) × (self.new.limits ≡ self.old.limits) × (self.new.marks ≡ self.old.marks) }
     {
         let frames = self.frames.as_slice();
-        let mut held = Three::new();
-        hold_for_abort_step(&self.journal, frames, &mut held, client);
-        let step = self.journal.abort_step(&mut held, client);
-        put_back(&mut self.frames, &mut held);
+        hold_for_abort_step(&self.journal, frames, &mut self.held, client);
+        let step = self.journal.abort_step(&mut self.held, client);
+        put_back(&mut self.frames, &mut self.held);
         step
     }
 
@@ -247,10 +252,9 @@ impl<const SLOTS: usize> FramedJournal<SLOTS> {
         ensures opening { (self.new.opening ≡ self.old.opening) × (self.new.limits ≡ self.old.limits) }
     {
         let frames = self.frames.as_slice();
-        let mut held = Three::new();
-        hold_for_collect_step(&mut self.journal, frames, &mut held);
-        let step = self.journal.collect_step(&mut held);
-        put_back(&mut self.frames, &mut held);
+        hold_for_collect_step(&mut self.journal, frames, &mut self.held);
+        let step = self.journal.collect_step(&mut self.held);
+        put_back(&mut self.frames, &mut self.held);
         step
     }
 

@@ -68,7 +68,7 @@ pub(crate) fn hold_for_collect_step<const SLOTS: usize>(
     'pages: loop {
         match journal.wants_collect_step(held) {
             Want::Page(page) => held.put(page, frames[page as usize]),
-            Want::LetGo => *held = Three::new(),
+            Want::LetGo => held.clear(),
             Want::Ready => return,
         }
     }

@@ -49,7 +49,7 @@ pages-preserved-in-Page g c =
     }
 
 pub pages-smaller : goal.pages-smaller
-pages-smaller g c = smaller-let_go c.pages.journal c.wants_collect_step.new.self c.pages.held c.new.result c.in-LetGo.ensures.left c.in-LetGo.ensures.same c.pages.invariant.needed c.in-LetGo.ensures.exact
+pages-smaller g c = smaller-let_go c.pages.journal c.wants_collect_step.new.self c.pages.held c.clear.new.self c.in-LetGo.ensures.left c.in-LetGo.ensures.same c.pages.invariant.needed c.in-LetGo.ensures.exact
 
 pub pages-preserved : goal.pages-preserved
 pages-preserved g c =

@@ -10,21 +10,21 @@ use Rattle.framed_journal.proofs.framed.FramedJournal.collect_step.Goals as goal
 
 pub hold_for_collect_step-requires : goal.hold_for_collect_step-requires
 hold_for_collect_step-requires g c =
-    let small : g.row.SLOTS ≤ 14 = slots-few g.row.SLOTS c.self.invariant.size.1 in
-    let frames = subst (λ (fs : List (Frame g.row.SLOTS)). AreFramesOf c.self.inside.journal fs) (sym c.as_slice-frames.ensures.value) c.self.invariant in
-    (search rules, (search rules, (search rules, (frames, c.new-held.ensures))))
+    let small : g.row.SLOTS ≤ 14 = slots-few g.row.SLOTS c.self.invariant.0.size.1 in
+    let frames = subst (λ (fs : List (Frame g.row.SLOTS)). AreFramesOf c.self.inside.journal fs) (sym c.as_slice-frames.ensures.value) c.self.invariant.0 in
+    (search rules, (search rules, (search rules, (frames, c.self.invariant.1))))
 
 pub collect_step-step-requires : goal.collect_step-step-requires
 collect_step-step-requires g c =
-    let small : g.row.SLOTS ≤ 14 = slots-few g.row.SLOTS c.self.invariant.size.1 in
+    let small : g.row.SLOTS ≤ 14 = slots-few g.row.SLOTS c.self.invariant.0.size.1 in
     (search rules, (search rules, (c.hold_for_collect_step.ensures.held.agree, c.hold_for_collect_step.ensures.ready)))
 
 pub put_back-requires : goal.put_back-requires
 put_back-requires g c =
-    let small : g.row.SLOTS ≤ 14 = slots-few g.row.SLOTS c.self.invariant.size.1 in
+    let small : g.row.SLOTS ≤ 14 = slots-few g.row.SLOTS c.self.invariant.0.size.1 in
     let i = c.self.inside.journal in
     let j = c.hold_for_collect_step.new.journal in
-    let frames = looked-frames i j c.self.inside.frames.items c.hold_for_collect_step.ensures.looks.same c.self.invariant in
+    let frames = looked-frames i j c.self.inside.frames.items c.hold_for_collect_step.ensures.looks.same c.self.invariant.0 in
     let within = places-within j c.self.inside.frames.items c.hold_for_collect_step.new.held c.collect_step-step.new.held frames c.hold_for_collect_step.ensures.held c.collect_step-step.ensures.pages in
     (search rules, (search rules, within))
 
@@ -34,9 +34,9 @@ invariant_of-self g c =
     let i = c.self.inside.journal in
     let j = c.hold_for_collect_step.new.journal in
     let k = c.collect_step-step.new.self in
-    let frames = looked-frames i j c.self.inside.frames.items c.hold_for_collect_step.ensures.looks.same c.self.invariant in
+    let frames = looked-frames i j c.self.inside.frames.items c.hold_for_collect_step.ensures.looks.same c.self.invariant.0 in
     let size = size-after_collect g.row.SLOTS j k c.collect_step-step.result (λ e. (done.marked e).0) (λ e. (done.unchanged e).0) (λ e. (done.memory e).0) done.event in
-    AreFramesOf-changed j k c.self.inside.frames.items c.put_back.new.frames.items c.hold_for_collect_step.new.held c.collect_step-step.new.held frames size done.agree done.pages done.elsewhere c.put_back.ensures.follows c.put_back.ensures.count
+    (AreFramesOf-changed j k c.self.inside.frames.items c.put_back.new.frames.items c.hold_for_collect_step.new.held c.collect_step-step.new.held frames size done.agree done.pages done.elsewhere c.put_back.ensures.follows c.put_back.ensures.count, c.put_back.ensures.none)
 
 -- the looks, from the value before on
 pub returns-clause-full : goal.returns-clause-full
