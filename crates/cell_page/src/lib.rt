@@ -31,6 +31,3 @@ pub use decode::BadCell;
 pub use laws::{first_numbers, spelled_once};
 pub use layout::{CELLS_OF_PAGE, ROOT, first_id, page_of};
 pub use page::Page;
-
-#[cfg(test)]
-mod tests;

@@ -2,13 +2,7 @@
 ghost use Rattle.std.specs.Prelude.{◌≡◌};
 ghost use Rattle.plain_model.specs.Machine.{IsInRange};
 
-use crate::calls::{Call, Reply};
-use crate::graph::Graph;
-use crate::memory::Memory;
-use crate::object::Object;
-use crate::plain::Plain;
-use crate::reachable::reach;
-use crate::slots::Slots;
+use plain_model::{Call, Graph, Memory, Object, Plain, Reply, Slots, reach};
 use std::alloc::Global;
 use std::process::Abort;
 use std::test::Fail;
@@ -25,7 +19,30 @@ fn expect(
     ensures { plain.new.slots ≡ plain.old.slots }
 {
     let told = plain.step(pass, &call)?;
-    assert!(rt; told == reply, "{pass} {call:?}: {told:?}");
+    assert!(rt; told == reply);
+    Ok(())
+}
+
+/// These ids, in this order.
+fn expect_ids(rt: &impl Abort, told: &[u32], wanted: &[u32]) {
+    assert!(rt; told == wanted);
+}
+
+/// Just these objects are stored.
+fn expect_stored(rt: &impl Abort, plain: &Plain, wanted: &[u32]) -> Result<(), Memory> {
+    expect_ids(rt, plain.stored()?.items(), wanted);
+    Ok(())
+}
+
+/// Just these objects are reachable from this one.
+fn expect_reached(
+    rt: &impl Abort,
+    alloc: Global,
+    graph: &Graph,
+    from: u32,
+    wanted: &[u32],
+) -> Result<(), Memory> {
+    expect_ids(rt, reach(alloc, graph, &[from])?.items(), wanted);
     Ok(())
 }
 
@@ -47,42 +64,7 @@ fn makes_and_links_an_object(rt: HostRuntime) -> Result<(), Fail> {
         Reply::Done,
     )?;
     expect(&rt, &mut plain, 1, Call::Commit, Reply::Done)?;
-    assert_eq!(rt; plain.stored()?.items(), [1, 2].as_slice());
-    Ok(())
-}
-
-#[test]
-fn keeps_a_client_out(rt: HostRuntime) -> Result<(), Fail> {
-    let mut plain = Plain::new(rt.alloc(), 8, 6)?;
-    expect(&rt, &mut plain, 1, Call::Begin, Reply::Done)?;
-    expect(&rt, &mut plain, 2, Call::Begin, Reply::Done)?;
-    expect(
-        &rt,
-        &mut plain,
-        1,
-        Call::SetPay { r: 0, value: 9 },
-        Reply::Done,
-    )?;
-    expect(
-        &rt,
-        &mut plain,
-        2,
-        Call::GetPay { r: 0 },
-        Reply::Busy { pass: 1 },
-    )?;
-    expect(&rt, &mut plain, 1, Call::Commit, Reply::Done)?;
-    expect(&rt, &mut plain, 2, Call::GetPay { r: 0 }, Reply::Pay(9))?;
-    expect(
-        &rt,
-        &mut plain,
-        2,
-        Call::Read {
-            r: 0,
-            slot: 0,
-            into: 1,
-        },
-        Reply::Id(0),
-    )?;
+    expect_stored(&rt, &plain, &[1, 2])?;
     Ok(())
 }
 
@@ -97,7 +79,7 @@ fn undoes_and_deletes(rt: HostRuntime) -> Result<(), Fail> {
     expect(&rt, &mut plain, 1, Call::Abort, Reply::Done)?;
     assert!(rt; plain.is_stored(2));
     plain.delete(2);
-    assert_eq!(rt; plain.stored()?.items(), [1].as_slice());
+    expect_stored(&rt, &plain, &[1])?;
     Ok(())
 }
 
@@ -106,14 +88,14 @@ fn keeps_what_is_pushed(rt: HostRuntime) -> Result<(), Fail> {
     let mut slots = Slots::new(rt.alloc());
     slots.push(0)?;
     slots.push(3)?;
-    assert_eq!(rt; slots.items(), [0, 3].as_slice());
+    expect_ids(&rt, slots.items(), &[0, 3]);
     let mut graph = Graph::new(rt.alloc());
     let id = 3;
     let payload = 8;
     graph.push(Object { id, slots, payload })?;
-    assert_eq!(rt; graph.items().len(), 1);
-    assert_eq!(rt; graph.items()[0].id, 3);
-    assert_eq!(rt; graph.items()[0].payload, 8);
+    assert!(rt; graph.items().len() == 1);
+    let object = &graph.items()[0];
+    assert!(rt; object.id == 3 && object.payload == 8);
     Ok(())
 }
 
@@ -140,7 +122,7 @@ fn root_and_second(alloc: Global, first: u32, second: u32) -> Result<Graph, Memo
 #[test]
 fn reaches_what_a_slot_names(rt: HostRuntime) -> Result<(), Fail> {
     let graph = root_and_second(rt.alloc(), 2, 0)?;
-    assert_eq!(rt; reach(rt.alloc(), &graph, &[1])?.items(), [1, 2].as_slice());
-    assert_eq!(rt; reach(rt.alloc(), &graph, &[2])?.items(), [2].as_slice());
+    expect_reached(&rt, rt.alloc(), &graph, 1, &[1, 2])?;
+    expect_reached(&rt, rt.alloc(), &graph, 2, &[2])?;
     Ok(())
 }

@@ -1,0 +1,19 @@
+//! Runs of lower crates by public calls that the program does not make, with the answers that were meant.
+//!
+//! They stand apart from those crates, so that each of these is proved once, without its runs.
+#![tactic(auto)]
+
+#[cfg(test)]
+mod disk;
+#[cfg(test)]
+mod edges;
+#[cfg(test)]
+mod log;
+#[cfg(test)]
+mod pages;
+#[cfg(test)]
+mod plain_machine;
+#[cfg(test)]
+mod records;
+#[cfg(test)]
+mod replays;

@@ -1,0 +1,118 @@
+//! Runs of the log over the disk in memory.
+ghost use Rattle.std.specs.Prelude.{◌≡◌, ◌<◌, ◌^◌, ◌∷◌, [], List, length, Some, IfOk, OnOk};
+ghost use Rattle.disk_model.specs.Told.{KeepsOthers, Leaves};
+ghost use Rattle.disk_model.specs.Memory.{left_of};
+ghost use Rattle.disk_model.specs.declared.area.Area.{Area};
+ghost use Rattle.gate_log.specs.declared.stage.Stage.TheVariants.{Standing};
+ghost use Rattle.gate_log.specs.State.{fresh_log, IsLogArea};
+ghost use Rattle.gate_log.specs.OnDisk.{IsOn};
+
+use disk_model::{Area, Disk, DiskFailed, MemoryDisk};
+use gate_log::{GateLog, LogRefusal};
+use std::alloc::Global;
+use std::process::Abort;
+use std::test::Fail;
+
+/// Writes the bytes into the empty area, for good.
+fn fill<D: Disk>(disk: &mut D, area: Area, bytes: &[u8]) -> Result<(), DiskFailed>
+    requires empty { D.content disk.old area ≡ Some [] }
+    ensures filled { OnOk result (Leaves D.may_leave disk.new area (λ c. c ≡ bytes.now)) }
+    ensures keeps { KeepsOthers D.content D.may_leave disk.old disk.new area }
+{
+    disk.write_at(area, 0, bytes)?;
+    disk.sync(area)?;
+    Ok(())
+}
+
+/// A disk with a fresh store of one page.
+fn fresh_disk(alloc: Global) -> Result<MemoryDisk, DiskFailed>
+    ensures { IfOk result (λ disk. IsOn left_of fresh_log disk ((14 ∷ 1 ∷ 0 ∷ 1 ∷ []) ∷ [])) }
+{
+    let mut disk = MemoryDisk::new(alloc);
+    fill(&mut disk, Area::LogA, &[1, 0, 0, 0, 4, 14, 1, 0, 1, 0])?;
+    fill(&mut disk, Area::Super, &[0])?;
+    Ok(disk)
+}
+
+/// How many batches the area has, where it is a log.
+fn batches(alloc: Global, disk: &mut MemoryDisk, area: Area) -> Result<u64, LogRefusal>
+    requires { IsLogArea area }
+{
+    let mut log = GateLog::start(alloc, area);
+    'count: for count in 0..u64::MAX {
+        if log.next_batch(disk)?.is_none() {
+            return Ok(count);
+        }
+    }
+    Ok(0)
+}
+
+/// The area reads so.
+fn expect_bytes(rt: &impl Abort, disk: &MemoryDisk, area: Area, wanted: &[u8]) {
+    assert!(rt; disk.bytes(area) == wanted);
+}
+
+/// The call was refused so.
+fn expect_refusal(rt: &impl Abort, refusal: Option<LogRefusal>, wanted: LogRefusal) {
+    assert!(rt; refusal == Some(wanted));
+}
+
+#[test]
+fn a_full_log_refuses(rt: HostRuntime) -> Result<(), Fail> {
+    let mut log = GateLog::fresh(rt.alloc());
+    log.append(24, 7, b"\x01\x01")?;
+    let answer = log.append(24, 7, b"\x02\x01\0\0\0\x02");
+    expect_refusal(&rt, answer.err(), LogRefusal::LogFull { used: 17 });
+    Ok(())
+}
+
+/// What a transaction logs that makes object 2 and lays it into the root's first slot: `Begin`, `Make`, `Store`, `Commit`.
+const MAKES_AND_LINKS: [u8; 28] = [
+    1, 1, 2, 1, 0, 0, 0, 2, 3, 1, 0, 0, 0, 1, 0, 0, 0, 0, 0, 0, 0, 0, 0, 2, 0, 1, 5, 1,
+];
+
+#[test]
+fn a_forced_batch_stays(rt: HostRuntime) -> Result<(), Fail> {
+    let alloc = rt.alloc();
+    let mut disk = fresh_disk(alloc)?;
+    let mut log = GateLog::fresh(alloc);
+    log.append(1000, 0, &MAKES_AND_LINKS)?;
+    log.force(&mut disk)?;
+    disk.lose_power(0)?;
+    let wanted = [
+        1, 0, 0, 0, 4, 14, 1, 0, 1, 1, 0, 0, 0, 28, 1, 1, 2, 1, 0, 0, 0, 2, 3, 1, 0, 0, 0, 1, 0, 0,
+        0, 0, 0, 0, 0, 0, 0, 2, 0, 1, 5, 1, 0,
+    ];
+    expect_bytes(&rt, &disk, Area::LogA, &wanted);
+    assert!(rt; batches(alloc, &mut disk, Area::LogA)? == 2);
+    Ok(())
+}
+
+#[test]
+fn a_checkpoint_names_the_other_area(rt: HostRuntime) -> Result<(), Fail> {
+    let alloc = rt.alloc();
+    let mut disk = fresh_disk(alloc)?;
+    let mut log = GateLog::fresh(alloc);
+    log.turn(&mut disk, b"\x0e\x01\0\x01")?;
+    disk.lose_power(0)?;
+    expect_bytes(&rt, &disk, Area::Super, b"\x01");
+    let wanted = b"\x01\0\0\0\x04\x0e\x01\0\x01\0";
+    expect_bytes(&rt, &disk, Area::LogB, wanted);
+    Ok(())
+}
+
+#[test]
+fn damage_has_a_place(rt: HostRuntime) -> Result<(), Fail> {
+    let alloc = rt.alloc();
+    let mut disk = MemoryDisk::new(alloc);
+    disk.write_at(
+        Area::LogA,
+        0,
+        b"\x01\0\0\0\x04\x0e\x01\0\x01\x01\0\0\0\x02\x01",
+    )?;
+    let first = batches(alloc, &mut disk, Area::LogA);
+    expect_refusal(&rt, first.err(), LogRefusal::Damaged { at: 9 });
+    let second = batches(alloc, &mut disk, Area::LogB);
+    expect_refusal(&rt, second.err(), LogRefusal::Damaged { at: 0 });
+    Ok(())
+}
