@@ -2,3 +2,4 @@ pub mod ClientSet
 pub mod Clients
 pub mod Locks
 pub mod Refusal
+pub mod Standing

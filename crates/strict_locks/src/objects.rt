@@ -1,21 +1,13 @@
 //! The lock of each object.
 ghost use Rattle.std.specs.Prelude.{◌≡◌, OnOk, OnErr};
-ghost use Rattle.strict_locks.specs.Locks.{holders_of, is_holder, Holds, IsExclusive, StandsInWayOfShare, StandsInWayOfOwn, Nobody, IsLeastOrNone, AddsShare, AddsOwner, GivesBack, DropsAll, AreHeld};
+ghost use Rattle.strict_locks.specs.Locks.{holders_of, is_owner, is_sharer, is_holder, Holds, IsExclusive, StandsInWayOfShare, StandsInWayOfOwn, Nobody, IsLeastOrNone, AddsShare, AddsOwner, GivesBack, DropsAll, AreHeld};
 ghost use Rattle.strict_locks.specs.Clients.{NamesHeld};
+ghost use Rattle.strict_locks.specs.Standing.{IsStanding};
 
 use crate::object_lock::ObjectLock;
+use crate::standing::Standing;
 use indexmap::IndexMap;
 use std::alloc::AllocError;
-
-/// Whether the client owns or shares the object.
-pub(crate) fn is_held_by(locks: &IndexMap<u32, ObjectLock>, pass: u8, id: u32) -> bool
-    ensures { result ≡ is_holder (holders_of locks.now.entries id) pass }
-{
-    match locks.get(&id) {
-        Some(lock) => lock.is_held_by(pass),
-        None => false,
-    }
-}
 
 /// The client that keeps this one from sharing the object.
 pub(crate) fn other_owner(locks: &IndexMap<u32, ObjectLock>, pass: u8, id: u32) -> Option<u8>
@@ -37,6 +29,26 @@ pub(crate) fn least_holder(locks: &IndexMap<u32, ObjectLock>, id: u32) -> Option
     ensures exclusive { IsExclusive (holders_of locks.now.entries id) }
 {
     locks.get(&id)?.least_holder()
+}
+
+/// How the client stands to sharing the object.
+pub(crate) fn standing_to_share(locks: &IndexMap<u32, ObjectLock>, pass: u8, id: u32) -> Standing
+    ensures { IsStanding (StandsInWayOfShare (holders_of locks.now.entries id) pass) (is_sharer (holders_of locks.now.entries id) pass) (is_holder (holders_of locks.now.entries id) pass) result }
+{
+    match locks.get(&id) {
+        Some(lock) => lock.standing_to_share(pass),
+        None => Standing::Free,
+    }
+}
+
+/// How the client stands to owning the object.
+pub(crate) fn standing_to_own(locks: &IndexMap<u32, ObjectLock>, pass: u8, id: u32) -> Standing
+    ensures { IsStanding (StandsInWayOfOwn (holders_of locks.now.entries id) pass) (is_owner (holders_of locks.now.entries id) pass) (is_holder (holders_of locks.now.entries id) pass) result }
+{
+    match locks.get(&id) {
+        Some(lock) => lock.standing_to_own(pass),
+        None => Standing::Free,
+    }
 }
 
 /// Adds the client to those that share the object. Out of memory leaves the locks as they were.
@@ -62,27 +74,31 @@ pub(crate) fn share(
     }
 }
 
-/// Makes the client the owner of the object. Out of memory leaves the locks as they were.
-pub(crate) fn own(
+/// Makes the client the owner of the object, which it shares.
+pub(crate) fn own(locks: &mut IndexMap<u32, ObjectLock>, pass: u8, id: u32)
+    requires free { Nobody (StandsInWayOfOwn (holders_of locks.old.entries id) pass) }
+    requires holds { Holds (holders_of locks.old.entries id) pass }
+    ensures adds { AddsOwner locks.old.entries locks.new.entries pass id }
+    ensures held { AreHeld locks.old.entries → AreHeld locks.new.entries }
+{
+    if let Some(lock) = locks.get_mut(&id) {
+        lock.own(pass);
+    }
+}
+
+/// Makes the client the owner of the object, which nobody holds. Out of memory leaves the locks as they were.
+pub(crate) fn own_first(
     locks: &mut IndexMap<u32, ObjectLock>,
     pass: u8,
     id: u32,
 ) -> Result<(), AllocError>
-    requires { Nobody (StandsInWayOfOwn (holders_of locks.old.entries id) pass) }
+    requires { Nobody (Holds (holders_of locks.old.entries id)) }
     ensures adds { OnOk result (AddsOwner locks.old.entries locks.new.entries pass id) }
     ensures held { AreHeld locks.old.entries → AreHeld locks.new.entries }
     ensures err { OnErr result (locks.new.entries ≡ locks.old.entries) }
 {
-    match locks.get_mut(&id) {
-        Some(lock) => {
-            lock.own(pass);
-            Ok(())
-        }
-        None => {
-            locks.insert(id, ObjectLock::owned_by(pass))?;
-            Ok(())
-        }
-    }
+    locks.insert(id, ObjectLock::owned_by(pass))?;
+    Ok(())
 }
 
 /// Takes the client from the holders of the object.
