@@ -2,7 +2,7 @@
 ghost use Rattle.std.specs.Prelude.{◌≡◌, ◌≢◌, ⊤, ◌+◌, ◌<◌, ◌≤◌, ◌^◌, ◌++◌, ◌∷◌, [], ℕ, List, Some, length, option_map, IfSome, OnOk};
 ghost use Rattle.disk_model.specs.Causes.{HasCause};
 ghost use Rattle.disk_model.specs.Changes.{written, Torn};
-ghost use Rattle.disk_model.specs.Told.{Keeps, KeepsOthers, Follows, Leaves, IsImageBut};
+ghost use Rattle.disk_model.specs.Told.{Keeps, KeepsOthers, Follows, Leaves, IsSettled, IsImageBut};
 ghost use Rattle.disk_model.specs.Time.{Elapses, LeavesOnlyImages};
 ghost use Rattle.disk_model.specs.declared.area.Area.TheVariants.{Super};
 ghost use Rattle.gate_log.specs.Batches.{batch_bytes};
@@ -37,9 +37,12 @@ fn append<D: Disk>(disk: &mut D, area: Area, end: u64, bytes: &[u8]) -> Result<(
 
 /// Makes the area anew with this one batch, a closed commit byte behind it and nothing more.
 ///
-/// At each moment a loss of power leaves the other areas as before, whatever it answers.
-fn make_anew<D: Disk>(disk: &mut D, area: Area, first: &[u8]) -> Result<(), DiskFailed>
+/// At `Ok` it is there for good. At each moment a loss of power leaves the other areas as before, whatever it
+/// answers.
+pub fn make_anew<D: Disk>(disk: &mut D, area: Area, first: &[u8]) -> Result<(), DiskFailed>
     requires { length first.now < 2 ^ 32 }
+    ensures reads { OnOk result (D.content disk.new area ≡ option_map (λ _. batch_bytes first.now ++ 0 ∷ []) (D.content disk.old area)) }
+    ensures settled { OnOk result (IsSettled D.content D.may_leave disk.new area) }
     ensures anew { OnOk result (Leaves D.may_leave disk.new area (λ c. c ≡ batch_bytes first.now ++ 0 ∷ [])) }
     ensures moments { LeavesOnlyImages D.moment D.left_since disk.old disk.new (IsImageBut D.may_leave disk.old area (λ _. ⊤)) }
     ensures keeps { KeepsOthers D.content D.may_leave disk.old disk.new area }

@@ -1,0 +1,46 @@
+use Rattle.disk_model.specs.declared.area.Area.TheVariants.{Super}
+use Rattle.disk_model.specs.Areas.{in_area}
+use Rattle.disk_model.proofs.Moments.{weaken, and_then}
+use Rattle.restart_store.specs.Fresh.{IsMaking, no_store}
+use Rattle.restart_store.proofs.Made.{made_leaves, store_made}
+use Rattle.restart_store.proofs.Making.{while_cut, while_named, all_made}
+use Rattle.restart_store.proofs.make.init.Goals as goal
+
+pub name_first-requires-clause-empty : goal.name_first-requires-clause-empty
+name_first-requires-clause-empty g c lives within = λ bytes may. made_leaves c.in_ok-clear.ensures.made bytes (c.make_areas.ensures.keeps.no_more bytes may)
+
+pub returns-in_err-clear-clause-moments : goal.returns-in_err-clear-clause-moments
+returns-in_err-clear-clause-moments g c =
+    weaken (IsMaking g.D.Disk.may_leave c.args.disk.now c.args.pages) (while_cut g.D.Disk.may_leave c.args.disk.now c.args.pages) c.clear.ensures.moments
+
+pub returns-in_err-make_areas-clause-moments : goal.returns-in_err-make_areas-clause-moments
+returns-in_err-make_areas-clause-moments g c =
+    and_then (IsMaking g.D.Disk.may_leave c.args.disk.now c.args.pages) (while_cut g.D.Disk.may_leave c.args.disk.now c.args.pages)
+    (λ image is. no_store (made_leaves c.in_ok-clear.ensures.made (in_area image Super) is)) c.clear.ensures.moments c.make_areas.ensures.moments
+
+pub returns-in_err-name_first-clause-moments : goal.returns-in_err-name_first-clause-moments
+returns-in_err-name_first-clause-moments g c =
+    let empty = and_then (IsMaking g.D.Disk.may_leave c.args.disk.now c.args.pages) (while_cut g.D.Disk.may_leave c.args.disk.now c.args.pages)
+    (λ image is. no_store (made_leaves c.in_ok-clear.ensures.made (in_area image Super) is)) c.clear.ensures.moments c.make_areas.ensures.moments in
+    and_then (IsMaking g.D.Disk.may_leave c.args.disk.now c.args.pages) (λ image is. is)
+    (while_named g.D.Disk.may_leave c.args.disk.now c.make_areas.new.disk c.args.pages (λ area apart. made_leaves (c.in_ok-make_areas.ensures.made area apart)))
+    empty c.name_first.ensures.moments
+
+pub returns-clause-moments : goal.returns-clause-moments
+returns-clause-moments g c =
+    let empty = and_then (IsMaking g.D.Disk.may_leave c.args.disk.now c.args.pages) (while_cut g.D.Disk.may_leave c.args.disk.now c.args.pages)
+    (λ image is. no_store (made_leaves c.in_ok-clear.ensures.made (in_area image Super) is)) c.clear.ensures.moments c.make_areas.ensures.moments in
+    and_then (IsMaking g.D.Disk.may_leave c.args.disk.now c.args.pages) (λ image is. is)
+    (while_named g.D.Disk.may_leave c.args.disk.now c.make_areas.new.disk c.args.pages (λ area apart. made_leaves (c.in_ok-make_areas.ensures.made area apart)))
+    empty c.name_first.ensures.moments
+
+pub returns-clause-made : goal.returns-clause-made
+returns-clause-made g c =
+    store_made c.args.pages c.in_ok-clear.ensures.made c.clear.ensures.keeps c.in_ok-make_areas.ensures.made c.make_areas.ensures.keeps
+    c.in_ok-name_first.ensures.made c.name_first.ensures.keeps
+
+pub returns-clause-images : goal.returns-clause-images
+returns-clause-images g c =
+    let made = store_made c.args.pages c.in_ok-clear.ensures.made c.clear.ensures.keeps c.in_ok-make_areas.ensures.made c.make_areas.ensures.keeps
+    c.in_ok-name_first.ensures.made c.name_first.ensures.keeps in
+    all_made g.D.Disk.may_leave c.name_first.new.disk c.args.pages (λ area. made_leaves (made area))
