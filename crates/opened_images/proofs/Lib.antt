@@ -1,0 +1,9 @@
+pub mod Bodies
+pub mod Ways
+pub mod LogWays
+pub mod OneOutcome
+pub mod SomeOutcome
+pub mod FormedCells
+pub mod AfterLog
+pub mod Undone
+pub mod Samples
