@@ -1,0 +1,8 @@
+mod PageLists
+mod WriteLists
+mod StepLaws
+mod TakenLaws
+mod UnendedMaps
+mod PlacedLaws
+mod Rooms
+mod FinishLaws

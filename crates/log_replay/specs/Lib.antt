@@ -1,0 +1,5 @@
+pub mod Inside
+pub mod Placed
+pub mod Replays
+pub mod Steps
+pub mod Finishes

@@ -1,0 +1,211 @@
+//! The replay of a log.
+
+ghost use Rattle.std.specs.Prelude.{◌≡◌, ◌≢◌, ◌↔◌, ◌+◌, ◌*◌, ◌<◌, ◌≤◌, [], true, Err, length, OnOk, OnErr, IfErr};
+ghost use Rattle.cell_page.specs.Format.{IsSlotCount, IsPage};
+ghost use Rattle.cell_page.specs.Stored.{HoldsPage};
+ghost use Rattle.log_record.specs.Spelling.{HasSpelling, HasCellSpelling};
+ghost use Rattle.log_record.specs.Records.{record_of};
+ghost use Rattle.log_replay.specs.Inside.{cells_of, ArePages};
+ghost use Rattle.log_replay.specs.Replays.{IsReplaying, IsWithin, is_skipped, FitsCells, FitsReplay, taken};
+ghost use Rattle.log_replay.specs.Steps.{FitsCell, changed_in, with_cells_after, taken_of_cells, taken_image};
+ghost use Rattle.log_replay.specs.declared.refusals.TakeRefusal.TheVariants.{Unfit, Memory};
+
+use crate::cell_steps;
+use crate::concerned::{concerned, is_within};
+use crate::pages::Pages;
+use crate::refusals::TakeRefusal;
+use crate::unended::{self, UnendedMap};
+use cell_page::{CELLS_OF_PAGE, Page, page_of};
+use log_record::{CellRecord, Record};
+use std::alloc::Global;
+use std::collections::BTreeMap;
+use std::marker::Model;
+
+/// What the records of a log make of the pages of a store, record by record.
+#[derive(Debug, Drop)]
+pub struct Replay<const SLOTS: usize> {
+    alloc: Global,
+    pub(crate) pages: Pages<SLOTS>,
+    /// For each page, how many images of it are still to come.
+    skip: Vec<u32>,
+    pub(crate) unended: UnendedMap,
+}
+
+/// Contracts see the cells, the transactions that haven't ended, and how many images of each page are still to come.
+impl<const SLOTS: usize> Model for Replay<SLOTS> {
+    ghost use Rattle.log_replay.specs.Replays.{Replaying, IsReplaying};
+
+    ghost Value = { Replaying };
+
+    ghost view = { λ r. record { cells = r.pages; unended = r.unended.entries; skips = r.skip.items } };
+
+    ghost invariant = { λ r. IsReplaying SLOTS (record { cells = r.pages; unended = r.unended.entries; skips = r.skip.items }) };
+}
+
+impl<const SLOTS: usize> Replay<SLOTS> {
+    /// A replay over the pages of a store, before the first record of its log. Of each page so many images are still to
+    /// come.
+    pub fn over(alloc: Global, pages: Vec<Page<SLOTS>>, skip: Vec<u32>) -> Replay<SLOTS>
+        requires pages { ArePages pages.items }
+        requires skip { length skip.items ≡ length pages.items }
+        ensures { result ≡ record { cells = cells_of pages.entry.items; unended = []; skips = skip.items } }
+    {
+        Replay {
+            alloc,
+            pages: Pages::new(pages),
+            skip,
+            unended: BTreeMap::new(alloc),
+        }
+    }
+
+    /// Takes the next record of the log.
+    pub fn take(&mut self, rec: &Record<SLOTS>) -> Result<(), TakeRefusal>
+        requires { HasSpelling rec.now }
+        ensures ok { OnOk result (self.new ≡ taken rec.now self.old) }
+        ensures err { OnErr result (self.new ≡ self.old) }
+
+        // `Unfit` is the answer exactly where the record doesn't fit.
+        ensures unfit { (result ≢ Err Unfit) ↔ FitsReplay self.old rec.now }
+    {
+        if !self.fits(rec) {
+            return Err(TakeRefusal::Unfit);
+        }
+        match rec {
+            Record::OfCells(r) => self.take_of_cells(r),
+            Record::Image { page, cells } => {
+                self.take_image(*page, cells);
+                Ok(())
+            }
+            Record::Turn { .. } => Ok(()),
+        }
+    }
+
+    /// Whether the record fits.
+    fn fits(&self, rec: &Record<SLOTS>) -> bool
+        requires { HasSpelling rec.now }
+        ensures { (result ≡ true) ↔ FitsReplay self.now rec.now }
+    {
+        match rec {
+            Record::OfCells(r) => is_within(r, self.ids())
+                && unended::fits(&self.unended, r)
+                && self.fits_cells(r),
+            Record::Image { page, .. } => (*page as usize) < self.skip.len(),
+            Record::Turn { .. } => true,
+        }
+    }
+
+    /// The greatest id.
+    pub(crate) fn ids(&self) -> u32
+        ensures slots { IsSlotCount SLOTS }
+        ensures few { result ≤ 8192 }
+        ensures ids { result ≡ 8 * length self.now.skips }
+        ensures cells { length self.now.cells ≡ result + 1 }
+    {
+        CELLS_OF_PAGE as u32 * self.pages.count() as u32
+    }
+
+    /// Whether an image of the id's page is still to come.
+    fn is_skipped(&self, id: u32) -> bool
+        requires above { 0 < id }
+        requires within { id < length self.now.cells }
+        ensures { result ≡ is_skipped self.now.skips id }
+    {
+        self.skip[page_of(id) as usize] != 0
+    }
+
+    /// Whether the record fits the cell of an id, which may be 0 for none.
+    fn fits_cell(&self, r: &CellRecord, id: u32) -> bool
+        requires within { id < length self.now.cells }
+        requires spelled { HasCellSpelling SLOTS r.now }
+        ensures { (result ≡ true) ↔ FitsCell self.now.skips self.now.cells (record_of r.now) id }
+    {
+        if id == 0 || self.is_skipped(id) {
+            return true;
+        }
+        cell_steps::step(r, self.pages.get(id)).is_some()
+    }
+
+    /// Whether the record fits each cell but those of whose pages images are still to come.
+    fn fits_cells(&self, r: &CellRecord) -> bool
+        requires sized { length self.now.cells ≡ 8 * length self.now.skips + 1 }
+        requires within { IsWithin (8 * length self.now.skips) r.now }
+        requires spelled { HasCellSpelling SLOTS r.now }
+        ensures { (result ≡ true) ↔ FitsCells self.now.skips self.now.cells (record_of r.now) }
+    {
+        let ids = concerned(r);
+        self.fits_cell(r, ids.own) & self.fits_cell(r, ids.from) & self.fits_cell(r, ids.to)
+    }
+
+    /// Takes a record of single cells, which fits. Out of memory is its only error.
+    #[tactic(auto, using(crate::proofs::PlacedLaws::placed_after))]
+    pub(crate) fn take_of_cells(&mut self, r: &CellRecord) -> Result<(), TakeRefusal>
+        requires spelled { HasCellSpelling SLOTS r.now }
+        requires within { IsWithin (8 * length self.old.skips) r.now }
+        requires fits { FitsCells self.old.skips self.old.cells (record_of r.now) }
+        ensures ok { OnOk result (self.new ≡ taken_of_cells SLOTS (record_of r.now) self.old) }
+        ensures err { OnErr result (self.new ≡ self.old) }
+        ensures memory { IfErr result (λ e. e ≡ Memory) }
+    {
+        if unended::take(&mut self.unended, self.alloc, r).is_err() {
+            return Err(TakeRefusal::Memory);
+        }
+        self.change_cells(r);
+        Ok(())
+    }
+
+    /// Does a record, which fits, to the cells.
+    fn change_cells(&mut self, r: &CellRecord)
+        requires spelled { HasCellSpelling SLOTS r.now }
+        requires sized { length self.old.cells ≡ 8 * length self.old.skips + 1 }
+        requires within { IsWithin (8 * length self.old.skips) r.now }
+        requires fits { FitsCells self.old.skips self.old.cells (record_of r.now) }
+        ensures { self.new ≡ with_cells_after SLOTS (record_of r.now) self.old }
+    {
+        let ids = concerned(r);
+        self.change_cell(r, ids.own);
+        self.change_cell(r, ids.from);
+        self.change_cell(r, ids.to);
+    }
+
+    /// Does a record, which fits, to the cell of an id, which may be 0 for none.
+    fn change_cell(&mut self, r: &CellRecord, id: u32)
+        requires spelled { HasCellSpelling SLOTS r.now }
+        requires within { id < length self.old.cells }
+        requires fits { FitsCell self.old.skips self.old.cells (record_of r.now) id }
+        ensures { self.new ≡ changed_in SLOTS (record_of r.now) id self.old }
+    {
+        if id == 0 || self.is_skipped(id) {
+            return;
+        }
+        if let Some(next) = cell_steps::step(r, self.pages.get(id)) {
+            self.pages.put(&next);
+        }
+    }
+
+    /// Takes an image of a page: the last one that is to come is the page.
+    #[tactic(auto, using(crate::proofs::TakenLaws::image_awaited, crate::proofs::TakenLaws::image_put))]
+    fn take_image(&mut self, p: u16, page: &Page<SLOTS>)
+        requires within { p < length self.old.skips }
+        requires rules { IsPage p page.now }
+        ensures { self.new ≡ taken_image p page.now self.old }
+    {
+        let awaited = self.skip[p as usize];
+        if awaited > 1 {
+            self.skip[p as usize] = awaited - 1;
+            return;
+        }
+        self.pages.put_page(p, page);
+        self.skip[p as usize] = 0;
+    }
+
+    /// A page as it is so far.
+    pub fn page(&self, p: u16) -> &Page<SLOTS>
+        requires { p < length self.now.skips }
+        ensures page { HoldsPage self.now.cells p result.now }
+
+        // There are eight cells for each page, and what is left to undo is of the store's places.
+        ensures whole { IsReplaying SLOTS self.now }
+    {
+        self.pages.page(p)
+    }
+}

@@ -1,0 +1,169 @@
+//! The transactions that haven't ended, and which record fits them.
+
+ghost use Rattle.std.specs.Prelude.{◌≡◌, ◌≢◌, ◌↔◌, [], true, IfSome, IfNone, OnOk, OnErr};
+ghost use Rattle.restart_laws.specs.Unended.{unended_at, unended_after, changed_at, with_change, without_change, IsRunning, IsLastChange, IsAllUndone, FitsUnended};
+ghost use Rattle.log_record.specs.Records.{record_of};
+ghost use Rattle.log_replay.specs.Steps.{change_of, place_of_byte, IsFirst};
+
+use crate::Memory;
+use crate::transaction::{Transaction, Write};
+use log_record::{CellRecord, PAYLOAD_PLACE};
+use plain_model::Place;
+use std::alloc::Global;
+use std::collections::BTreeMap;
+
+/// The clients whose transactions haven't ended, each with its transaction.
+pub(crate) type UnendedMap = BTreeMap<u8, Transaction>;
+
+/// The place that an undo names by this byte.
+fn place_of(place: u8) -> Place
+    ensures { result ≡ place_of_byte place }
+{
+    if place == PAYLOAD_PLACE {
+        Place::Payload
+    } else {
+        Place::Slot(place)
+    }
+}
+
+/// Whether the client has a transaction, no write of which was undone.
+fn is_running(unended: &UnendedMap, pass: u8) -> bool
+    ensures { (result ≡ true) ↔ IsRunning (unended_at unended.now.entries pass) }
+{
+    match unended.get(&pass) {
+        Some(transaction) => !transaction.is_aborting(),
+        None => false,
+    }
+}
+
+/// Whether the client has a transaction whose last write that isn't undone is this one.
+fn is_last(unended: &UnendedMap, pass: u8, write: &Write) -> bool
+    ensures { (result ≡ true) ↔ IsLastChange (unended_at unended.now.entries pass) (change_of write.now) }
+{
+    match unended.get(&pass) {
+        Some(transaction) => transaction.is_last(write),
+        None => false,
+    }
+}
+
+/// Whether the client has a transaction whose writes are all undone.
+fn is_all_undone(unended: &UnendedMap, pass: u8) -> bool
+    ensures { (result ≡ true) ↔ IsAllUndone (unended_at unended.now.entries pass) }
+{
+    match unended.get(&pass) {
+        Some(transaction) => transaction.is_all_undone(),
+        None => false,
+    }
+}
+
+/// Whether the record fits the transactions that haven't ended.
+pub(crate) fn fits(unended: &UnendedMap, r: &CellRecord) -> bool
+    ensures { (result ≡ true) ↔ FitsUnended unended.now.entries (record_of r.now) }
+{
+    match *r {
+        CellRecord::Begin { pass } => unended.get(&pass).is_none(),
+        CellRecord::Make { pass, .. }
+        | CellRecord::Store { pass, .. }
+        | CellRecord::Pay { pass, .. }
+        | CellRecord::Commit { pass } => is_running(unended, pass),
+        CellRecord::Undo {
+            pass,
+            id,
+            place,
+            from,
+            to,
+            ..
+        } => {
+            let write = Write {
+                id,
+                place: place_of(place),
+                old: to,
+                new: from,
+            };
+            is_last(unended, pass, &write)
+        }
+        CellRecord::AbortEnd { pass } => is_all_undone(unended, pass),
+        _ => true,
+    }
+}
+
+/// The client's transaction wrote once more. Out of memory is its only error, and changes nothing.
+fn note(unended: &mut UnendedMap, pass: u8, write: Write) -> Result<(), Memory>
+    ensures ok { OnOk result (unended.new.entries ≡ changed_at unended.old.entries pass (with_change (change_of write))) }
+    ensures err { OnErr result (unended.new.entries ≡ unended.old.entries) }
+{
+    match unended.get_mut(&pass) {
+        Some(transaction) => transaction.note(write),
+        None => Ok(()),
+    }
+}
+
+/// The last write of the client's transaction is undone.
+fn undo(unended: &mut UnendedMap, pass: u8)
+    ensures { unended.new.entries ≡ changed_at unended.old.entries pass without_change }
+{
+    if let Some(transaction) = unended.get_mut(&pass) {
+        transaction.undo();
+    }
+}
+
+/// The transactions after the record. Out of memory is its only error, and changes nothing.
+pub(crate) fn take(unended: &mut UnendedMap, alloc: Global, r: &CellRecord) -> Result<(), Memory>
+    ensures ok { OnOk result (unended.new.entries ≡ unended_after unended.old.entries (record_of r.now)) }
+    ensures err { OnErr result (unended.new.entries ≡ unended.old.entries) }
+{
+    match *r {
+        CellRecord::Begin { pass } => {
+            unended.insert(pass, Transaction::new(alloc))?;
+            Ok(())
+        }
+        CellRecord::Store {
+            pass,
+            id,
+            slot,
+            old_target,
+            new_target,
+            ..
+        } => {
+            let write = Write {
+                id,
+                place: Place::Slot(slot),
+                old: old_target as u64,
+                new: new_target as u64,
+            };
+            note(unended, pass, write)
+        }
+        CellRecord::Pay {
+            pass,
+            id,
+            old_value,
+            new_value,
+        } => {
+            let write = Write {
+                id,
+                place: Place::Payload,
+                old: old_value,
+                new: new_value,
+            };
+            note(unended, pass, write)
+        }
+        CellRecord::Undo { pass, .. } => {
+            undo(unended, pass);
+            Ok(())
+        }
+        CellRecord::Commit { pass } | CellRecord::AbortEnd { pass } => {
+            unended.remove(&pass);
+            Ok(())
+        }
+        _ => Ok(()),
+    }
+}
+
+/// The first client whose transaction hasn't ended, and the last write of it that isn't undone.
+pub(crate) fn first(unended: &UnendedMap) -> Option<(u8, Option<Write>)>
+    ensures some { IfSome result (λ p. IsFirst unended.now.entries p.0 p.1) }
+    ensures none { IfNone result (unended.now.entries ≡ []) }
+{
+    let (pass, transaction) = unended.first_key_value()?;
+    Some((*pass, transaction.last()))
+}
