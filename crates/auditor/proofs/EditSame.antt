@@ -4,7 +4,7 @@ use Rattle.std.proofs.lemmas.Bool.{cases_eq}
 use Rattle.std.proofs.lemmas.List.{map-set, length-map}
 use Rattle.cell_model.specs.Cells.{Pointer, Cell, cell_at, pointer_in, pointer_at, edit, relink, gains, loses, pays, flipped, other_strength, relinked, same}
 use Rattle.cell_model.proofs.EditLaws.{edit-set, edit-none, there}
-use Rattle.auditor.specs.Replay.{uncounted, SameButCounts, turned_over}
+use Rattle.auditor.specs.Replay.{uncounted, SameButCounts, switched_over}
 
 -- the cell at an id, without its counts
 uncounted-at : (cells : List Cell) (id : ℕ) → uncounted (cell_at cells id) ≡ cell_at (map uncounted cells) id
@@ -63,17 +63,17 @@ relinked-same cells others id slot p e =
 pub same-pointer : (cells others : List Cell) (id slot : ℕ) → SameButCounts cells others → pointer_at cells id slot ≡ pointer_at others id slot
 same-pointer cells others id slot e = ap (λ (c : Cell). pointer_in c slot) (same-at cells others id e)
 
-pub turned-same : (cells others : List Cell) (id slot : ℕ) → SameButCounts cells others
+pub switched-same : (cells others : List Cell) (id slot : ℕ) → SameButCounts cells others
     → SameButCounts (edit cells id (relink slot (other_strength (pointer_at cells id slot)))) (relinked others id slot (other_strength (pointer_at others id slot)))
-turned-same cells others id slot e =
+switched-same cells others id slot e =
     subst (λ (p : Pointer). SameButCounts (edit cells id (relink slot (other_strength p))) (relinked others id slot (other_strength (pointer_at others id slot))))
     (sym (same-pointer cells others id slot e)) (relinked-same cells others id slot (other_strength (pointer_at others id slot)) e)
 
 pub pays-same : (cells others : List Cell) (id value : ℕ) → SameButCounts cells others → SameButCounts (edit cells id (pays value)) (edit others id (pays value))
 pays-same cells others id value e = same-edits cells others id (pays value) (pays value) e (ap (pays value) (same-at cells others id e))
 
-pub flip-same : (cells others : List Cell) (id : ℕ) → SameButCounts cells others → SameButCounts (edit cells id (turned_over id)) (edit others id (flipped id))
-flip-same cells others id e = same-edits cells others id (turned_over id) (flipped id) e (ap (turned_over id) (same-at cells others id e))
+pub flip-same : (cells others : List Cell) (id : ℕ) → SameButCounts cells others → SameButCounts (edit cells id (switched_over id)) (edit others id (flipped id))
+flip-same cells others id e = same-edits cells others id (switched_over id) (flipped id) e (ap (switched_over id) (same-at cells others id e))
 
 pub blank-same : (cells others : List Cell) (id : ℕ) (c : Cell) → SameButCounts cells others → SameButCounts (edit cells id (λ _. c)) (edit others id (λ _. c))
 blank-same cells others id c e = same-edits cells others id (λ _. c) (λ _. c) e refl

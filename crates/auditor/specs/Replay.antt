@@ -1,6 +1,6 @@
 -- Cells whose counts are of no account, and what records do to them.
 use Rattle.std.specs.Prelude.{◌≡◌, ℕ, not, List, map, Option, Some, None}
-use Rattle.cell_model.specs.Cells.{Cell, turned}
+use Rattle.cell_model.specs.Cells.{Cell, switched}
 use Rattle.log_record.specs.declared.cell_record.CellRecord.{CellRecord}
 use Rattle.cell_model.specs.Records.{AllFit}
 use Rattle.log_record.specs.Records.{after_cell_record, FitsCells}
@@ -16,8 +16,8 @@ abbrev pub SameButCounts : List Cell → List Cell → Type 0
 SameButCounts cells others = map uncounted cells ≡ map uncounted others
 
 -- the cell with the other target bit, and the other bits in its pointers to itself
-abbrev pub turned_over : ℕ → Cell → Cell
-turned_over id c = record c { bit = not c.bit; pointers = map (turned id) c.pointers }
+abbrev pub switched_over : ℕ → Cell → Cell
+switched_over id c = record c { bit = not c.bit; pointers = map (switched id) c.pointers }
 
 -- whatever cells these are but for their counts, those after the record are the new ones but for their counts
 abbrev pub Replays : ℕ → List Cell → CellRecord → List Cell → Type 0

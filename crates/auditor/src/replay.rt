@@ -3,14 +3,14 @@
 //! The cell of id n stands at index n, and at index 0, which is no id, a free one.
 ghost use Rattle.std.specs.Prelude.{◌≡◌, ◌≢◌, ◌<◌, ◌≤◌, ◌+◌, ◌++◌, ◌∷◌, [], ℕ, List, length, map, true, false, not, IfOk, slice_set, option_map};
 ghost use Rattle.std.specs.Option.{option_map_or};
-ghost use Rattle.cell_model.specs.Cells.{Cell as StoredCell, blank_cell, cell_at, pointer_in, pointer_at, edit, relink, pays, other_strength, turned};
+ghost use Rattle.cell_model.specs.Cells.{Cell as StoredCell, blank_cell, cell_at, pointer_in, pointer_at, edit, relink, pays, other_strength, switched};
 ghost use Rattle.cell_model.specs.Records.{AllFit, after_record};
 ghost use Rattle.cell_page.specs.Format.{IsSlotCount};
 ghost use Rattle.cell_page.specs.Stored.{cell_of};
 ghost use Rattle.log_record.specs.Records.{record_of, after_cell_record, FitsCells};
 ghost use Rattle.core_store.specs.JournalView.{logged_in, cells_after_notes};
 ghost use Rattle.core_store.specs.Fresh.{store_of};
-ghost use Rattle.auditor.specs.Replay.{SameButCounts, turned_over, Replays, ReplaysNote};
+ghost use Rattle.auditor.specs.Replay.{SameButCounts, switched_over, Replays, ReplaysNote};
 
 use crate::counts::know_slots;
 use cell_page::Cell;
@@ -55,7 +55,7 @@ fn lay<const SLOTS: usize>(cell: &mut Cell<SLOTS>, slot: u8, target: u32, bit: b
 }
 
 /// Changes the bit of the pointer in a slot, where there is such a slot.
-fn turn<const SLOTS: usize>(cell: &mut Cell<SLOTS>, slot: u8)
+fn switch<const SLOTS: usize>(cell: &mut Cell<SLOTS>, slot: u8)
     requires size { IsSlotCount SLOTS }
     requires count { length cell.old.slots ≡ SLOTS }
     ensures model { cell_of cell.new ≡ relink slot (other_strength (pointer_in (cell_of cell.old) slot)) (cell_of cell.old) }
@@ -69,26 +69,26 @@ fn turn<const SLOTS: usize>(cell: &mut Cell<SLOTS>, slot: u8)
 }
 
 /// Changes the bit of a slot's pointer where it leads to this id.
-fn turn_if<const SLOTS: usize>(cell: &mut Cell<SLOTS>, id: u32, slot: u8)
+fn switch_if<const SLOTS: usize>(cell: &mut Cell<SLOTS>, id: u32, slot: u8)
     requires size { IsSlotCount SLOTS }
     requires within { slot < SLOTS }
     requires count { length cell.old.slots ≡ SLOTS }
-    ensures model { cell_of cell.new ≡ relink slot (turned id (pointer_in (cell_of cell.old) slot)) (cell_of cell.old) }
+    ensures model { cell_of cell.new ≡ relink slot (switched id (pointer_in (cell_of cell.old) slot)) (cell_of cell.old) }
     ensures count { length cell.new.slots ≡ length cell.old.slots }
 {
     if cell.slots[slot as usize] == id {
-        turn(cell, slot);
+        switch(cell, slot);
     }
 }
 
 /// Changes the bits of the pointers to this id.
-fn turn_all<const SLOTS: usize>(cell: &mut Cell<SLOTS>, id: u32)
+fn switch_all<const SLOTS: usize>(cell: &mut Cell<SLOTS>, id: u32)
     requires size { IsSlotCount SLOTS }
     requires count { length cell.old.slots ≡ SLOTS }
-    ensures { cell_of cell.new ≡ record (cell_of cell.old) { pointers = map (turned id) (cell_of cell.old).pointers } }
+    ensures { cell_of cell.new ≡ record (cell_of cell.old) { pointers = map (switched id) (cell_of cell.old).pointers } }
 {
     for slot in 0..SLOTS {
-        turn_if(cell, id, slot as u8);
+        switch_if(cell, id, slot as u8);
     }
 }
 
@@ -121,24 +121,24 @@ fn redo_pay<const SLOTS: usize>(cells: &mut [Cell<SLOTS>], id: u32, value: u64)
 }
 
 /// The change of the strength of a slot's pointer.
-fn redo_turn<const SLOTS: usize>(cells: &mut [Cell<SLOTS>], id: u32, slot: u8)
+fn redo_switch<const SLOTS: usize>(cells: &mut [Cell<SLOTS>], id: u32, slot: u8)
     requires { IsSlotCount SLOTS }
     ensures exact { map cell_of cells.new ≡ edit (map cell_of cells.old) id (relink slot (other_strength (pointer_at (map cell_of cells.old) id slot))) }
     ensures len { length cells.new ≡ length cells.old }
 {
     let mut cell = get(cells, id);
-    turn(&mut cell, slot);
+    switch(&mut cell, slot);
     put(cells, id, cell);
 }
 
 /// The flip of an object's target bit.
 fn redo_flip<const SLOTS: usize>(cells: &mut [Cell<SLOTS>], id: u32)
     requires { IsSlotCount SLOTS }
-    ensures exact { map cell_of cells.new ≡ edit (map cell_of cells.old) id (turned_over id) }
+    ensures exact { map cell_of cells.new ≡ edit (map cell_of cells.old) id (switched_over id) }
     ensures len { length cells.new ≡ length cells.old }
 {
     let mut cell = get(cells, id);
-    turn_all(&mut cell, id);
+    switch_all(&mut cell, id);
     cell.bit = !cell.bit;
     put(cells, id, cell);
 }
@@ -183,8 +183,8 @@ fn redo<const SLOTS: usize>(cells: &mut [Cell<SLOTS>], logged: &CellRecord)
             to_bit,
             ..
         } => redo_undo(cells, id, place, to, to_bit),
-        CellRecord::Weaken { id, slot, .. } => redo_turn(cells, id, slot),
-        CellRecord::Strengthen { id, slot, .. } => redo_turn(cells, id, slot),
+        CellRecord::Weaken { id, slot, .. } => redo_switch(cells, id, slot),
+        CellRecord::Strengthen { id, slot, .. } => redo_switch(cells, id, slot),
         CellRecord::Flip { id } => redo_flip(cells, id),
         CellRecord::CutDead { id, slot, .. } => redo_slot(cells, id, slot, 0, false),
         CellRecord::Free { id } => put(cells, id, Cell::free(id)),

@@ -3,7 +3,7 @@ use Rattle.std.proofs.Common.{◌≡◌, ◌≢◌, ℕ, zero, suc, ◌<◌, Lis
 use Rattle.std.specs.Option.{option_map_or}
 use Rattle.std.proofs.lemmas.Bool.{cases_eq}
 use Rattle.std.proofs.lemmas.List.Sums.{fold-append}
-use Rattle.cell_model.specs.Cells.{Pointer, Cell, null, blank_cell, cell_at, pointer_at, is_live, edit, relink, gains, loses, relinked, other_strength, pays, flipped, turned, IsExact}
+use Rattle.cell_model.specs.Cells.{Pointer, Cell, null, blank_cell, cell_at, pointer_at, is_live, edit, relink, gains, loses, relinked, other_strength, pays, flipped, switched, IsExact}
 use Rattle.cell_model.specs.Records.{Record, Begin, Make, Store, Pay, Commit, Undo, UndoPay, AbortEnd, Weaken, Strengthen, Flip, CutDead, Free, after_record, cells_after, AllFit, AllWellLaid, Fits, IsWellLaid}
 use Rattle.cell_model.specs.Strong.{HasNoStrongCycle}
 use Rattle.cell_model.specs.Consistent.{AreConsistent}
@@ -29,9 +29,9 @@ relinked-zero cells u k p =
     let c2 = edit c1 old.target (loses old.bit) in
     edit-zero c2 p.target (gains p.bit) ∙ (edit-zero c1 old.target (loses old.bit) ∙ edit-zero cells u (relink k p))
 
-turned-length : (u : ℕ) (ps : List Pointer) → length (map (turned u) ps) ≡ length ps
-turned-length u [] = refl
-turned-length u (p ∷ ps) = let ih = turned-length u ps in omega (arith, ih)
+switched-length : (u : ℕ) (ps : List Pointer) → length (map (switched u) ps) ≡ length ps
+switched-length u [] = refl
+switched-length u (p ∷ ps) = let ih = switched-length u ps in omega (arith, ih)
 
 pub blank-length : (n : ℕ) → length (replicate n null) ≡ n
 blank-length zero = refl
@@ -106,7 +106,7 @@ consistent-kept slots ids cells r f w k = by r f (exact-kept slots cells r f k.e
     by (AbortEnd pass) f e a = k
     by (Weaken id slot target) f e a = relinked-consistent slots ids cells k id slot (other_strength (pointer_at cells id slot)) f.0.live (λ n. k.exact.closed id slot f.0.live n) e a
     by (Strengthen id slot target) f e a = relinked-consistent slots ids cells k id slot (other_strength (pointer_at cells id slot)) f.0.live (λ n. k.exact.closed id slot f.0.live n) e a
-    by (Flip id) f e a = edited-consistent slots ids cells k id (flipped id) f.0 (λ c. refl) (λ c. turned-length id c.pointers) e a
+    by (Flip id) f e a = edited-consistent slots ids cells k id (flipped id) f.0 (λ c. refl) (λ c. switched-length id c.pointers) e a
     by (CutDead id slot target was_strong) f e a = relinked-consistent slots ids cells k id slot null f.0.live (λ n. absurd (n refl)) e a
     by (Free id) f e a = blank-consistent slots ids cells k id false (live-there cells id k.exact.none f.0) (live-within cells id f.0) e a
 

@@ -3,7 +3,7 @@ use Rattle.std.proofs.Common.{◌≡◌, ◌≢◌, ℕ, zero, suc, ◌+◌, ◌
 use Rattle.std.specs.Prelude.{◌==◌, ◌&&◌, sum_by, count_by}
 use Rattle.std.proofs.lemmas.Bool.{cases_eq, cond-true, cond-false}
 use Rattle.std.proofs.lemmas.List.Sums.{sum_by-cons, get_or-le-sum_by}
-use Rattle.cell_model.specs.Cells.{Pointer, Cell, null, blank_cell, cell_at, pointer_in, pointer_at, is_live, is_strong, same, edit, aims, hits, aims_in, counted, pointers_to, own_strong, IsExactAt, IsExact, other_strength, flipped, self_pointers, turned}
+use Rattle.cell_model.specs.Cells.{Pointer, Cell, null, blank_cell, cell_at, pointer_in, pointer_at, is_live, is_strong, same, edit, aims, hits, aims_in, counted, pointers_to, own_strong, IsExactAt, IsExact, other_strength, flipped, self_pointers, switched}
 use Rattle.cell_model.specs.Strong.{IsStrongAt, HasNoStrongCycle, HasNoStrongOut}
 use Rattle.cell_model.proofs.EditLaws.{live-within, live-there, edit-here, edit-other, edit-keeps, pointers_to-edit, pointers_to-edit_same}
 use Rattle.cell_model.proofs.CountLaws.{by_bit, from_bits}
@@ -30,35 +30,35 @@ same-both true false = refl
 same-both false true = refl
 same-both false false = refl
 
-turned-here : (u : ℕ) (p : Pointer) → p.target ≡ u → turned u p ≡ other_strength p
-turned-here u p e = cond-true (p.target == u) (other_strength p) p (eq-eqb p.target u e)
+switched-here : (u : ℕ) (p : Pointer) → p.target ≡ u → switched u p ≡ other_strength p
+switched-here u p e = cond-true (p.target == u) (other_strength p) p (eq-eqb p.target u e)
 
-turned-apart : (u : ℕ) (p : Pointer) → p.target ≢ u → turned u p ≡ p
-turned-apart u p n = cond-false (p.target == u) (other_strength p) p (ne_eqb p.target u n)
+switched-apart : (u : ℕ) (p : Pointer) → p.target ≢ u → switched u p ≡ p
+switched-apart u p n = cond-false (p.target == u) (other_strength p) p (ne_eqb p.target u n)
 
-pub turned-target : (u : ℕ) (p : Pointer) → (turned u p).target ≡ p.target
-turned-target u p = ⊎_elim (λ e. ap (λ (q : Pointer). q.target) (turned-here u p e)) (λ n. ap (λ (q : Pointer). q.target) (turned-apart u p n)) (cases_eq p.target u)
+pub switched-target : (u : ℕ) (p : Pointer) → (switched u p).target ≡ p.target
+switched-target u p = ⊎_elim (λ e. ap (λ (q : Pointer). q.target) (switched-here u p e)) (λ n. ap (λ (q : Pointer). q.target) (switched-apart u p n)) (cases_eq p.target u)
 
 none_hit : (b : ℕ) (bit : Bool) (p : Pointer) → p.target ≢ b → hits b bit p ≡ 0
 none_hit b bit p n = ap (λ t. cond (t && same p.bit bit) 1 0) (ne_eqb p.target b n)
 
-hits-turned_other : (u b : ℕ) (bit : Bool) → b ≢ u → (p : Pointer) → hits b bit (turned u p) ≡ hits b bit p
-hits-turned_other u b bit m p =
+hits-switched_other : (u b : ℕ) (bit : Bool) → b ≢ u → (p : Pointer) → hits b bit (switched u p) ≡ hits b bit p
+hits-switched_other u b bit m p =
     ⊎_elim
     (λ e.
     let x = none_hit b bit p (λ q. m (sym q ∙ e)) in
-    let y = none_hit b bit (turned u p) (λ q. m (sym q ∙ (turned-target u p ∙ e))) in
+    let y = none_hit b bit (switched u p) (λ q. m (sym q ∙ (switched-target u p ∙ e))) in
     omega (arith, x, y))
-    (λ n. ap (hits b bit) (turned-apart u p n))
+    (λ n. ap (hits b bit) (switched-apart u p n))
     (cases_eq p.target u)
 
-hits-turned_self : (u : ℕ) (bit : Bool) (p : Pointer) → hits u bit (turned u p) ≡ hits u (not bit) p
-hits-turned_self u bit p =
+hits-switched_self : (u : ℕ) (bit : Bool) (p : Pointer) → hits u bit (switched u p) ≡ hits u (not bit) p
+hits-switched_self u bit p =
     ⊎_elim
-    (λ e. ap (hits u bit) (turned-here u p e) ∙ ap (λ t. cond ((p.target == u) && t) 1 0) (same-not p.bit bit))
+    (λ e. ap (hits u bit) (switched-here u p e) ∙ ap (λ t. cond ((p.target == u) && t) 1 0) (same-not p.bit bit))
     (λ n.
     let x = none_hit u (not bit) p n in
-    let y = none_hit u bit (turned u p) (λ q. n (sym (turned-target u p) ∙ q)) in
+    let y = none_hit u bit (switched u p) (λ q. n (sym (switched-target u p) ∙ q)) in
     omega (arith, x, y))
     (cases_eq p.target u)
 
@@ -75,10 +75,10 @@ hits-both u bit p = by (p.target == u) p.bit bit
     by false false true = refl
     by false false false = refl
 
-turned-map : (u : ℕ) → u ≢ 0 → (ps : List Pointer) (k : ℕ) → get_or (map (turned u) ps) k null ≡ turned u (get_or ps k null)
-turned-map u n [] k = sym (turned-apart u null (λ e. n (sym e)))
-turned-map u n (p ∷ ps) zero = refl
-turned-map u n (p ∷ ps) (suc k) = turned-map u n ps k
+switched-map : (u : ℕ) → u ≢ 0 → (ps : List Pointer) (k : ℕ) → get_or (map (switched u) ps) k null ≡ switched u (get_or ps k null)
+switched-map u n [] k = sym (switched-apart u null (λ e. n (sym e)))
+switched-map u n (p ∷ ps) zero = refl
+switched-map u n (p ∷ ps) (suc k) = switched-map u n ps k
 
 module _ (cells : List Cell) (u : ℕ) (e : IsExact cells) (l : is_live cells u ≡ true) where
   after : List Cell
@@ -96,21 +96,21 @@ module _ (cells : List Cell) (u : ℕ) (e : IsExact cells) (l : is_live cells u 
   pub flip-pointer_other : (v k : ℕ) → v ≢ u → pointer_at (edit cells u (flipped u)) v k ≡ pointer_at cells v k
   flip-pointer_other v k n = ap (λ (c : Cell). pointer_in c k) (edit-other cells u v (flipped u) n)
 
-  pub flip-pointer_own : (k : ℕ) → pointer_at (edit cells u (flipped u)) u k ≡ turned u (pointer_at cells u k)
-  flip-pointer_own k = ap (λ (c : Cell). pointer_in c k) here ∙ turned-map u nonzero_id (cell_at cells u).pointers k
+  pub flip-pointer_own : (k : ℕ) → pointer_at (edit cells u (flipped u)) u k ≡ switched u (pointer_at cells u k)
+  flip-pointer_own k = ap (λ (c : Cell). pointer_in c k) here ∙ switched-map u nonzero_id (cell_at cells u).pointers k
 
   pub flip-target : (v k : ℕ) → (pointer_at (edit cells u (flipped u)) v k).target ≡ (pointer_at cells v k).target
   flip-target v k =
       ⊎_elim
-      (λ q. subst (λ x. (pointer_at (edit cells u (flipped u)) x k).target ≡ (pointer_at cells x k).target) (sym q) (ap (λ (p : Pointer). p.target) (flip-pointer_own k) ∙ turned-target u (pointer_at cells u k)))
+      (λ q. subst (λ x. (pointer_at (edit cells u (flipped u)) x k).target ≡ (pointer_at cells x k).target) (sym q) (ap (λ (p : Pointer). p.target) (flip-pointer_own k) ∙ switched-target u (pointer_at cells u k)))
       (λ q. ap (λ (p : Pointer). p.target) (flip-pointer_other v k q))
       (cases_eq v u)
 
   aims-flipped_other : (b : ℕ) (bit : Bool) → b ≢ u → aims_in b bit (flipped u (cell_at cells u)) ≡ aims_in b bit (cell_at cells u)
-  aims-flipped_other b bit n = ap (λ m. cond (cell_at cells u).live m 0) (sum_by-map (hits b bit) (hits b bit) (turned u) (hits-turned_other u b bit n) (cell_at cells u).pointers)
+  aims-flipped_other b bit n = ap (λ m. cond (cell_at cells u).live m 0) (sum_by-map (hits b bit) (hits b bit) (switched u) (hits-switched_other u b bit n) (cell_at cells u).pointers)
 
   aims-flipped_self : (bit : Bool) → aims_in u bit (flipped u (cell_at cells u)) ≡ aims_in u (not bit) (cell_at cells u)
-  aims-flipped_self bit = ap (λ m. cond (cell_at cells u).live m 0) (sum_by-map (hits u bit) (hits u (not bit)) (turned u) (hits-turned_self u bit) (cell_at cells u).pointers)
+  aims-flipped_self bit = ap (λ m. cond (cell_at cells u).live m 0) (sum_by-map (hits u bit) (hits u (not bit)) (switched u) (hits-switched_self u bit) (cell_at cells u).pointers)
 
   aims-both : (bit : Bool) → aims_in u bit (cell_at cells u) + aims_in u (not bit) (cell_at cells u) ≡ self_pointers u (cell_at cells u)
   aims-both bit =
@@ -176,10 +176,10 @@ module _ (cells : List Cell) (u : ℕ) (e : IsExact cells) (l : is_live cells u 
   flip-strong_other : (q : Pointer) → q.target ≢ u → is_strong (edit cells u (flipped u)) q ≡ is_strong cells q
   flip-strong_other q n = ap (λ (c : Cell). same c.bit q.bit) (edit-other cells u q.target (flipped u) n)
 
-  flip-strong_self : (q : Pointer) → q.target ≡ u → is_strong (edit cells u (flipped u)) (turned u q) ≡ is_strong cells q
+  flip-strong_self : (q : Pointer) → q.target ≡ u → is_strong (edit cells u (flipped u)) (switched u q) ≡ is_strong cells q
   flip-strong_self q t =
       let cs = edit cells u (flipped u) in
-      ap (λ r. is_strong cs r) (turned-here u q t)
+      ap (λ r. is_strong cs r) (switched-here u q t)
       ∙ (ap (λ x. same (cell_at cs x).bit (not q.bit)) t
       ∙ (ap (λ b. same b (not q.bit)) flip-bit_own
       ∙ (same-both (cell_at cells u).bit q.bit ∙ ap (λ x. same (cell_at cells x).bit q.bit) (sym t))))
@@ -192,7 +192,7 @@ module _ (cells : List Cell) (u : ℕ) (e : IsExact cells) (l : is_live cells u 
       let strong_before : is_strong cells q ≡ true =
       ⊎_elim
       (λ i. sym (flip-strong_self q i) ∙ (ap (λ r. is_strong cs r) (sym (flip-pointer_own j)) ∙ s.strong))
-      (λ i. sym (flip-strong_other q i) ∙ (ap (λ r. is_strong cs r) (sym (flip-pointer_own j ∙ turned-apart u q i)) ∙ s.strong))
+      (λ i. sym (flip-strong_other q i) ∙ (ap (λ r. is_strong cs r) (sym (flip-pointer_own j ∙ switched-apart u q i)) ∙ s.strong))
       (cases_eq q.target u) in
       o j to (record { live = l; target = t; not_null = s.not_null; strong = strong_before })
 
@@ -206,7 +206,7 @@ module _ (cells : List Cell) (u : ℕ) (e : IsExact cells) (l : is_live cells u 
       let apart : (pointer_at cells v j).target ≢ u = λ z. i (sym t ∙ z) in
       let pointer_same : pointer_at cs v j ≡ pointer_at cells v j =
       ⊎_elim
-      (λ w. subst (λ x. pointer_at cs x j ≡ pointer_at cells x j) (sym w) (flip-pointer_own j ∙ turned-apart u (pointer_at cells u j) (λ z. apart (ap (λ x. (pointer_at cells x j).target) w ∙ z))))
+      (λ w. subst (λ x. pointer_at cs x j ≡ pointer_at cells x j) (sym w) (flip-pointer_own j ∙ switched-apart u (pointer_at cells u j) (λ z. apart (ap (λ x. (pointer_at cells x j).target) w ∙ z))))
       (λ w. flip-pointer_other v j w)
       (cases_eq v u) in
       inl (record {

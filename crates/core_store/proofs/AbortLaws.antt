@@ -12,7 +12,7 @@ use Rattle.core_store.specs.declared.three.HeldFrame.{HeldFrame}
 use Rattle.core_store.specs.Events.{after_event}
 use Rattle.core_store.specs.Frames.{Agree}
 use Rattle.core_store.specs.JournalView.{JournalView, cells_of, core_of}
-use Rattle.core_store.specs.Journal.{view_of, IsSound}
+use Rattle.core_store.specs.Journal.{view_of, IsJournalInside}
 use Rattle.core_store.specs.Logged.{logged_by_undo}
 use Rattle.core_store.specs.Replaced.{next_to_restore}
 use Rattle.core_store.specs.RoundView.{touched_by_record}
@@ -22,7 +22,7 @@ use Rattle.core_store.proofs.HappensLaws.{client_note, happens-undo, happens-end
 use Rattle.core_store.proofs.JournalLaws.{Happens}
 use Rattle.core_store.proofs.JournalSteps.{Grows, HasGrown, has-grown}
 
-module _ {slots : ℕ} (a b : Inside slots) (now : JournalView) (held new : List (HeldFrame slots)) (pass left : ℕ) (s : IsSound a) (is : view_of a ≡ now) (agree : Agree (cells_of now) held) (less : b.tables.owed + 1 ≡ a.tables.owed) where
+module _ {slots : ℕ} (a b : Inside slots) (now : JournalView) (held new : List (HeldFrame slots)) (pass left : ℕ) (s : IsJournalInside a) (is : view_of a ≡ now) (agree : Agree (cells_of now) held) (less : b.tables.owed + 1 ≡ a.tables.owed) where
   agree_a : Agree (cells_of (view_of a)) held
   agree_a = subst (λ (j : JournalView). Agree (cells_of j) held) (sym is) agree
 

@@ -13,19 +13,19 @@ use Rattle.core_store.specs.declared.three.HeldFrame.{HeldFrame}
 use Rattle.core_store.specs.Events.{after_event}
 use Rattle.core_store.specs.Frames.{Agree}
 use Rattle.core_store.specs.JournalView.{JournalView, cells_of, core_of}
-use Rattle.core_store.specs.Journal.{view_of, IsSound}
+use Rattle.core_store.specs.Journal.{view_of, IsJournalInside}
 use Rattle.core_store.specs.Limited.{is_past_limit}
 use Rattle.core_store.specs.Logged.{logged_by}
 use Rattle.core_store.specs.Owed.{entries_needed}
 use Rattle.core_store.specs.RoundView.{touched_by_record}
-use Rattle.core_store.specs.Stands.{Answers, Performs}
+use Rattle.core_store.specs.Stands.{Answers, DoesCall}
 use Rattle.core_store.specs.Views.{view_of as tables_of}
 use Rattle.core_store.proofs.HappensLaws.{client_note, happens-call, counted-within}
 use Rattle.core_store.proofs.JournalLaws.{Happens}
 use Rattle.core_store.proofs.JournalSteps.{Grows, HasGrown, has-grown}
 
-module _ {slots : ℕ} (a b : Inside slots) (now : JournalView) (held new : List (HeldFrame slots)) (pass : ℕ) (call : TransactionCall) (reply : Reply) (logged : Option CellRecord) (left : ℕ) (s : IsSound a) (is : view_of a ≡ now) (agree : Agree (cells_of now) held)
-    (g : Grows a b (client_note (Call pass call reply) logged left)) (performs : Performs slots (tables_of a.tables) (tables_of b.tables) held new pass call reply logged) (numbered : IsPass pass) (out : call ≡ Abort → transaction_of (end_of now.history).state pass ≡ None)
+module _ {slots : ℕ} (a b : Inside slots) (now : JournalView) (held new : List (HeldFrame slots)) (pass : ℕ) (call : TransactionCall) (reply : Reply) (logged : Option CellRecord) (left : ℕ) (s : IsJournalInside a) (is : view_of a ≡ now) (agree : Agree (cells_of now) held)
+    (g : Grows a b (client_note (Call pass call reply) logged left)) (performs : DoesCall slots (tables_of a.tables) (tables_of b.tables) held new pass call reply logged) (numbered : IsPass pass) (out : call ≡ Abort → transaction_of (end_of now.history).state pass ≡ None)
     (within : is_past_limit now (entries_needed call) ≡ false) (more : b.tables.owed + 1 ≤ a.tables.owed + entries_needed call) where
   answers : Answers slots (tables_of a.tables) (tables_of b.tables) (core_of (view_of a)) held new pass call reply logged
   answers = performs (core_of (view_of a)) s.keeps.stands (subst (λ (j : JournalView). Agree (cells_of j) held) (sym is) agree)

@@ -16,7 +16,7 @@ use Rattle.core_store.specs.declared.want.Want.TheVariants.{Ready}
 use Rattle.core_store.specs.Collecting.{CanCollect, pages_to_collect}
 use Rattle.core_store.specs.Frames.{Agree, is_held, pages_held}
 use Rattle.core_store.specs.JournalView.{JournalView, cells_of, core_of}
-use Rattle.core_store.specs.Journal.{view_of, IsSound, Keeps}
+use Rattle.core_store.specs.Journal.{view_of, IsJournalInside, Keeps}
 use Rattle.core_store.specs.Limited.{is_past_limit, pages_for_call, pages_for_collector, entries_counted, WasFull}
 use Rattle.core_store.specs.Logged.{want_of, pages_for, pages_for_undo, objects_of_undo}
 use Rattle.core_store.specs.Owed.{entries_needed, entries_owed}
@@ -76,10 +76,10 @@ Keeps-marked j v needed k past few = record {
   unmarked = k.unmarked;
 }
 
-pub sound-marked : {slots : ℕ} (a : Inside slots) (t : Trace) (now : JournalView) (needed : ℕ) → IsSound a → view_of a ≡ now → t ≡ record a.trace { marks = record a.trace.marks { trace = true } } → is_past_limit now needed ≡ true → needed ≤ 2
-    → IsSound (record { alloc = a.alloc; opening = a.opening; trace = t; tables = a.tables })
+pub sound-marked : {slots : ℕ} (a : Inside slots) (t : Trace) (now : JournalView) (needed : ℕ) → IsJournalInside a → view_of a ≡ now → t ≡ record a.trace { marks = record a.trace.marks { trace = true } } → is_past_limit now needed ≡ true → needed ≤ 2
+    → IsJournalInside (record { alloc = a.alloc; opening = a.opening; trace = t; tables = a.tables })
 sound-marked {slots} a t now needed s is marked past few =
-    subst (λ (x : Trace). let b : Inside slots = record { alloc = a.alloc; opening = a.opening; trace = x; tables = a.tables } in IsSound b) (sym marked)
+    subst (λ (x : Trace). let b : Inside slots = record { alloc = a.alloc; opening = a.opening; trace = x; tables = a.tables } in IsJournalInside b) (sym marked)
     (record {
       keeps = Keeps-marked (view_of a) (tables_of a.tables) needed s.keeps (ap (λ (j : JournalView). is_past_limit j needed) is ∙ past) few;
       placed = s.placed;
@@ -96,14 +96,14 @@ owed-few j v k =
     let most = k.limits.trace in
     omega (arith, owed, few, most)
 
-abbrev pub standing : {slots : ℕ} (a : Inside slots) (now : JournalView) (held : List (HeldFrame slots)) → IsSound a → view_of a ≡ now → Agree (cells_of now) held → IsStanding (tables_of a.tables) held
+abbrev pub standing : {slots : ℕ} (a : Inside slots) (now : JournalView) (held : List (HeldFrame slots)) → IsJournalInside a → view_of a ≡ now → Agree (cells_of now) held → IsStanding (tables_of a.tables) held
 standing a now held s is agree = record {
   core = core_of (view_of a);
   stands = s.keeps.stands;
   agree = subst (λ (j : JournalView). Agree (cells_of j) held) (sym is) agree;
 }
 
-pub ready-call : {slots : ℕ} (a : Inside slots) (now : JournalView) (held : List (HeldFrame slots)) (pass : ℕ) (call : TransactionCall) → IsSound a → view_of a ≡ now → Agree (cells_of now) held → is_past_limit now (entries_needed call) ≡ false
+pub ready-call : {slots : ℕ} (a : Inside slots) (now : JournalView) (held : List (HeldFrame slots)) (pass : ℕ) (call : TransactionCall) → IsJournalInside a → view_of a ≡ now → Agree (cells_of now) held → is_past_limit now (entries_needed call) ≡ false
     → want_of (pages_for_call now pass call) (pages_held held) ≡ Ready → IsReadyToCall (tables_of a.tables) held pass call
 ready-call a now held pass call s is agree within ready = record {
   standing = standing a now held s is agree;
@@ -114,7 +114,7 @@ ready-call a now held pass call s is agree within ready = record {
 
 -- ---- an abort step
 
-pub ready-undo : {slots : ℕ} (a : Inside slots) (now : JournalView) (held : List (HeldFrame slots)) (pass : ℕ) → IsSound a → view_of a ≡ now → Agree (cells_of now) held
+pub ready-undo : {slots : ℕ} (a : Inside slots) (now : JournalView) (held : List (HeldFrame slots)) (pass : ℕ) → IsJournalInside a → view_of a ≡ now → Agree (cells_of now) held
     → want_of (pages_for_undo (cells_of now) (next_to_restore (end_of now.history) pass)) (pages_held held) ≡ Ready → IsReadyToUndo (tables_of a.tables) held pass
 ready-undo a now held pass s is agree ready = record {
   standing = standing a now held s is agree;
@@ -124,7 +124,7 @@ ready-undo a now held pass s is agree ready = record {
 
 -- ---- an event of the collector
 
-abbrev pub ready-collect : {slots : ℕ} (a : Inside slots) (now : JournalView) (held : List (HeldFrame slots)) → IsSound a → view_of a ≡ now → Agree (cells_of now) held → is_past_limit now 1 ≡ false → IsReadyForCollector now held → CanCollect (tables_of a.tables) held
+abbrev pub ready-collect : {slots : ℕ} (a : Inside slots) (now : JournalView) (held : List (HeldFrame slots)) → IsJournalInside a → view_of a ≡ now → Agree (cells_of now) held → is_past_limit now 1 ≡ false → IsReadyForCollector now held → CanCollect (tables_of a.tables) held
 ready-collect {slots} a now held s is agree within ready =
     let r = subst (λ (j : JournalView). IsReadyForCollector j held) (sym is) ready in
     let few = ap (λ (j : JournalView). is_past_limit j 1) is ∙ within in

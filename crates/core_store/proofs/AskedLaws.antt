@@ -5,7 +5,7 @@ use Rattle.red_walk.specs.declared.red_at.RedAt.TheVariants as red
 use Rattle.red_walk.specs.Walk.{Walk, next}
 use Rattle.green_walk.specs.declared.sweep.SweepAt.{SweepAt}
 use Rattle.green_walk.specs.declared.sweep.SweepAt.TheVariants as sweep
-use Rattle.green_walk.specs.Sweeping.{Sweeping as Sweep, next as next_of_sweep}
+use Rattle.green_walk.specs.Sweeping.{SweepState as Sweep, next as next_of_sweep}
 use Rattle.green_walk.specs.Greening.{Greening, next as next_of_green}
 use Rattle.core_store.specs.declared.round_at.RoundAt.{RoundAt}
 use Rattle.core_store.specs.declared.round_at.RoundAt.TheVariants as at

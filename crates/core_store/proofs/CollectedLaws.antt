@@ -10,7 +10,7 @@ use Rattle.red_walk.specs.Walk.{Walk}
 use Rattle.green_walk.specs.declared.sweep.SweepAt.TheVariants as sweep
 use Rattle.green_walk.specs.declared.sweep.Found.TheVariants.{Nothing}
 use Rattle.green_walk.specs.declared.green_at.Test.{Test}
-use Rattle.green_walk.specs.Sweeping.{Sweeping as Sweep, next as next_of_sweep, found}
+use Rattle.green_walk.specs.Sweeping.{SweepState as Sweep, next as next_of_sweep, found}
 use Rattle.green_walk.specs.Greening.{Greening}
 use Rattle.core_store.specs.declared.three.HeldFrame.{HeldFrame}
 use Rattle.core_store.specs.Frames.{Agree}

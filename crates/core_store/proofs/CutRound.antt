@@ -18,7 +18,7 @@ use Rattle.red_walk.specs.Walk.{Walk}
 use Rattle.red_walk.specs.Rounds.{round_of as walked}
 use Rattle.red_walk.proofs.Members.{has-Contains, Contains-has}
 use Rattle.green_walk.specs.declared.sweep.SweepAt.TheVariants as sweep
-use Rattle.green_walk.specs.Sweeping.{Sweeping as Sweep, next as next_of_sweep, unfreed}
+use Rattle.green_walk.specs.Sweeping.{SweepState as Sweep, next as next_of_sweep, unfreed}
 use Rattle.green_walk.specs.Greening.{Greening}
 use Rattle.green_walk.proofs.SweepLaws.{empty-law}
 use Rattle.log_record.specs.declared.cell_record.CellRecord.{CellRecord}
@@ -31,7 +31,7 @@ use Rattle.core_store.specs.declared.slots.SlotChange.{SlotChange}
 use Rattle.core_store.specs.Frames.{Agree}
 use Rattle.core_store.specs.Changes.{has_no_strong, is_counted_strong, restored_change}
 use Rattle.core_store.specs.Slots.{IsChanged, HoldsPagesOf, IsReadyToChange, Changes}
-use Rattle.core_store.specs.RoundView.{RoundView, Rounds, Sweeping, round_of, asked, is_event, ids_in, next_slot, passed, passed_by_sweep, IsSweeping, IsInStep, Proceeds, cut}
+use Rattle.core_store.specs.RoundView.{RoundView, Rounds, Sweeping, round_of, asked, is_event, ids_in, next_slot, looked_past, passed_by_sweep, IsSweeping, IsInStep, Proceeds, cut}
 use Rattle.core_store.specs.Tables.{TablesView}
 use Rattle.core_store.specs.Stands.{IsEmptied, Stands}
 use Rattle.core_store.specs.Steps.{is_queued, JoinsIfCut}
@@ -50,11 +50,11 @@ use Rattle.core_store.proofs.WeakenRound.{can-null, not-let_go}
 
 -- ---- the cells
 
-same-turned : (a b : Bool) → same a b ≡ false → same b a ≡ false
-same-turned true true e = absurd (cc)
-same-turned true false e = refl
-same-turned false true e = refl
-same-turned false false e = absurd (cc)
+same-switched : (a b : Bool) → same a b ≡ false → same b a ≡ false
+same-switched true true e = absurd (cc)
+same-switched true false e = refl
+same-switched false true e = refl
+same-switched false false e = absurd (cc)
 
 -- a cell loses no strong pointer where a weak one is removed
 strong-before : (cells : List Cell) (id slot x : ℕ) → is_strong cells (pointer_at cells id slot) ≡ false → x ≡ (pointer_at cells id slot).target → x ≢ 0 → x < length cells → (cell_at (relinked cells id slot null) x).strong ≡ 0 → (cell_at cells x).strong ≡ 0
@@ -62,7 +62,7 @@ strong-before cells id slot x weak is n l z =
     let bit = (cell_at cells x).bit in
     let old = pointer_at cells id slot in
     let c = relinked-counted cells id slot null x bit n l in
-    let unlike : same old.bit bit ≡ false = same-turned bit old.bit (ap (λ (y : ℕ). same (cell_at cells y).bit old.bit) is ∙ weak) in
+    let unlike : same old.bit bit ≡ false = same-switched bit old.bit (ap (λ (y : ℕ). same (cell_at cells y).bit old.bit) is ∙ weak) in
     let nothing : hits x bit old ≡ 0 = ap {B = ℕ} (λ (t : Bool). cond t 1 0) (and_right (old.target == x) (same old.bit bit) unlike) in
     let before : counted bit (cell_at cells x) ≡ (cell_at cells x).strong = ap (λ (t : Bool). cond t (cell_at cells x).strong (cell_at cells x).weak) (same-self bit) in
     let after : counted bit (cell_at (relinked cells id slot null) x) ≡ (cell_at (relinked cells id slot null) x).strong =
@@ -263,24 +263,24 @@ module _ {slots : ℕ} {v : TablesView} {c : Core} {held new : List (HeldFrame s
         }
 
     -- the queue and the round as the tables have them
-    cut-passed : IsInStep slots v.ids (passed slots c.cells v.round)
-        → Collected slots v (record v { zeros = marks; queue = queue_behind (was_strong && is_queued (record v { zeros = marks }) (is_named c.refs) target) v.queue; round = passed slots c.cells v.round }) c held new act.Change (Some logged)
+    cut-passed : IsInStep slots v.ids (looked_past slots c.cells v.round)
+        → Collected slots v (record v { zeros = marks; queue = queue_behind (was_strong && is_queued (record v { zeros = marks }) (is_named c.refs) target) v.queue; round = looked_past slots c.cells v.round }) c held new act.Change (Some logged)
     cut-passed step =
-        let is_next : passed slots c.cells v.round ≡ next_slot slots w s slot g = ap (passed slots c.cells) is ∙ ap (passed_by_sweep slots c.cells w s slot g) at in
+        let is_next : looked_past slots c.cells v.round ≡ next_slot slots w s slot g = ap (looked_past slots c.cells) is ∙ ap (passed_by_sweep slots c.cells w s slot g) at in
         subst (λ (r : RoundView). Collected slots v (record v { zeros = marks; queue = queue_behind (was_strong && is_queued (record v { zeros = marks }) (is_named c.refs) target) v.queue; round = r }) c held new act.Change (Some logged)) (sym is_next)
         (subst (λ (q : List ℕ). Collected slots v (record v { zeros = marks; queue = q; round = next_slot slots w s slot g }) c held new act.Change (Some logged))
         (ap (λ (q : List ℕ). queue_behind (was_strong && is_lost) q) (sym h.queue) ∙ ap (λ (b : Bool). queue_behind (was_strong && b) v.queue) (sym told))
         (collected (subst (λ (r : RoundView). IsInStep slots v.ids r) is_next step)))
 
     -- the tables after the target's turn, and the round after that
-    pub cut-collected : (x : TablesView) (limit : ℕ) (after : Rounds) → JoinsIfCut (record v { zeros = marks }) x target was_strong → limit ≡ x.ids → after ≡ record { limit = limit; view = passed slots c.cells x.round } → IsInStep slots after.limit after.view
+    pub cut-collected : (x : TablesView) (limit : ℕ) (after : Rounds) → JoinsIfCut (record v { zeros = marks }) x target was_strong → limit ≡ x.ids → after ≡ record { limit = limit; view = looked_past slots c.cells x.round } → IsInStep slots after.limit after.view
         → Collected slots v (record x { round = after.view }) c held new act.Change (Some logged)
     cut-collected x limit after joins sized moved step =
         let round : x.round ≡ v.round = ap (λ (y : TablesView). y.round) joins.same in
         let ids : limit ≡ v.ids = sized ∙ ap (λ (y : TablesView). y.ids) joins.same in
-        let step_of : IsInStep slots limit (passed slots c.cells x.round) = subst (λ (r : Rounds). IsInStep slots r.limit r.view) moved step in
-        let step_here : IsInStep slots v.ids (passed slots c.cells v.round) = subst (λ (r : RoundView). IsInStep slots v.ids (passed slots c.cells r)) round (subst (λ (n : ℕ). IsInStep slots n (passed slots c.cells x.round)) ids step_of) in
+        let step_of : IsInStep slots limit (looked_past slots c.cells x.round) = subst (λ (r : Rounds). IsInStep slots r.limit r.view) moved step in
+        let step_here : IsInStep slots v.ids (looked_past slots c.cells v.round) = subst (λ (r : RoundView). IsInStep slots v.ids (looked_past slots c.cells r)) round (subst (λ (n : ℕ). IsInStep slots n (looked_past slots c.cells x.round)) ids step_of) in
         let queue = joins.queue (is_named c.refs) (are-names c.refs v.references h.references) in
         let tables = joins.same ∙ ap (λ (q : List ℕ). record v { zeros = marks; queue = q }) queue in
-        let whole = ap (λ (r : Rounds). record x { round = r.view }) moved ∙ ap (λ (y : TablesView). record y { round = passed slots c.cells y.round }) tables in
+        let whole = ap (λ (r : Rounds). record x { round = r.view }) moved ∙ ap (λ (y : TablesView). record y { round = looked_past slots c.cells y.round }) tables in
         subst (λ (y : TablesView). Collected slots v y c held new act.Change (Some logged)) (sym whole) (cut-passed step_here)

@@ -8,7 +8,7 @@ use Rattle.red_walk.specs.Rounds.{round_of as walked}
 use Rattle.red_walk.proofs.Members.{Contains-has, absent}
 use Rattle.red_walk.proofs.Filters.{filter-same, filter-both, among-filter, once-filter, filter-among}
 use Rattle.green_walk.specs.declared.sweep.SweepAt.TheVariants as sweep
-use Rattle.green_walk.specs.Sweeping.{Sweeping as Sweep, next, unfreed}
+use Rattle.green_walk.specs.Sweeping.{SweepState as Sweep, next, unfreed}
 use Rattle.green_walk.specs.Greening.{Greening}
 use Rattle.cell_model.specs.Cells.{cell_at}
 use Rattle.store_model.specs.Core.{Core, Round, is_named}

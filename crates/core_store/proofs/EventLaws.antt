@@ -17,7 +17,7 @@ use Rattle.core_store.specs.Collects.{Collects, BeginsGreen, entry_of}
 use Rattle.core_store.specs.Events.{core_after}
 use Rattle.core_store.specs.Frames.{Agree}
 use Rattle.core_store.specs.JournalView.{JournalView, cells_of, core_of, last_left, with_note}
-use Rattle.core_store.specs.Journal.{view_of, IsSound}
+use Rattle.core_store.specs.Journal.{view_of, IsJournalInside}
 use Rattle.core_store.specs.Limited.{is_past_limit}
 use Rattle.core_store.specs.RoundView.{IsInStep, Proceeds, round_of}
 use Rattle.core_store.specs.Steppings.{IsReadyForCollector, MakesEvent, pops, left_told}
@@ -76,7 +76,7 @@ told-left a (Some (logs.Flip x)) left told e = cc
 told-left a (Some (logs.CutDead x slot target strong)) left told e = cc
 told-left a (Some (logs.Free x)) left told e = cc
 
-module _ {slots : ℕ} (a b : Inside slots) (now : JournalView) (held new : List (HeldFrame slots)) (act : Act) (logged : Option CellRecord) (left : ℕ) (s : IsSound a) (is : view_of a ≡ now) (agree : Agree (cells_of now) held)
+module _ {slots : ℕ} (a b : Inside slots) (now : JournalView) (held new : List (HeldFrame slots)) (act : Act) (logged : Option CellRecord) (left : ℕ) (s : IsJournalInside a) (is : view_of a ≡ now) (agree : Agree (cells_of now) held)
     (g : Grows a b (collector_note act logged left)) (collects : CollectsOne slots (tables_of a.tables) (tables_of b.tables) held new act logged) (within : is_past_limit now 1 ≡ false) (ready : IsReadyForCollector now held) (same : b.tables.owed ≡ a.tables.owed) where
   pub it : Collected slots (tables_of a.tables) (tables_of b.tables) (core_of (view_of a)) held new act logged
   it = let r = ready-collect a now held s is agree within ready in collects (core_of (view_of a)) s.keeps.stands r.agree r.ready

@@ -33,7 +33,7 @@ use Rattle.red_walk.proofs.RoundLaws.{removed-law}
 use Rattle.green_walk.specs.declared.sweep.SweepAt.{SweepAt}
 use Rattle.green_walk.specs.declared.sweep.SweepAt.TheVariants as sweep
 use Rattle.green_walk.specs.declared.sweep.Found.TheVariants.{Made}
-use Rattle.green_walk.specs.Sweeping.{Sweeping as Sweep, next as next_of_sweep, found, found_at, unfreed, unemptied}
+use Rattle.green_walk.specs.Sweeping.{SweepState as Sweep, next as next_of_sweep, found, found_at, unfreed, unemptied}
 use Rattle.green_walk.specs.Greening.{Greening}
 use Rattle.green_walk.proofs.SweepLaws.{free-first, drop-some, free-law}
 use Rattle.log_record.specs.declared.cell_record.CellRecord.TheVariants as logs

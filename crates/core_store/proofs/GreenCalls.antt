@@ -5,7 +5,7 @@ use Rattle.store_model.specs.Core.{Core}
 use Rattle.red_walk.specs.Walk.{Walk}
 use Rattle.green_walk.specs.declared.sweep.SweepAt.TheVariants as sweep
 use Rattle.green_walk.specs.declared.sweep.Found.TheVariants.{Made}
-use Rattle.green_walk.specs.Sweeping.{Sweeping as Sweep, next as next_of_sweep}
+use Rattle.green_walk.specs.Sweeping.{SweepState as Sweep, next as next_of_sweep}
 use Rattle.green_walk.specs.Greening.{Greening, next as next_of_green, found as found_by_green, IsAnswer}
 use Rattle.log_record.specs.declared.cell_record.CellRecord.TheVariants as logs
 use Rattle.core_store.specs.declared.three.HeldFrame.{HeldFrame}

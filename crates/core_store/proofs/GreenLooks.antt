@@ -10,7 +10,7 @@ use Rattle.green_walk.specs.declared.sweep.Found.TheVariants.{Nothing, Strong}
 use Rattle.green_walk.specs.declared.green_at.GreenAt.{GreenAt}
 use Rattle.green_walk.specs.declared.green_at.GreenAt.TheVariants as green
 use Rattle.green_walk.specs.declared.green_at.Test.{Test}
-use Rattle.green_walk.specs.Sweeping.{Sweeping as Sweep, next as next_of_sweep}
+use Rattle.green_walk.specs.Sweeping.{SweepState as Sweep, next as next_of_sweep}
 use Rattle.green_walk.specs.Greening.{Greening, IsGreening, IsAnswer, IsTestable, waits, next, found, testing, tested, work_left}
 use Rattle.green_walk.specs.GreenLaws.{IsSameWalk, TestedGreeningLaw}
 use Rattle.green_walk.proofs.GreenAnswers.{found-law, testing-law, tested-law, test-law}

@@ -22,7 +22,7 @@ use Rattle.green_walk.specs.declared.sweep.Found.TheVariants.{Made}
 use Rattle.green_walk.specs.declared.green_at.GreenAt.{GreenAt}
 use Rattle.green_walk.specs.declared.green_at.GreenAt.TheVariants as green
 use Rattle.green_walk.specs.declared.green_at.Test.{Test}
-use Rattle.green_walk.specs.Sweeping.{Sweeping as Sweep, next as next_of_sweep, first_of, unemptied, unfreed}
+use Rattle.green_walk.specs.Sweeping.{SweepState as Sweep, next as next_of_sweep, first_of, unemptied, unfreed}
 use Rattle.green_walk.specs.Greening.{Greening, waits, next as next_of_green, found as found_by_green, IsAnswer, IsTestable}
 use Rattle.green_walk.specs.GreenLaws.{IsAskedOf}
 use Rattle.green_walk.proofs.GreenAsked.{asked as asked-law, waits-live}
@@ -61,8 +61,8 @@ none-unfreed s e = by (unemptied s) (unfreed s) e
     by [] [] e = refl
 
 -- a pointer that gets its other strength keeps its target
-turned-targets : (cells : List Cell) (u k : ℕ) → u ≢ 0 → u < length cells → k < length (cell_at cells u).pointers → (v j : ℕ) → (pointer_at (relinked cells u k (other_strength (pointer_at cells u k))) v j).target ≡ (pointer_at cells v j).target
-turned-targets cells u k n l h v j =
+switched-targets : (cells : List Cell) (u k : ℕ) → u ≢ 0 → u < length cells → k < length (cell_at cells u).pointers → (v j : ℕ) → (pointer_at (relinked cells u k (other_strength (pointer_at cells u k))) v j).target ≡ (pointer_at cells v j).target
+switched-targets cells u k n l h v j =
     let p = other_strength (pointer_at cells u k) in
     ⊎_elim
     (λ (e : (v ≡ u) × (j ≡ k) × (pointer_at (relinked cells u k p) v j ≡ p)). ap (λ (q : Pointer). q.target) e.2 ∙ (ap (λ (y : ℕ). (pointer_at cells u y).target) (sym e.1) ∙ ap (λ (x : ℕ). (pointer_at cells x j).target) (sym e.0)))
@@ -256,7 +256,7 @@ module _ (slots : ℕ) (v : TablesView) (c : Core) (h : Stands slots v c) (w : W
     into-collected asks held new marks changed step =
         let p = other_strength (pointer_at c.cells «from» k) in
         let later = relinked c.cells «from» k p in
-        let targets = turned-targets c.cells «from» k (live-there c.cells «from» h.sound.consistent.exact.none into-live) (live-within c.cells «from» into-live) into-fits.0.within in
+        let targets = switched-targets c.cells «from» k (live-there c.cells «from» h.sound.consistent.exact.none into-live) (live-within c.cells «from» into-live) into-fits.0.within in
         record {
           proceeds = proceeds-behind act.Change (Some (logs.Weaken «from» k to)) «from» (into w s slot «from» k to g (asked-here (at.Into «from» k to) asks));
           begins = λ e. absurd (cc);
@@ -317,7 +317,7 @@ module _ (slots : ℕ) (v : TablesView) (c : Core) (h : Stands slots v c) (w : W
     strengthen-collected asks held new marks changed step =
         let p = other_strength (pointer_at c.cells «from» k) in
         let later = relinked c.cells «from» k p in
-        let targets = turned-targets c.cells «from» k (live-there c.cells «from» h.sound.consistent.exact.none strengthen-live) (live-within c.cells «from» strengthen-live) strengthen-fits.0.within in
+        let targets = switched-targets c.cells «from» k (live-there c.cells «from» h.sound.consistent.exact.none strengthen-live) (live-within c.cells «from» strengthen-live) strengthen-fits.0.within in
         record {
           proceeds = proceeds-behind act.Change (Some (logs.Strengthen «from» k to)) to (strengthen w s slot «from» k to g (asked-here (at.Strengthen «from» k to) asks));
           begins = λ e. absurd (cc);

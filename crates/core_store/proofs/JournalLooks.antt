@@ -9,7 +9,7 @@ use Rattle.core_store.specs.declared.tables.Tables.{Tables}
 use Rattle.core_store.specs.declared.three.HeldFrame.{HeldFrame}
 use Rattle.core_store.specs.Frames.{Agree}
 use Rattle.core_store.specs.JournalView.{JournalView, cells_of, core_of, opening_of, logged_in}
-use Rattle.core_store.specs.Journal.{view_of, Keeps, IsSound}
+use Rattle.core_store.specs.Journal.{view_of, Keeps, IsJournalInside}
 use Rattle.core_store.specs.Fresh.{AreByIds}
 use Rattle.core_store.specs.Leads.{AreLed}
 use Rattle.core_store.specs.RoundView.{left_of, Passes}
@@ -53,7 +53,7 @@ Keeps-looked j v w k h passes less =
       unmarked = k.unmarked;
     }
 
-module _ {slots : ℕ} (a : Inside slots) (t : Tables slots) (now : JournalView) (held : List (HeldFrame slots)) (s : IsSound a) (is : view_of a ≡ now) (agree : Agree (cells_of now) held) (same : tables_of t ≡ record (tables_of a.tables) { round = t.round.view })
+module _ {slots : ℕ} (a : Inside slots) (t : Tables slots) (now : JournalView) (held : List (HeldFrame slots)) (s : IsJournalInside a) (is : view_of a ≡ now) (agree : Agree (cells_of now) held) (same : tables_of t ≡ record (tables_of a.tables) { round = t.round.view })
     (stands : (c : Core) → Stands slots (tables_of a.tables) c → Agree c.cells held → Stands slots (tables_of t) c) (passes : (c : Core) → Stands slots (tables_of a.tables) c → Agree c.cells held → Passes slots c.cells a.tables.round.view t.round.view) where
   abbrev looked : Inside slots
   looked = record { alloc = a.alloc; opening = a.opening; trace = a.trace; tables = t }
@@ -79,7 +79,7 @@ module _ {slots : ℕ} (a : Inside slots) (t : Tables slots) (now : JournalView)
   most : left_of slots t.round.view ≤ left_of slots a.tables.round.view
   most = ⊎_elim (λ (e : t.round.view ≡ a.tables.round.view). let l = ap (left_of slots) e in omega (arith, l)) (λ l. omega (arith, l)) lower
 
-  pub looked-sound : IsSound looked
+  pub looked-sound : IsJournalInside looked
   looked-sound = record {
     keeps = subst (λ j. Keeps j (tables_of t)) (sym seen) (Keeps-looked (view_of a) (tables_of a.tables) (tables_of t) s.keeps stands_a (passes (core_of (view_of a)) s.keeps.stands agree_a) most);
     placed = subst (λ n. AreByIds n a.opening.items) (sym looked-ids) s.placed;

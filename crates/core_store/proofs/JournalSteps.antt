@@ -10,7 +10,7 @@ use Rattle.core_store.specs.declared.journal.Journal.TheInside.{Inside}
 use Rattle.core_store.specs.declared.three.HeldFrame.{HeldFrame}
 use Rattle.core_store.specs.Frames.{Agree, IsSameElsewhere}
 use Rattle.core_store.specs.JournalView.{JournalView, cells_of, core_of}
-use Rattle.core_store.specs.Journal.{view_of, Keeps, IsSound}
+use Rattle.core_store.specs.Journal.{view_of, Keeps, IsJournalInside}
 use Rattle.core_store.specs.Fresh.{AreByIds}
 use Rattle.core_store.specs.Logged.{after_logged}
 use Rattle.core_store.specs.RoundView.{left_of}
@@ -33,13 +33,13 @@ pub record Grows {slots : ℕ} (a b : Inside slots) (n : Note) : Type 0 where
 
 -- the journal has this note more and stands for this now, and the held pages are those of its cells
 pub record HasGrown {slots : ℕ} (b : Inside slots) (now : JournalView) (held new : List (HeldFrame slots)) (n : Note) (d : Core) : Type 0 where
-  pub sound : vec_len b.trace.notes + b.tables.owed ≤ vec_capacity b.trace.notes → IsSound b
+  pub sound : vec_len b.trace.notes + b.tables.owed ≤ vec_capacity b.trace.notes → IsJournalInside b
   pub view_is : view_of b ≡ grown now n b.tables.queue.ids b.tables.round.view
   pub core_is : core_of (view_of b) ≡ d
   pub agree : Agree (cells_of (view_of b)) new
   pub elsewhere : IsSameElsewhere (cells_of now) (cells_of (view_of b)) held
 
-module _ {slots : ℕ} (a b : Inside slots) (n : Note) (d : Core) (s : IsSound a) (g : Grows a b n) (h : Happens (view_of a) (tables_of b.tables) n d) where
+module _ {slots : ℕ} (a b : Inside slots) (n : Note) (d : Core) (s : IsJournalInside a) (g : Grows a b n) (h : Happens (view_of a) (tables_of b.tables) n d) where
   keeps : Keeps (grown (view_of a) n b.tables.queue.ids b.tables.round.view) (tables_of b.tables)
   keeps = Keeps-note (view_of a) (tables_of a.tables) (tables_of b.tables) n d s.keeps h g.left
 

@@ -15,7 +15,7 @@ use Rattle.green_walk.specs.declared.sweep.SweepAt.TheVariants as sweep
 use Rattle.green_walk.specs.declared.sweep.Found.{Found}
 use Rattle.green_walk.specs.declared.sweep.Found.TheVariants.{Nothing, Made}
 use Rattle.green_walk.specs.Judged.{Judged}
-use Rattle.green_walk.specs.Sweeping.{Sweeping as Sweep, first_of, next as next_of_sweep, started, found, found_at, unemptied, unfreed}
+use Rattle.green_walk.specs.Sweeping.{SweepState as Sweep, first_of, next as next_of_sweep, started, found, found_at, unemptied, unfreed}
 use Rattle.green_walk.specs.Greening.{Greening, IsGreening, IsAnswer, next as next_of_green, found as found_by_green, started as green_started}
 use Rattle.green_walk.specs.GreenLaws.{most_work}
 use Rattle.green_walk.proofs.GreenWork.{found-work, started-work}
@@ -23,7 +23,7 @@ use Rattle.log_record.specs.declared.cell_record.CellRecord.{CellRecord}
 use Rattle.core_store.specs.declared.act.Act.{Act}
 use Rattle.core_store.specs.declared.round_at.RoundAt.{RoundAt}
 use Rattle.core_store.specs.declared.round_at.RoundAt.TheVariants as at
-use Rattle.core_store.specs.RoundView.{RoundView, Closed, Walking, Sweeping, asked, asked_by_walk, asked_by_sweep, asked_by_green, is_event, next_slot, passed, passed_by_green, passed_by_sweep, Passes, none, more, Proceeds, skip, start, weaken, scan, judge, cut, free, flip, into, strengthen, end, left_of, IsInStep, IsWalking, IsGreeningOf, IsSweeping}
+use Rattle.core_store.specs.RoundView.{RoundView, Closed, Walking, Sweeping, asked, asked_by_walk, asked_by_sweep, asked_by_green, is_event, next_slot, looked_past, passed_by_green, passed_by_sweep, Passes, none, more, Proceeds, skip, start, weaken, scan, judge, cut, free, flip, into, strengthen, end, left_of, IsInStep, IsWalking, IsGreeningOf, IsSweeping}
 use Rattle.core_store.specs.Collecting.{is_pop}
 use Rattle.core_store.proofs.AskedGreen.{IsAskedBy, asked-by}
 use Rattle.core_store.proofs.AskedLaws.{IsGreenAt}
@@ -156,12 +156,12 @@ module _ (slots ids : ℕ) (cells : List Cell) where
   in_step-swept w s slot g (sweep.Free id) e k h = absurd (cc)
   in_step-swept w s slot g sweep.End e k h = in_step-green slots ids cells w s slot g k e h
 
-  pub left-passed : (r : RoundView) → IsInStep slots ids r → is_event cells (asked r) ≡ false → left_of slots (passed slots cells r) < left_of slots r
+  pub left-passed : (r : RoundView) → IsInStep slots ids r → is_event cells (asked r) ≡ false → left_of slots (looked_past slots cells r) < left_of slots r
   left-passed Closed k h = absurd (cc)
   left-passed (Walking w) k h = let l = look-asked cells (next w) h in left-walk slots w (moved slots w) (moved-limit slots w) (look-work-law slots w l.0 l.1 k.walk l.2)
   left-passed (Sweeping w s slot g) k h = left-swept w s slot g (next_of_sweep s) refl k h
 
-  pub in_step-passed : (r : RoundView) → IsInStep slots ids r → is_event cells (asked r) ≡ false → IsInStep slots ids (passed slots cells r)
+  pub in_step-passed : (r : RoundView) → IsInStep slots ids r → is_event cells (asked r) ≡ false → IsInStep slots ids (looked_past slots cells r)
   in_step-passed Closed k h = absurd (cc)
   in_step-passed (Walking w) k h = record { walk = moved-walk-law slots w k.walk; limit = moved-limit slots w ∙ k.limit; whole = moved-whole slots w k.whole }
   in_step-passed (Sweeping w s slot g) k h = in_step-swept w s slot g (next_of_sweep s) refl k h
@@ -175,7 +175,7 @@ module _ (slots ids : ℕ) (cells : List Cell) where
   left-passes u _ k none = inl refl
   left-passes u _ k (more v before idle) =
       let less = left-passed v (in_step-passes u v k before) idle in
-      inr (⊎_elim (λ (same : v ≡ u). subst (λ x. left_of slots (passed slots cells v) < left_of slots x) same less) (λ l. omega (arith, less, l)) (left-passes u v k before))
+      inr (⊎_elim (λ (same : v ≡ u). subst (λ x. left_of slots (looked_past slots cells v) < left_of slots x) same less) (λ l. omega (arith, less, l)) (left-passes u v k before))
 
 -- ---- events
 

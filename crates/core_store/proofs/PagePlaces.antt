@@ -12,7 +12,7 @@ use Rattle.cell_page.proofs.Pages.{place_within}
 use Rattle.cell_page.proofs.HeldPages.{held_cell, HoldsPage-edit}
 use Rattle.core_store.specs.declared.three.HeldFrame.{HeldFrame}
 use Rattle.core_store.specs.Frames.{pages_held, is_held, Agree}
-use Rattle.core_store.specs.Inside.{AreKept}
+use Rattle.core_store.specs.Inside.{AreThreeInside}
 use Rattle.core_store.proofs.PageLaws.{id-low, id-high, AreOnce-pages, Agree-edit}
 
 -- the place of a page is within the frames
@@ -69,15 +69,15 @@ module _ {slots : ℕ} (frames : List (HeldFrame slots)) (count place : ℕ) (h 
   pub pages-place : pages_held (take count (set frames place h)) ≡ pages_held (take count frames)
   pages-place = ap (λ (hs : List (HeldFrame slots)). pages_held hs) take-place ∙ pages-set (take count frames) place h d same-place
 
-  pub AreKept-set : AreKept frames count → AreKept (set frames place h) count
-  AreKept-set kept = record {
+  pub AreThreeInside-set : AreThreeInside frames count → AreThreeInside (set frames place h) count
+  AreThreeInside-set kept = record {
     three = length-set frames place h ∙ kept.three;
     most = kept.most;
     once = AreOnce-pages (take count frames) (take count (set frames place h)) (sym pages-place) kept.once;
   }
 
 -- the held frames agree with the edited cells
-pub Agree-place : {slots : ℕ} (cells : List StoredCell) (frames : List (HeldFrame slots)) (count place : ℕ) (h d : HeldFrame slots) (c : Cell slots) → AreKept frames count → Agree cells (take count frames)
+pub Agree-place : {slots : ℕ} (cells : List StoredCell) (frames : List (HeldFrame slots)) (count place : ℕ) (h d : HeldFrame slots) (c : Cell slots) → AreThreeInside frames count → Agree cells (take count frames)
     → 0 < c.id → IsCell c.id c → place < length (take count frames) → (get_or (take count frames) place d).page ≡ page_of_id c.id
     → h.page ≡ (get_or frames place d).page → h.frame.page ≡ set (get_or frames place d).frame.page (place_of c.id) c
     → Agree (edit cells c.id (λ _. cell_of c)) (take count (set frames place h))

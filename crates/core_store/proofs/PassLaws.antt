@@ -9,13 +9,13 @@ use Rattle.red_walk.specs.Walk.{Walk}
 use Rattle.green_walk.specs.declared.sweep.SweepAt.{SweepAt}
 use Rattle.green_walk.specs.declared.sweep.SweepAt.TheVariants as sweep
 use Rattle.green_walk.specs.declared.sweep.Found.TheVariants.{Nothing}
-use Rattle.green_walk.specs.Sweeping.{Sweeping as Sweep, next as next_of_sweep, found}
+use Rattle.green_walk.specs.Sweeping.{SweepState as Sweep, next as next_of_sweep, found}
 use Rattle.green_walk.specs.Greening.{Greening, next as next_of_green}
 use Rattle.core_store.specs.declared.three.HeldFrame.{HeldFrame}
 use Rattle.core_store.specs.Frames.{Agree}
 use Rattle.core_store.specs.declared.round_at.RoundAt.{RoundAt}
 use Rattle.core_store.specs.declared.round_at.RoundAt.TheVariants as at
-use Rattle.core_store.specs.RoundView.{RoundView, Closed, Walking, Sweeping, round_of, asked, asked_by_sweep, asked_by_green, is_event, next_slot, passed, passed_by_sweep, passed_by_green, IsInStep, IsSweeping, Passes, none, more}
+use Rattle.core_store.specs.RoundView.{RoundView, Closed, Walking, Sweeping, round_of, asked, asked_by_sweep, asked_by_green, is_event, next_slot, looked_past, passed_by_sweep, passed_by_green, IsInStep, IsSweeping, Passes, none, more}
 use Rattle.core_store.specs.Tables.{TablesView}
 use Rattle.core_store.specs.Stands.{IsEmptied, IsTestedIn, IsTested, Stands}
 use Rattle.core_store.proofs.AskedGreen.{asked-by}
@@ -127,13 +127,13 @@ module _ (slots : ℕ) (v : TablesView) (c : Core) (h : Stands slots v c) (nothi
         tested = looks-tested c.cells g (passed_by_green c.cells g by_green) k.greens.greening looks (subst (IsTested c.cells) e h.tested);
       }
 
-  looked : (r : RoundView) → v.round ≡ r → IsLooked c.cells r (passed slots c.cells r)
+  looked : (r : RoundView) → v.round ≡ r → IsLooked c.cells r (looked_past slots c.cells r)
   looked Closed e = record { round = refl; emptied = tt; tested = tt }
   looked (Walking w) e = record { round = ap (λ (r : Round). Some r) (moved-same slots w); emptied = tt; tested = tt }
   looked (Sweeping w s slot g) e = looked-swept w s slot g e (next_of_sweep s) refl
 
   -- the tables go on to stand for the journal
-  pub Stands-passed : Stands slots (record v { round = passed slots c.cells v.round }) c
+  pub Stands-passed : Stands slots (record v { round = looked_past slots c.cells v.round }) c
   Stands-passed = record {
     ids = h.ids;
     few = h.few;
@@ -170,7 +170,7 @@ passed-none slots v held = record { same = refl; passes = λ c h agree. none; st
 pub record PassesOne (slots : ℕ) (v w : TablesView) (held : List (HeldFrame slots)) : Type 0 where
   pub same : w ≡ record v { round = w.round }
   pub nothing : (c : Core) → Stands slots v c → Agree c.cells held → is_event c.cells (asked v.round) ≡ false
-  pub passes : (c : Core) → Stands slots v c → Agree c.cells held → w.round ≡ passed slots c.cells v.round
+  pub passes : (c : Core) → Stands slots v c → Agree c.cells held → w.round ≡ looked_past slots c.cells v.round
   pub stands : (c : Core) → Stands slots v c → Agree c.cells held → Stands slots w c
 
 pub passed-more : (slots : ℕ) (u v w : TablesView) (held : List (HeldFrame slots)) → HasPassed slots u v held → PassesOne slots v w held → HasPassed slots u w held

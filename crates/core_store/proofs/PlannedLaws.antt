@@ -6,7 +6,7 @@ use Rattle.plain_model.specs.declared.calls.Call.{Call as TransactionCall}
 use Rattle.plain_model.specs.declared.calls.Reply.{Reply}
 use Rattle.plain_model.specs.Machine.{IsInRange}
 use Rattle.cell_page.specs.Format.{page_of_id}
-use Rattle.core_store.specs.declared.handlers.Outcome.{Outcome}
+use Rattle.core_store.specs.declared.handlers.Performed.{Performed}
 use Rattle.core_store.specs.declared.plan.Plan.{Plan}
 use Rattle.core_store.specs.declared.three.HeldFrame.{HeldFrame}
 use Rattle.core_store.specs.Frames.{is_held}
@@ -25,7 +25,7 @@ planned-so slots v pass c (Ok p) granted refused = granted
 planned-so slots v pass c (Err reply) granted refused = refused
 
 -- what does a plan does what was planned
-pub does-granted : {slots : ℕ} (v w : TablesView) (held new : List (HeldFrame slots)) (pass : ℕ) (r : Result Plan Reply) (p : Plan) → r ≡ Ok p → (o : Outcome) → Does v w held new pass p o → DoesPlanned v w held new pass r o
+pub does-granted : {slots : ℕ} (v w : TablesView) (held new : List (HeldFrame slots)) (pass : ℕ) (r : Result Plan Reply) (p : Plan) → r ≡ Ok p → (o : Performed) → Does v w held new pass p o → DoesPlanned v w held new pass r o
 does-granted {slots} v w held new pass r p is o does = λ call planned. does call (subst (λ (x : Result Plan Reply). IsPlanned slots v pass call x) is planned)
 
 -- a refusal changes nothing

@@ -11,7 +11,7 @@ use Rattle.red_walk.specs.Walk.{Walk, next, first_of}
 use Rattle.red_walk.proofs.RoundLaws.{look-law, copy-law}
 use Rattle.green_walk.specs.declared.sweep.SweepAt.{SweepAt}
 use Rattle.green_walk.specs.declared.sweep.SweepAt.TheVariants as sweep
-use Rattle.green_walk.specs.Sweeping.{Sweeping as Sweep, next as next_of_sweep, unfreed}
+use Rattle.green_walk.specs.Sweeping.{SweepState as Sweep, next as next_of_sweep, unfreed}
 use Rattle.green_walk.proofs.SweepLaws.{empty-law, free-law}
 use Rattle.green_walk.specs.declared.green_at.GreenAt.{GreenAt}
 use Rattle.green_walk.specs.declared.green_at.GreenAt.TheVariants as green

@@ -14,7 +14,7 @@ use Rattle.red_walk.proofs.Members.{has-Contains}
 use Rattle.red_walk.proofs.WalkLaws.{look-at, copy-place}
 use Rattle.ref_tables.specs.Queue.{has}
 use Rattle.green_walk.specs.Greening.{Greening}
-use Rattle.green_walk.specs.Sweeping.{Sweeping as Sweep, next as next_of_sweep, found}
+use Rattle.green_walk.specs.Sweeping.{SweepState as Sweep, next as next_of_sweep, found}
 use Rattle.green_walk.specs.declared.sweep.SweepAt.{SweepAt}
 use Rattle.green_walk.specs.declared.sweep.SweepAt.TheVariants as sweep
 use Rattle.green_walk.specs.declared.sweep.Found.TheVariants.{Nothing}
@@ -24,7 +24,7 @@ use Rattle.log_record.specs.Records.{FitsCells, after_cell_record}
 use Rattle.core_store.specs.Changes.{is_counted_strong}
 use Rattle.core_store.specs.RedWalks.{RedWalk, with_record, IsOver}
 use Rattle.core_store.specs.RedCursor.{IsBehind, IsAtCursor, IsRedWalk}
-use Rattle.core_store.specs.RoundView.{RoundView, Closed, Walking, Sweeping, asked, asked_by_walk, is_event, next_slot, passed, passed_by_sweep, touched_in, touched_by_record, Passes, none, more}
+use Rattle.core_store.specs.RoundView.{RoundView, Closed, Walking, Sweeping, asked, asked_by_walk, is_event, next_slot, looked_past, passed_by_sweep, touched_in, touched_by_record, Passes, none, more}
 use Rattle.core_store.specs.Touched.{objects_touched}
 use Rattle.core_store.proofs.LeftLaws.{look-asked}
 use Rattle.core_store.proofs.ReadyRound.{look-slot}
@@ -100,7 +100,7 @@ none-past slots cells id long k l s =
 -- ---- looks
 
 module _ (slots ids : ℕ) (cells : List Cell) (k : AreConsistent slots ids cells) (r : RedWalk) (live : r.going ≡ true → (id : ℕ) → Contains r.list id → is_live cells id ≡ true) where
-  red-looked : (v : RoundView) → IsRedWalk cells r v → is_event cells (asked v) ≡ false → IsRedWalk cells r (passed slots cells v)
+  red-looked : (v : RoundView) → IsRedWalk cells r v → is_event cells (asked v) ≡ false → IsRedWalk cells r (looked_past slots cells v)
   red-looked Closed h e = h
   red-looked (Walking w) h e = λ go.
       let at = h go in

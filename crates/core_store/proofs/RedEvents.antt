@@ -14,7 +14,7 @@ use Rattle.red_walk.specs.Walk.{Walk, next, moved, joined_by}
 use Rattle.red_walk.specs.Rounds.{round_of as walked}
 use Rattle.red_walk.proofs.WalkLaws.{look-at, copy-place}
 use Rattle.ref_tables.specs.Queue.{has}
-use Rattle.green_walk.specs.Sweeping.{Sweeping as Sweep, found}
+use Rattle.green_walk.specs.Sweeping.{SweepState as Sweep, found}
 use Rattle.green_walk.specs.Greening.{Greening}
 use Rattle.green_walk.specs.declared.sweep.Found.TheVariants.{Nothing}
 use Rattle.log_record.specs.declared.cell_record.CellRecord.{CellRecord}

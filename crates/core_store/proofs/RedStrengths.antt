@@ -138,8 +138,8 @@ module _ (slots ids : ℕ) (cells : List Cell) (k : AreConsistent slots ids cell
     abbrev weakened : List Cell
     weakened = relinked cells id at (other_strength (pointer_at cells id at))
 
-    turned-weak : is_counted_strong weakened (other_strength (pointer_at cells id at)) ≡ false
-    turned-weak =
+    switched-weak : is_counted_strong weakened (other_strength (pointer_at cells id at)) ≡ false
+    switched-weak =
         let p = pointer_at cells id at in
         laid-weak cells weakened (other_strength p) (relinked-bit cells id at (other_strength p)) (λ n. same-not (cell_at cells p.target).bit p.bit (f.0.strength f.1))
 
@@ -148,13 +148,13 @@ module _ (slots ids : ℕ) (cells : List Cell) (k : AreConsistent slots ids cell
     weak-here s =
         let p = other_strength (pointer_at cells id at) in
         let here = relinked-slot cells id at p (live-there cells id k.exact.none f.0.live) (live-within cells id f.0.live) f.0.within in
-        no-both (is_counted_strong weakened p) (sym (ap (is_counted_strong weakened) here) ∙ s) turned-weak
+        no-both (is_counted_strong weakened p) (sym (ap (is_counted_strong weakened) here) ∙ s) switched-weak
 
     -- a slot that is strong was so before
     pub weak-before : (x slot : ℕ) → IsStrong weakened x slot → IsStrong cells x slot
     weak-before x slot s =
         let p = other_strength (pointer_at cells id at) in
         ⊎_elim
-        (λ w. no-both (is_counted_strong weakened p) (sym (ap (is_counted_strong weakened) w.2) ∙ s) turned-weak)
+        (λ w. no-both (is_counted_strong weakened p) (sym (ap (is_counted_strong weakened) w.2) ∙ s) switched-weak)
         (λ e. sym (strong-same cells weakened x slot (relinked-bit cells id at p) e) ∙ s)
         (relinked-which cells id at p x slot (live-there cells id k.exact.none f.0.live) (live-within cells id f.0.live) f.0.within)

@@ -19,7 +19,7 @@ use Rattle.core_store.specs.Owed.{entries_owed}
 use Rattle.core_store.specs.Plans.{IsRefused}
 use Rattle.core_store.specs.Tables.{TablesView}
 use Rattle.core_store.specs.Transactions.{running_at}
-use Rattle.core_store.specs.Stands.{Matches, owns_in, shares_in, is_free, Stands, Performs}
+use Rattle.core_store.specs.Stands.{Matches, owns_in, shares_in, is_free, Stands, DoesCall}
 use Rattle.core_store.proofs.PlanRecords.{refused-logs}
 use Rattle.core_store.proofs.RestLaws.{round-same}
 
@@ -53,7 +53,7 @@ Stands-moment slots v c n h state undone sound = record {
   owed = h.owed ∙ sym (owed-moment c.moment n state undone);
 }
 
-pub performs-refused : (slots : ℕ) (v : TablesView) (held : List (HeldFrame slots)) (pass : ℕ) (call : TransactionCall) (reply : Reply) → IsRefused slots v pass call reply → Performs slots v v held held pass call reply None
+pub performs-refused : (slots : ℕ) (v : TablesView) (held : List (HeldFrame slots)) (pass : ℕ) (call : TransactionCall) (reply : Reply) → IsRefused slots v pass call reply → DoesCall slots v v held held pass call reply None
 performs-refused slots v held pass call reply refused c h agree =
     let r = refused c h in
     let n = next c.moment (Call pass call reply) in

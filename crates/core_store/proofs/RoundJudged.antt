@@ -4,7 +4,7 @@ use Rattle.std.specs.Prelude.{Contains}
 use Rattle.red_walk.specs.declared.red_at.RedAt.TheVariants as red
 use Rattle.red_walk.specs.Walk.{Walk, next}
 use Rattle.green_walk.specs.Judged.{Judged, Picks}
-use Rattle.green_walk.specs.Sweeping.{Sweeping as Sweep, IsSweep, started}
+use Rattle.green_walk.specs.Sweeping.{SweepState as Sweep, IsSweep, started}
 use Rattle.green_walk.specs.Greening.{Greening, IsGreening, started as green_started}
 use Rattle.green_walk.proofs.PicksLaws.{picks-from}
 use Rattle.core_store.specs.declared.round.Stage.{Stage}

@@ -12,7 +12,7 @@ use Rattle.green_walk.specs.declared.sweep.Found.{Found}
 use Rattle.green_walk.specs.declared.sweep.Found.TheVariants.{Nothing, Made}
 use Rattle.green_walk.specs.declared.green_at.Test.{Test}
 use Rattle.green_walk.specs.Judged.{Judged}
-use Rattle.green_walk.specs.Sweeping.{Sweeping as Sweep, IsSweep, next as next_of_sweep, found, found_at}
+use Rattle.green_walk.specs.Sweeping.{SweepState as Sweep, IsSweep, next as next_of_sweep, found, found_at}
 use Rattle.green_walk.specs.Greening.{Greening, GreenStage, AtSeed, AtInto, AtOut, IsGreening, IsPlace, IsAnswer, IsTestable, next as next_of_green, found as found_by_green, testing, tested, again, work_left, work_at, seed_work, walk_work}
 use Rattle.green_walk.specs.GreenLaws.{IsSameWalk}
 use Rattle.green_walk.proofs.SweepLaws.{free-law}

@@ -9,7 +9,7 @@ use Rattle.green_walk.specs.declared.sweep.SweepAt.TheVariants as sweep
 use Rattle.green_walk.specs.declared.sweep.Found.{Found}
 use Rattle.green_walk.specs.declared.sweep.Found.TheVariants.{Nothing, Strong}
 use Rattle.green_walk.specs.declared.green_at.GreenAt.{GreenAt}
-use Rattle.green_walk.specs.Sweeping.{Sweeping as Sweep, next as next_of_sweep}
+use Rattle.green_walk.specs.Sweeping.{SweepState as Sweep, next as next_of_sweep}
 use Rattle.green_walk.specs.Greening.{Greening, IsAnswer, IsTestable, waits, next as next_of_green, found, testing, tested}
 use Rattle.green_walk.proofs.GreenAsked.{waits-live}
 use Rattle.core_store.specs.declared.three.HeldFrame.{HeldFrame}
@@ -17,7 +17,7 @@ use Rattle.core_store.specs.declared.round_at.RoundAt.{RoundAt}
 use Rattle.core_store.specs.declared.round_at.RoundAt.TheVariants as at
 use Rattle.core_store.specs.Frames.{Agree}
 use Rattle.core_store.specs.Changes.{has_no_strong, is_counted_strong}
-use Rattle.core_store.specs.RoundView.{RoundView, Sweeping, asked, is_event, is_white, passed, passed_by_sweep, passed_by_green, IsGreenAnswer, IsGreenTestable, IsInStep, IsSweeping}
+use Rattle.core_store.specs.RoundView.{RoundView, Sweeping, asked, is_event, is_white, looked_past, passed_by_sweep, passed_by_green, IsGreenAnswer, IsGreenTestable, IsInStep, IsSweeping}
 use Rattle.core_store.specs.Work.{IsWork}
 use Rattle.core_store.specs.Collecting.{work_at, CanPass, IsPassedBy}
 use Rattle.core_store.specs.Tables.{TablesView}
@@ -41,7 +41,7 @@ pub record GreenOf (r : RoundView) (a : RoundAt) : Type 0 where
   pub is : r ≡ Sweeping walk swept slot of
   pub rest : next_of_sweep swept ≡ sweep.End
   pub asks : IsAskedBy of.slots of.test (next_of_green of) a
-  pub passes : (slots : ℕ) (cells : List Cell) → passed slots cells r ≡ Sweeping walk swept slot (passed_by_green cells of a)
+  pub passes : (slots : ℕ) (cells : List Cell) → looked_past slots cells r ≡ Sweeping walk swept slot (passed_by_green cells of a)
 
 pub green-of : (r : RoundView) (a : RoundAt) → IsGreenAt a → asked r ≡ a → GreenOf r a
 green-of r a k e =
@@ -54,7 +54,7 @@ green-of r a k e =
       is = x.4;
       rest = x.5;
       asks = x.7;
-      passes = λ slots cells. ap (passed slots cells) x.4 ∙ (ap (passed_by_sweep slots cells x.0 x.1 x.2 x.3) x.5 ∙ ap (λ (b : RoundAt). Sweeping x.0 x.1 x.2 (passed_by_green cells x.3 b)) x.6);
+      passes = λ slots cells. ap (looked_past slots cells) x.4 ∙ (ap (passed_by_sweep slots cells x.0 x.1 x.2 x.3) x.5 ∙ ap (λ (b : RoundAt). Sweeping x.0 x.1 x.2 (passed_by_green cells x.3 b)) x.6);
     }
 
 module _ {r : RoundView} {a : RoundAt} (x : GreenOf r a) where
@@ -84,7 +84,7 @@ module _ {slots : ℕ} {v : TablesView} {c : Core} (h : Stands slots v c) where
   work-at a e = subst (λ (x : RoundAt). IfSome (work_at x) (IsWork slots)) e (asked-work h)
 
   -- where the round is as after a look, the tables go on to stand for the journal
-  pub passed-by : (q : RoundView) → is_event c.cells (asked v.round) ≡ false → q ≡ passed slots c.cells v.round → IsPassedBy slots c v (record v { round = q })
+  pub passed-by : (q : RoundView) → is_event c.cells (asked v.round) ≡ false → q ≡ looked_past slots c.cells v.round → IsPassedBy slots c v (record v { round = q })
   passed-by q nothing e = record { round = e; same = refl; stands = subst (λ (r : RoundView). Stands slots (record v { round = r }) c) (sym e) (Stands-passed slots v c h nothing) }
 
   -- the same, behind a look of the green walk

@@ -7,7 +7,7 @@ use Rattle.cell_model.specs.Cells.{Pointer, Cell, null, cell_at, pointer_at, is_
 use Rattle.cell_model.proofs.EditLaws.{edit-none}
 use Rattle.cell_model.proofs.CountLaws.{relinked-length}
 use Rattle.strength_counts.specs.Held.{Held, is_held, held_pointer, AreOnce, edit_held}
-use Rattle.strength_counts.specs.Changes.{pointer_to, holds_strong, takes_strong, is_laid_strong as is_laid_strong_held, with_pointer, without_pointer}
+use Rattle.strength_counts.specs.Changes.{pointer_to, holds_strong, takes_strong, may_be_strong as is_laid_strong_held, with_pointer, without_pointer}
 use Rattle.strength_counts.specs.Laws.{AreOf, ArePart, with_held}
 use Rattle.strength_counts.proofs.Edits.{is_held-edit_held, AreOnce-edit_held}
 use Rattle.strength_counts.proofs.StoreEdits.{edit-same, edit-edit, edit-apart, edit-back, with_held-of, AreOf-with_held}

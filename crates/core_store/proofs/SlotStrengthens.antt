@@ -22,7 +22,7 @@ use Rattle.core_store.proofs.SlotBounds.{room-strong, self-few}
 use Rattle.core_store.proofs.SlotHeld.{IsNullOrHeld, relinked-over, put-back, counted-holds}
 use Rattle.core_store.proofs.SlotReady.{object-there, object-live, old-there, old-live, old-counts}
 use Rattle.core_store.proofs.SlotChanges.{cells-of, ready-cut, old-live as old-live_of}
-use Rattle.core_store.proofs.SlotWeakens.{turn-relinks}
+use Rattle.core_store.proofs.SlotWeakens.{switch-relinks}
 
 -- ---- a weak pointer becomes strong
 
@@ -81,7 +81,7 @@ module _ (slots ids : ℕ) (cells : List StoredCell) (id slot : ℕ) (can : CanC
 
   module _ (new : List Held) (is : new ≡ with_other_strength id slot hs) where
     pub strengthen-relinked : AreRelinked hs new id slot (λ all. other_strength (pointer_at all id slot))
-    strengthen-relinked = turn-relinks hs new id slot is there target-there
+    strengthen-relinked = switch-relinks hs new id slot is there target-there
 
     new-of : AreCellsOf (relinked cells id slot (other_strength (pointer_at cells id slot))) new
     new-of = strengthen-relinked.of cells of-store

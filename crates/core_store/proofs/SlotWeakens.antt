@@ -9,7 +9,7 @@ use Rattle.strength_counts.specs.Held.{Held, is_held as is_cell_held, held_cell,
 use Rattle.strength_counts.specs.Changes.{count_of, holds_strong, with_other_strength}
 use Rattle.strength_counts.specs.Laws.{ArePart, with_held}
 use Rattle.strength_counts.proofs.Edits.{is_held-edit_held, AreOnce-edit_held}
-use Rattle.strength_counts.proofs.StoreChanges.{look, look-pointer, turn-relinked}
+use Rattle.strength_counts.proofs.StoreChanges.{look, look-pointer, switch-relinked}
 use Rattle.core_store.specs.Changes.{is_counted_strong}
 use Rattle.core_store.specs.Logged.{object_and_targets}
 use Rattle.core_store.specs.Slots.{CanChange, HoldsCellsOf, AreCellsOf, AreReadyToChange, AreRelinked}
@@ -26,9 +26,9 @@ turn-ids : (hs : List Held) (u v : ℕ) (f g h : Cell → Cell) (i : ℕ) → is
 turn-ids hs u v f g h i = is_held-edit_held v h (edit_held v g (edit_held u f hs)) i ∙ ids-twice hs u v f g i
 
 -- the held cells after a slot's pointer got its other strength
-pub turn-relinks : (hs new : List Held) (id slot : ℕ) → new ≡ with_other_strength id slot hs → is_cell_held hs id ≡ true → is_cell_held hs (held_pointer hs id slot).target ≡ true
+pub switch-relinks : (hs new : List Held) (id slot : ℕ) → new ≡ with_other_strength id slot hs → is_cell_held hs id ≡ true → is_cell_held hs (held_pointer hs id slot).target ≡ true
     → AreRelinked hs new id slot (λ cells. other_strength (pointer_at cells id slot))
-turn-relinks hs new id slot is l m =
+switch-relinks hs new id slot is l m =
     let p = held_pointer hs id slot in
     let q = other_strength p in
     let ids = turn-ids hs id p.target (relink slot q) (loses p.bit) (gains q.bit) in
@@ -36,7 +36,7 @@ turn-relinks hs new id slot is l m =
       ids = ids;
       of = λ cells o. cells-after cells hs o (with_other_strength id slot hs) ids
           (AreOnce-edit_held p.target (gains q.bit) (edit_held p.target (loses p.bit) (edit_held id (relink slot q) hs)) (once-twice hs id p.target (relink slot q) (loses p.bit) o.part.once))
-          (relinked cells id slot (other_strength (pointer_at cells id slot))) (turn-relinked cells hs o.part id slot l m) (relinked-length cells id slot (other_strength (pointer_at cells id slot)));
+          (relinked cells id slot (other_strength (pointer_at cells id slot))) (switch-relinked cells hs o.part id slot l m) (relinked-length cells id slot (other_strength (pointer_at cells id slot)));
     })
 
 module _ (slots ids : ℕ) (cells : List Cell) (id slot : ℕ) (can : CanChange slots ids cells id slot 0) (strong : is_counted_strong cells (pointer_at cells id slot) ≡ true) (hs : List Held) (held : HoldsCellsOf hs (object_and_targets cells id slot 0)) (part : ArePart cells hs) where
@@ -83,7 +83,7 @@ module _ (slots ids : ℕ) (cells : List Cell) (id slot : ℕ) (can : CanChange 
 
   module _ (new : List Held) (is : new ≡ with_other_strength id slot hs) where
     pub weaken-relinked : AreRelinked hs new id slot (λ all. other_strength (pointer_at all id slot))
-    weaken-relinked = turn-relinks hs new id slot is there target-there
+    weaken-relinked = switch-relinks hs new id slot is there target-there
 
     new-of : AreCellsOf (relinked cells id slot (other_strength (pointer_at cells id slot))) new
     new-of = weaken-relinked.of cells weaken-of

@@ -107,12 +107,12 @@ begins-put (n ∷ needed) (h ∷ hs) p begun next =
     ]
 
 -- what holds where the pages aren't let go
-record IsKept (needed held : List ℕ) (wanted : Want) : Type 0 where
+record IsWantMet (needed held : List ℕ) (wanted : Want) : Type 0 where
   begun : begins_late needed held ≡ false
   all : are_all_among held needed ≡ true
   next : next_page needed held ≡ wanted
 
-kept : (needed held : List ℕ) (wanted : Want) → want_of needed held ≡ wanted → wanted ≢ LetGo → IsKept needed held wanted
+kept : (needed held : List ℕ) (wanted : Want) → want_of needed held ≡ wanted → wanted ≢ LetGo → IsWantMet needed held wanted
 kept needed held wanted e other =
     elim (cases_Bool (begins_late needed held)) [
       | inl late ↦ absurd (other (let go : want_of needed held ≡ LetGo = rw late refl in cc))
@@ -133,7 +133,7 @@ each-held held (n ∷ needed) all = (is_held-among held n ∙ all.0, each-held h
 -- ---- the laws
 
 module _ {slots : ℕ} (needed : List ℕ) (held : List (HeldFrame slots)) (p : ℕ) (wants : want_of needed (pages_held held) ≡ Page p) where
-  is-kept : IsKept needed (pages_held held) (Page p)
+  is-kept : IsWantMet needed (pages_held held) (Page p)
   is-kept = kept needed (pages_held held) (Page p) wants (λ e. absurd cc)
 
   -- the wanted page isn't held
@@ -163,7 +163,7 @@ wanted-first [] e = absurd cc
 wanted-first (n ∷ needed) e = absurd cc
 
 module _ {slots : ℕ} (needed : List ℕ) (held : List (HeldFrame slots)) (wants : want_of needed (pages_held held) ≡ Ready) where
-  is-ready : IsKept needed (pages_held held) Ready
+  is-ready : IsWantMet needed (pages_held held) Ready
   is-ready = kept needed (pages_held held) Ready wants (λ e. absurd cc)
 
   -- each needed page is held

@@ -18,7 +18,7 @@ use Rattle.core_store.specs.declared.want.Want.TheVariants.{Ready}
 use Rattle.std.specs.Option.{option_map_or}
 use Rattle.core_store.specs.Work.{objects_of, pages_of_work}
 use Rattle.core_store.specs.Events.{core_after}
-use Rattle.core_store.specs.RoundView.{RoundView, asked, is_event, passed, Proceeds}
+use Rattle.core_store.specs.RoundView.{RoundView, asked, is_event, looked_past, Proceeds}
 use Rattle.core_store.specs.Collects.{Collects, BeginsGreen, entry_of}
 use Rattle.core_store.specs.Tables.{TablesView}
 use Rattle.core_store.specs.Stands.{Stands, Moves}
@@ -66,7 +66,7 @@ pub record CanPass {slots : ℕ} (v : TablesView) (held : List (HeldFrame slots)
 
 -- the round goes on behind a look at which there was nothing to do, nothing else changes, and the tables stand for the journal as before
 pub record IsPassedBy (slots : ℕ) (c : Core) (v w : TablesView) : Type 0 where
-  pub round : w.round ≡ passed slots c.cells v.round
+  pub round : w.round ≡ looked_past slots c.cells v.round
   pub same : w ≡ record v { round = w.round }
   pub stands : Stands slots w c
 

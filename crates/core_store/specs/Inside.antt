@@ -4,7 +4,7 @@ use Rattle.core_store.specs.declared.three.HeldFrame.{HeldFrame}
 use Rattle.core_store.specs.Frames.{AreOnce}
 
 -- the first so many of three are held
-pub record AreKept {slots : ℕ} (frames : List (HeldFrame slots)) (count : ℕ) : Type 0 where
+pub record AreThreeInside {slots : ℕ} (frames : List (HeldFrame slots)) (count : ℕ) : Type 0 where
   pub three : length frames ≡ 3
   pub most : count ≤ 3
   pub once : AreOnce (take count frames)

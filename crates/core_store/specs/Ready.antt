@@ -13,7 +13,7 @@ use Rattle.store_model.specs.Core.{Core}
 use Rattle.core_store.specs.declared.three.HeldFrame.{HeldFrame}
 use Rattle.core_store.specs.declared.plan.Plan.{Plan}
 use Rattle.core_store.specs.declared.plan.Plan.TheVariants as plan
-use Rattle.core_store.specs.declared.handlers.Outcome.{Outcome}
+use Rattle.core_store.specs.declared.handlers.Performed.{Performed}
 use Rattle.core_store.specs.Frames.{Agree, is_held}
 use Rattle.log_record.specs.declared.cell_record.CellRecord.{CellRecord}
 use Rattle.log_record.specs.Records.{after_cell_record}
@@ -22,7 +22,7 @@ use Rattle.core_store.specs.Logged.{object_and_targets, objects_of_undo, pages_f
 use Rattle.core_store.specs.Replaced.{next_to_restore}
 use Rattle.core_store.specs.Transactions.{writing}
 use Rattle.core_store.specs.Tables.{TablesView, changed_at}
-use Rattle.core_store.specs.Stands.{Stands, Performs}
+use Rattle.core_store.specs.Stands.{Stands, DoesCall}
 use Rattle.core_store.specs.Plans.{IsGranted, IsPlanned}
 
 -- the tables stand for some journal, and the held pages for its cells
@@ -56,12 +56,12 @@ pub record IsReady {slots : ℕ} (v : TablesView) (held : List (HeldFrame slots)
   pub pages : HoldsPagesOf held (objects_of_plan standing.core.cells p)
 
 -- whatever call has this plan is done as the machine does it
-abbrev pub Does : {slots : ℕ} → TablesView → TablesView → List (HeldFrame slots) → List (HeldFrame slots) → ℕ → Plan → Outcome → Type 0
-Does {slots} v w held new pass p outcome = (call : TransactionCall) → IsGranted v pass call p → Performs slots v w held new pass call outcome.reply outcome.logged
+abbrev pub Does : {slots : ℕ} → TablesView → TablesView → List (HeldFrame slots) → List (HeldFrame slots) → ℕ → Plan → Performed → Type 0
+Does {slots} v w held new pass p outcome = (call : TransactionCall) → IsGranted v pass call p → DoesCall slots v w held new pass call outcome.reply outcome.logged
 
 -- whatever call was planned so is done as the machine does it, or refused as the machine refuses it
-abbrev pub DoesPlanned : {slots : ℕ} → TablesView → TablesView → List (HeldFrame slots) → List (HeldFrame slots) → ℕ → Result Plan Reply → Outcome → Type 0
-DoesPlanned {slots} v w held new pass planned outcome = (call : TransactionCall) → IsPlanned slots v pass call planned → Performs slots v w held new pass call outcome.reply outcome.logged
+abbrev pub DoesPlanned : {slots : ℕ} → TablesView → TablesView → List (HeldFrame slots) → List (HeldFrame slots) → ℕ → Result Plan Reply → Performed → Type 0
+DoesPlanned {slots} v w held new pass planned outcome = (call : TransactionCall) → IsPlanned slots v pass call planned → DoesCall slots v w held new pass call outcome.reply outcome.logged
 
 -- the client owns the object, and has noted what its write replaced
 pub record IsNoted (v w : TablesView) (pass id : ℕ) (replaced : Write) : Type 0 where

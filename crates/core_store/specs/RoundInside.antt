@@ -4,7 +4,7 @@ use Rattle.strict_locks.specs.Locks.{Table, holders_of, Holds}
 use Rattle.red_walk.specs.Walk.{Walk, IsWalk}
 use Rattle.green_walk.specs.Judged.{Judged}
 use Rattle.green_walk.specs.declared.sweep.SweepAt.TheVariants as sweep
-use Rattle.green_walk.specs.Sweeping.{Sweeping as Sweep, IsSweep, next as next_of_sweep}
+use Rattle.green_walk.specs.Sweeping.{SweepState as Sweep, IsSweep, next as next_of_sweep}
 use Rattle.green_walk.specs.Greening.{Greening, IsGreening}
 use Rattle.core_store.specs.declared.round.Stage.{Stage}
 use Rattle.core_store.specs.declared.round.Stage.TheVariants as stage

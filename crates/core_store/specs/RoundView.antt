@@ -14,7 +14,7 @@ use Rattle.green_walk.specs.declared.green_at.GreenAt.{GreenAt}
 use Rattle.green_walk.specs.declared.green_at.GreenAt.TheVariants as green
 use Rattle.green_walk.specs.declared.green_at.Test.{Test}
 use Rattle.green_walk.specs.Judged.{Judged}
-use Rattle.green_walk.specs.Sweeping.{Sweeping as Sweep, IsSweep, next as next_of_sweep, started, found, unemptied, unfreed}
+use Rattle.green_walk.specs.Sweeping.{SweepState as Sweep, IsSweep, next as next_of_sweep, started, found, unemptied, unfreed}
 use Rattle.green_walk.specs.Greening.{Greening, IsGreening, next as next_of_green, found as found_by_green, started as green_started, IsAnswer, IsTestable, waits, testing, tested, again, work_left as green_left}
 use Rattle.green_walk.specs.GreenLaws.{most_work}
 use Rattle.log_record.specs.declared.cell_record.CellRecord.{CellRecord}
@@ -161,15 +161,15 @@ passed_by_sweep slots cells w s slot g (sweep.Free id) = Sweeping w s slot g
 passed_by_sweep slots cells w s slot g sweep.End = Sweeping w s slot (passed_by_green cells g (asked_by_green g.slots g.test (next_of_green g)))
 
 -- the round after a look at which there was nothing to do
-abbrev pub passed : ℕ → List Cell → RoundView → RoundView
-passed slots cells Closed = Closed
-passed slots cells (Walking w) = Walking (moved slots w)
-passed slots cells (Sweeping w s slot g) = passed_by_sweep slots cells w s slot g (next_of_sweep s)
+abbrev pub looked_past : ℕ → List Cell → RoundView → RoundView
+looked_past slots cells Closed = Closed
+looked_past slots cells (Walking w) = Walking (moved slots w)
+looked_past slots cells (Sweeping w s slot g) = passed_by_sweep slots cells w s slot g (next_of_sweep s)
 
 -- slots were looked at one after another, and nothing was to do at any of them
 pub data Passes (slots : ℕ) (cells : List Cell) (u : RoundView) : RoundView → Type 0 where
   none : Passes slots cells u u
-  more : (v : RoundView) → Passes slots cells u v → is_event cells (asked v) ≡ false → Passes slots cells u (passed slots cells v)
+  more : (v : RoundView) → Passes slots cells u v → is_event cells (asked v) ≡ false → Passes slots cells u (looked_past slots cells v)
 
 -- a change of the object counts where the verdict is to come, and for the looks of the green walk
 abbrev pub touched_in : RoundView → ℕ → RoundView

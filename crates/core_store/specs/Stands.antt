@@ -145,8 +145,8 @@ pub record Answers (slots : ℕ) (v w : TablesView) (c : Core) (held new : List 
   pub round : w.round ≡ touched_by_record v.round logged
 
 -- whatever the tables and the held pages stand for, the call is done as the machine does it
-abbrev pub Performs : (slots : ℕ) → TablesView → TablesView → List (HeldFrame slots) → List (HeldFrame slots) → ℕ → TransactionCall → Reply → Option CellRecord → Type 0
-Performs slots v w held new pass call reply logged = (c : Core) → Stands slots v c → Agree c.cells held → Answers slots v w c held new pass call reply logged
+abbrev pub DoesCall : (slots : ℕ) → TablesView → TablesView → List (HeldFrame slots) → List (HeldFrame slots) → ℕ → TransactionCall → Reply → Option CellRecord → Type 0
+DoesCall slots v w held new pass call reply logged = (c : Core) → Stands slots v c → Agree c.cells held → Answers slots v w c held new pass call reply logged
 
 -- one write of the client is undone, with this record
 pub record Undoes (slots : ℕ) (v w : TablesView) (c : Core) (held new : List (HeldFrame slots)) (pass : ℕ) (logged : CellRecord) : Type 0 where

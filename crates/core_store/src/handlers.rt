@@ -23,7 +23,7 @@ use ref_tables::Kind;
 
 /// What a call is answered, and what it logs.
 #[derive(Clone, Copy)]
-pub(crate) struct Outcome {
+pub(crate) struct Performed {
     pub(crate) reply: Reply,
     pub(crate) logged: Option<CellRecord>,
 }
@@ -36,7 +36,7 @@ fn nonzero(id: u32) -> Option<u32>
 }
 
 impl<const SLOTS: usize> Tables<SLOTS> {
-    fn begin(&mut self, pass: u8) -> Result<Outcome, Memory>
+    fn begin(&mut self, pass: u8) -> Result<Performed, Memory>
         requires room { self.old.owed + 1 < 2 ^ 64 }
         requires none { running_at self.old.transactions.entries pass ≡ None }
         ensures ok { IfOk result (λ o. (held : List (HeldFrame SLOTS)) → Does (view_of self.old) (view_of self.new) held held pass Plan.Begin o) }
@@ -46,7 +46,7 @@ impl<const SLOTS: usize> Tables<SLOTS> {
         self.transactions
             .insert(pass, Transaction::new(self.alloc))?;
         self.owed += 1;
-        Ok(Outcome {
+        Ok(Performed {
             reply: Reply::Done,
             logged: Some(CellRecord::Begin { pass }),
         })
@@ -59,7 +59,7 @@ impl<const SLOTS: usize> Tables<SLOTS> {
         id: u32,
         slot: u8,
         into: u8,
-    ) -> Result<Outcome, Memory>
+    ) -> Result<Performed, Memory>
         requires ready { IsReady (view_of self.old) held.now pass (Plan.Read id slot into) }
         ensures ok { IfOk result (Does (view_of self.old) (view_of self.new) held.now held.now pass (Plan.Read id slot into)) }
         ensures owed { self.new.owed ≡ self.old.owed }
@@ -68,20 +68,20 @@ impl<const SLOTS: usize> Tables<SLOTS> {
         locks::share(&mut self.locks, pass, id)?;
         let value = held.cell(id).slots[slot as usize];
         transactions::load(&mut self.transactions, pass, into, nonzero(value));
-        Ok(Outcome {
+        Ok(Performed {
             reply: Reply::Id(value),
             logged: None,
         })
     }
 
-    fn get(&mut self, held: &Three<SLOTS>, pass: u8, id: u32) -> Result<Outcome, Memory>
+    fn get(&mut self, held: &Three<SLOTS>, pass: u8, id: u32) -> Result<Performed, Memory>
         requires ready { IsReady (view_of self.old) held.now pass (Plan.Get id) }
         ensures ok { IfOk result (Does (view_of self.old) (view_of self.new) held.now held.now pass (Plan.Get id)) }
         ensures owed { self.new.owed ≡ self.old.owed }
         ensures err { OnErr result (view_of self.new ≡ view_of self.old) }
     {
         locks::share(&mut self.locks, pass, id)?;
-        Ok(Outcome {
+        Ok(Performed {
             reply: Reply::Pay(held.cell(id).payload),
             logged: None,
         })
@@ -112,7 +112,7 @@ impl<const SLOTS: usize> Tables<SLOTS> {
         id: u32,
         slot: u8,
         target: u32,
-    ) -> Result<Outcome, Memory>
+    ) -> Result<Performed, Memory>
         requires ready { IsReady (view_of self.old) held.old pass (Plan.Store id slot target) }
         requires room { self.old.owed + 1 < 2 ^ 64 }
         ensures ok { IfOk result (Does (view_of self.old) (view_of self.new) held.old held.new pass (Plan.Store id slot target)) }
@@ -131,7 +131,7 @@ impl<const SLOTS: usize> Tables<SLOTS> {
         references::note(&mut self.references, pass, change.old_target, Kind::Cut);
         references::note(&mut self.references, pass, target, Kind::Put);
         self.touch(id, change.old_target, target);
-        Ok(Outcome {
+        Ok(Performed {
             reply: Reply::Done,
             logged: Some(CellRecord::Store {
                 pass,
@@ -152,7 +152,7 @@ impl<const SLOTS: usize> Tables<SLOTS> {
         pass: u8,
         id: u32,
         value: u64,
-    ) -> Result<Outcome, Memory>
+    ) -> Result<Performed, Memory>
         requires ready { IsReady (view_of self.old) held.old pass (Plan.Set id value) }
         requires room { self.old.owed + 1 < 2 ^ 64 }
         ensures ok { IfOk result (Does (view_of self.old) (view_of self.new) held.old held.new pass (Plan.Set id value)) }
@@ -167,7 +167,7 @@ impl<const SLOTS: usize> Tables<SLOTS> {
         };
         self.own_to_write(pass, id, replaced)?;
         let old_value = slots::pay(held, id, value);
-        Ok(Outcome {
+        Ok(Performed {
             reply: Reply::Done,
             logged: Some(CellRecord::Pay {
                 pass,
@@ -184,7 +184,7 @@ impl<const SLOTS: usize> Tables<SLOTS> {
         pass: u8,
         id: u32,
         into: u8,
-    ) -> Result<Outcome, Memory>
+    ) -> Result<Performed, Memory>
         requires ready { IsReady (view_of self.old) held.old pass (Plan.Make id into) }
         ensures ok { IfOk result (Does (view_of self.old) (view_of self.new) held.old held.new pass (Plan.Make id into)) }
         ensures owed { self.new.owed ≡ self.old.owed }
@@ -197,26 +197,26 @@ impl<const SLOTS: usize> Tables<SLOTS> {
         self.free.remove(&id);
         held.put_cell(Cell::new_object(id));
         transactions::load(&mut self.transactions, pass, into, Some(id));
-        Ok(Outcome {
+        Ok(Performed {
             reply: Reply::Id(id),
             logged: Some(CellRecord::Make { pass, id }),
         })
     }
 
-    fn commit(&mut self, pass: u8) -> Outcome
+    fn commit(&mut self, pass: u8) -> Performed
         requires standing { (c : Core) × Stands SLOTS (view_of self.old) c }
         ensures does { (held : List (HeldFrame SLOTS)) → Does (view_of self.old) (view_of self.new) held held pass Plan.Commit result }
         ensures owed { self.new.owed ≤ self.old.owed }
     {
         self.end(pass);
-        Outcome {
+        Performed {
             reply: Reply::Done,
             logged: Some(CellRecord::Commit { pass }),
         }
     }
 
     /// Does what a call does that isn't refused. Out of memory leaves all as it was.
-    fn grant(&mut self, held: &mut Three<SLOTS>, pass: u8, plan: Plan) -> Result<Outcome, Memory>
+    fn grant(&mut self, held: &mut Three<SLOTS>, pass: u8, plan: Plan) -> Result<Performed, Memory>
         requires ready { IsReady (view_of self.old) held.old pass plan }
         requires room { self.old.owed + 1 < 2 ^ 64 }
         ensures ok { IfOk result (Does (view_of self.old) (view_of self.new) held.old held.new pass plan) }
@@ -242,7 +242,7 @@ impl<const SLOTS: usize> Tables<SLOTS> {
         held: &mut Three<SLOTS>,
         pass: u8,
         planned: Result<Plan, Reply>,
-    ) -> Result<Outcome, Memory>
+    ) -> Result<Performed, Memory>
         requires ready { IfOk planned (IsReady (view_of self.old) held.old pass) }
         requires room { self.old.owed + 1 < 2 ^ 64 }
         ensures ok { IfOk result (DoesPlanned (view_of self.old) (view_of self.new) held.old held.new pass planned) }
@@ -252,7 +252,7 @@ impl<const SLOTS: usize> Tables<SLOTS> {
     {
         match planned {
             Ok(plan) => self.grant(held, pass, plan),
-            Err(reply) => Ok(Outcome {
+            Err(reply) => Ok(Performed {
                 reply,
                 logged: None,
             }),

@@ -2,7 +2,7 @@
 ghost use Rattle.std.specs.Prelude.{◌≡◌, ℕ, List, IfSome, true};
 ghost use Rattle.cell_page.specs.Format.{IsSlotCount};
 ghost use Rattle.store_model.specs.Core.{Core};
-ghost use Rattle.core_store.specs.RoundView.{asked, is_event, IsLookAt, Passes, passed};
+ghost use Rattle.core_store.specs.RoundView.{asked, is_event, IsLookAt, Passes, looked_past};
 ghost use Rattle.core_store.specs.Frames.{Agree, IsNext, pages_held};
 ghost use Rattle.core_store.specs.Logged.{want_of};
 ghost use Rattle.core_store.specs.Work.{IsWork, HasSmallTargets};
@@ -81,20 +81,20 @@ impl<const SLOTS: usize> Tables<SLOTS> {
             if want != Want::Ready || is_event(held, at) {
                 return want;
             }
-            self.pass(held, at);
+            self.look_past(held, at);
         }
     }
 
     /// Goes on from a look at which there was nothing to do.
-    fn pass(&mut self, held: &Three<SLOTS>, at: RoundAt)
+    fn look_past(&mut self, held: &Three<SLOTS>, at: RoundAt)
         requires at { at ≡ asked (view_of self.old).round }
         requires ready { CanPass (view_of self.old) held.now }
-        ensures passes { (c : Core) → Stands SLOTS (view_of self.old) c → Agree c.cells held.now → (view_of self.new).round ≡ passed SLOTS c.cells (view_of self.old).round }
+        ensures passes { (c : Core) → Stands SLOTS (view_of self.old) c → Agree c.cells held.now → (view_of self.new).round ≡ looked_past SLOTS c.cells (view_of self.old).round }
         ensures stands { (c : Core) → Stands SLOTS (view_of self.old) c → Agree c.cells held.now → Stands SLOTS (view_of self.new) c }
         ensures same { view_of self.new ≡ record (view_of self.old) { round = (view_of self.new).round } }
     {
         match at {
-            RoundAt::Look { .. } | RoundAt::Cut { .. } => self.round.passed(),
+            RoundAt::Look { .. } | RoundAt::Cut { .. } => self.round.look_past(),
             RoundAt::Seed { id } => self.see_seed(id),
             RoundAt::Test { id, slot } => self.see_slot_of_test(held, id, slot),
             RoundAt::Into { .. } => self.round.found(Found::Nothing),

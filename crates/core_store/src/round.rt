@@ -7,11 +7,11 @@ ghost use Rattle.red_walk.specs.Walk.{Walk, opened, moved, joined_by, copied, re
 ghost use Rattle.red_walk.specs.Inside.{copy_of_seen};
 ghost use Rattle.green_walk.specs.declared.sweep.Found.{Found};
 ghost use Rattle.green_walk.specs.Judged.{Judged, IsSeed, IsLive, Picks};
-ghost use Rattle.green_walk.specs.Sweeping.{Sweeping as Sweep, started, found};
+ghost use Rattle.green_walk.specs.Sweeping.{SweepState as Sweep, started, found};
 ghost use Rattle.green_walk.specs.Greening.{Greening, next as next_of_green, found as found_by_green, started as green_started, IsAnswer, IsTestable, waits, testing, tested};
 ghost use Rattle.green_walk.specs.GreenLaws.{most_work};
 ghost use Rattle.cell_model.specs.Cells.{Cell as StoredCell};
-ghost use Rattle.core_store.specs.RoundView.{RoundView, Closed, Walking, Sweeping, asked, asked_by_test, asked_by_green, IsSlotLook, IsGreenAnswer, IsGreenTestable, passed, touched_in, left_of, ids_in, IsInStep};
+ghost use Rattle.core_store.specs.RoundView.{RoundView, Closed, Walking, Sweeping, asked, asked_by_test, asked_by_green, IsSlotLook, IsGreenAnswer, IsGreenTestable, looked_past, touched_in, left_of, ids_in, IsInStep};
 ghost use Rattle.core_store.specs.RoundInside.{IsRowOf};
 
 use crate::round_at::RoundAt;
@@ -216,9 +216,9 @@ impl<const SLOTS: usize> Round<SLOTS> {
     }
 
     /// Goes on from a slot that was looked at before the verdict or in the sweep, at which there was nothing to do.
-    pub(crate) fn passed(&mut self)
+    pub(crate) fn look_past(&mut self)
         requires look { IsSlotLook (asked self.old.view) }
-        ensures passed { (cells : List StoredCell) → self.new ≡ record self.old { view = passed SLOTS cells self.old.view } }
+        ensures looked { (cells : List StoredCell) → self.new ≡ record self.old { view = looked_past SLOTS cells self.old.view } }
         ensures sound { IsInStep SLOTS self.new.limit self.new.view }
     {
         match self.stage {
@@ -279,7 +279,7 @@ impl<const SLOTS: usize> Round<SLOTS> {
     /// Goes on from a slot of a condemned object, which is null now.
     pub(crate) fn cut(&mut self)
         requires at { (id : ℕ) × (slot : ℕ) × (asked self.old.view ≡ RoundAt.Cut id slot) }
-        ensures moved { (cells : List StoredCell) → self.new ≡ record self.old { view = passed SLOTS cells self.old.view } }
+        ensures moved { (cells : List StoredCell) → self.new ≡ record self.old { view = looked_past SLOTS cells self.old.view } }
         ensures sound { IsInStep SLOTS self.new.limit self.new.view }
     {
         if self.slot as usize + 1 == SLOTS {
@@ -331,7 +331,7 @@ impl<const SLOTS: usize> Round<SLOTS> {
         ensures tested { (w : Walk) (s : Sweep) (slot : ℕ) (g : Greening) → self.old.view ≡ Sweeping w s slot g → self.new ≡ record self.old { view = Sweeping w s slot (tested g) } }
         ensures sound { IsInStep SLOTS self.new.limit self.new.view }
     {
-        self.green.passed();
+        self.green.test_on();
     }
 
     /// The round closes.

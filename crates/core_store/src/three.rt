@@ -32,13 +32,13 @@ pub struct Three<const SLOTS: usize> {
 impl<const SLOTS: usize> Model for Three<SLOTS> {
     ghost use Rattle.std.specs.Prelude.{List, take};
     ghost use Rattle.core_store.specs.declared.three.HeldFrame.{HeldFrame};
-    ghost use Rattle.core_store.specs.Inside.{AreKept};
+    ghost use Rattle.core_store.specs.Inside.{AreThreeInside};
 
     ghost Value = { List (HeldFrame SLOTS) };
 
     ghost view = { λ s. take s.count s.frames };
 
-    ghost invariant = { λ s. AreKept s.frames s.count };
+    ghost invariant = { λ s. AreThreeInside s.frames s.count };
 }
 
 /// The place of the frame of this page.

@@ -1,7 +1,7 @@
 -- What the answers of a green walk leave.
 use Rattle.std.proofs.Common.{◌≡◌, ℕ, Bool, true, false, not, ◌&&◌, List, [], ◌∷◌, length, Option, Some, None, nat_lt, if◌then◌else◌, refl, sym, ap, ◌∙◌, subst}
 use Rattle.std.specs.Prelude.{IfSome}
-use Rattle.red_walk.specs.Ids.{has}
+use Rattle.ref_tables.specs.Queue.{has}
 use Rattle.green_walk.specs.declared.copied_slots.CopiedSlot.{CopiedSlot}
 use Rattle.green_walk.specs.declared.green_at.GreenAt.{GreenAt}
 use Rattle.green_walk.specs.declared.green_at.GreenAt.TheVariants.{Seed, Into, Out, End}

@@ -6,7 +6,8 @@ use Rattle.std.proofs.lemmas.List.Elements.{Contains-append_left, Contains-push,
 use Rattle.std.proofs.lemmas.Bool.Decides.{nat_tests}
 use Rattle.store_model.proofs.Lists.{Contains-later}
 use Rattle.store_model.proofs.OnceLaws.{once-push}
-use Rattle.red_walk.specs.Ids.{has, IsIdList}
+use Rattle.red_walk.specs.Ids.{IsIdList}
+use Rattle.ref_tables.specs.Queue.{has}
 use Rattle.red_walk.proofs.Members.{Contains-has, has-Contains}
 use Rattle.red_walk.proofs.IdLaws.{most-of, at_push}
 use Rattle.green_walk.specs.declared.copied_slots.CopiedSlot.{CopiedSlot}

@@ -6,7 +6,8 @@ use Rattle.store_model.specs.Sound.{IsOnce}
 use Rattle.store_model.proofs.Lists.{Contains-here, Contains-later}
 use Rattle.store_model.proofs.StepLaws.{Contains-cons}
 use Rattle.store_model.proofs.OnceLaws.{nothing-in}
-use Rattle.red_walk.specs.Ids.{Ids, has}
+use Rattle.red_walk.specs.Ids.{Ids}
+use Rattle.ref_tables.specs.Queue.{has}
 use Rattle.red_walk.proofs.Members.{absent}
 use Rattle.green_walk.specs.Judged.{Picks, none, takes, passes}
 

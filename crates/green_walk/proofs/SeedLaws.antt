@@ -4,7 +4,7 @@ use Rattle.std.proofs.lemmas.List.{get_or_default, take_all, length-map}
 use Rattle.store_model.specs.Core.{Copy}
 use Rattle.store_model.specs.Verdict.{copied_names}
 use Rattle.ref_tables.specs.Refs.{Table, entries_of, Names}
-use Rattle.red_walk.specs.Ids.{has}
+use Rattle.ref_tables.specs.Queue.{has}
 use Rattle.red_walk.specs.declared.red_at.RedAt.TheVariants.{Verdict}
 use Rattle.red_walk.specs.Walk.{Walk, IsWalk, next}
 use Rattle.red_walk.proofs.RoundLaws.{verdict-law}

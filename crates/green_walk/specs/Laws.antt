@@ -11,7 +11,7 @@ use Rattle.red_walk.specs.Walk.{Walk}
 use Rattle.green_walk.specs.declared.sweep.SweepAt.TheVariants.{Slots, Free}
 use Rattle.green_walk.specs.declared.sweep.Found.TheVariants.{Made}
 use Rattle.green_walk.specs.Judged.{IsSeed, IsLive, Picks}
-use Rattle.green_walk.specs.Sweeping.{Sweeping, IsSweep, next, found, unfreed}
+use Rattle.green_walk.specs.Sweeping.{SweepState, IsSweep, next, found, unfreed}
 
 -- the walk is the journal's round, all of which was copied; the row has the journal's locks, and the table its names
 pub record IsOf (c : Core) (r : Round) (w : Walk) (locks : List Bool) (refs : Table) : Type 0 where
@@ -36,8 +36,8 @@ CondemnedLaw =
 
 -- an object whose references are removed is condemned, and none was freed yet
 abbrev pub EmptyLaw : Type 0
-EmptyLaw = (s : Sweeping) (id : ℕ) → IsSweep s → next s ≡ Slots id → (unfreed s ≡ s.list) × Contains s.list id
+EmptyLaw = (s : SweepState) (id : ℕ) → IsSweep s → next s ≡ Slots id → (unfreed s ≡ s.list) × Contains s.list id
 
 -- an object that is freed was condemned, and is no more; all others are
 abbrev pub FreeLaw : Type 0
-FreeLaw = (s : Sweeping) (id : ℕ) → IsSweep s → next s ≡ Free id → Contains (unfreed s) id × IsOnce (unfreed s) × IsWithout (unfreed s) id (unfreed (found s (Made id)))
+FreeLaw = (s : SweepState) (id : ℕ) → IsSweep s → next s ≡ Free id → Contains (unfreed s) id × IsOnce (unfreed s) × IsWithout (unfreed s) id (unfreed (found s (Made id)))

@@ -25,7 +25,7 @@ pub record AreLinked (slots : List CopiedSlot) («from» limit : ℕ) (first nex
   pub nexts : (k : ℕ) → «from» ≤ k → k < length slots → target_at slots k ≤ limit → IsNextNaming slots (target_at slots k) (k + 1) (slice_index next k)
 
 -- what is kept of them
-pub record AreKept (slots : List CopiedSlot) (limit capacity : ℕ) (first next : List ℕ) : Type 0 where
+pub record AreLinksInside (slots : List CopiedSlot) (limit capacity : ℕ) (first next : List ℕ) : Type 0 where
   pub linked : AreLinked slots 0 limit first next
   pub firsts : length first ≡ limit + 1
   pub few : length slots ≤ length next

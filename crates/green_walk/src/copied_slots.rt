@@ -31,13 +31,13 @@ pub(crate) struct CopiedSlots {
 
 impl Model for CopiedSlots {
     ghost use Rattle.std.specs.Prelude.{length, vec_capacity};
-    ghost use Rattle.green_walk.specs.Linked.{SlotList, AreKept};
+    ghost use Rattle.green_walk.specs.Linked.{SlotList, AreLinksInside};
 
     ghost Value = { SlotList };
 
     ghost view = { λ a. record { slots = a.slots.items; limit = a.limit; most = length a.next.items } };
 
-    ghost invariant = { λ a. AreKept a.slots.items a.limit (vec_capacity a.slots) a.first.items a.next.items };
+    ghost invariant = { λ a. AreLinksInside a.slots.items a.limit (vec_capacity a.slots) a.first.items a.next.items };
 }
 
 /// Appends a slot, for which there is room.

@@ -283,7 +283,7 @@ impl<const SLOTS: usize> Green<SLOTS> {
     }
 
     /// The test goes on: the slot holds no strong pointer.
-    pub fn passed(&mut self)
+    pub fn test_on(&mut self)
         requires { IfSome self.old.test (λ t. t.slot < SLOTS) }
         ensures tested { self.new ≡ tested self.old }
         ensures sound { IsGreening self.new }

@@ -33,6 +33,3 @@ pub use verdict::Verdict;
 
 /// Out of memory: the library's own error for an allocation that was refused.
 pub type Memory = std::alloc::AllocError;
-
-#[cfg(test)]
-mod tests;

@@ -51,9 +51,9 @@ pub struct Sweep {
 
 impl Model for Sweep {
     ghost use Rattle.std.specs.Prelude.{vec_capacity};
-    ghost use Rattle.green_walk.specs.Sweeping.{Sweeping, sweeping_of, AreInStep};
+    ghost use Rattle.green_walk.specs.Sweeping.{SweepState, sweeping_of, AreInStep};
 
-    ghost Value = { Sweeping };
+    ghost Value = { SweepState };
 
     ghost view = { λ a. sweeping_of a.list.items a.emptied a.freed a.limit };
 

@@ -11,7 +11,7 @@ use Rattle.store_model.proofs.Lists.{Contains-here, Contains-later}
 use Rattle.store_model.specs.Verdict.{IsCondemned}
 use Rattle.red_walk.specs.declared.red_at.RedAt.{RedAt}
 use Rattle.red_walk.specs.declared.red_at.RedAt.TheVariants as red
-use Rattle.red_walk.specs.Ids.{has}
+use Rattle.ref_tables.specs.Queue.{has}
 use Rattle.red_walk.specs.Walk.{Walk, next, opened, moved, joined_by, copied, removed}
 use Rattle.red_walk.specs.Rounds.{round_of as walked}
 use Rattle.red_walk.proofs.WalkLaws.{look-at}
@@ -19,7 +19,7 @@ use Rattle.green_walk.specs.declared.sweep.SweepAt.{SweepAt}
 use Rattle.green_walk.specs.declared.sweep.SweepAt.TheVariants as sweep
 use Rattle.green_walk.specs.declared.sweep.Found.TheVariants.{Nothing, Made, Strong}
 use Rattle.green_walk.specs.Judged.{Judged, Picks}
-use Rattle.green_walk.specs.Sweeping.{Sweeping as Sweep, first_of, found_at, next as next_of_sweep, started, found as found_in_sweep, unemptied, unfreed}
+use Rattle.green_walk.specs.Sweeping.{SweepState as Sweep, first_of, found_at, next as next_of_sweep, started, found as found_in_sweep, unemptied, unfreed}
 use Rattle.green_walk.specs.Greening.{Greening, copied_slots, numbered, started as green_started, next as next_of_green, found as found_by_green, waits, testing, tested}
 use Rattle.green_walk.proofs.CopiedLaws.{length-numbered}
 use Rattle.green_walk.proofs.GreenWork.{no-more-once}
@@ -32,7 +32,7 @@ use Rattle.core_store.specs.declared.act.Act.{Act}
 use Rattle.core_store.specs.declared.act.Act.TheVariants as act
 use Rattle.core_store.specs.declared.round_at.RoundAt.{RoundAt}
 use Rattle.core_store.specs.declared.round_at.RoundAt.TheVariants as at
-use Rattle.core_store.specs.RoundView.{RoundView, Closed, Walking, Sweeping, is_closed, asked, asked_by_walk, asked_by_green, is_event, is_white, next_slot, passed, passed_by_green, passed_by_sweep, Passes, IsSweeping, Proceeds, skip, start, weaken, scan, judge, cut, free, flip, into, strengthen, end}
+use Rattle.core_store.specs.RoundView.{RoundView, Closed, Walking, Sweeping, is_closed, asked, asked_by_walk, asked_by_green, is_event, is_white, next_slot, looked_past, passed_by_green, passed_by_sweep, Passes, IsSweeping, Proceeds, skip, start, weaken, scan, judge, cut, free, flip, into, strengthen, end}
 use Rattle.core_store.specs.RoundView as view
 use Rattle.quiet_rounds.specs.Quiet.{IsQuietWalk, IsQuietRound}
 use Rattle.quiet_rounds.specs.Laws.{IsQuietEvent}
@@ -196,7 +196,7 @@ look-swept cells w s slot g n sweep.End e k =
     let zero : n + 0 ≡ n = omega arith in
     subst (λ (m : ℕ). IsSwept m w s slot (passed_by_green cells g a)) zero (gained w s slot g (passed_by_green cells g a) n 0 (looks-gain cells g a) k)
 
-look-bounded : (cells : List Cell) (v : RoundView) (n : ℕ) → is_event cells (asked v) ≡ false → IsBounded v n → IsBounded (passed 6 cells v) n
+look-bounded : (cells : List Cell) (v : RoundView) (n : ℕ) → is_event cells (asked v) ≡ false → IsBounded v n → IsBounded (looked_past 6 cells v) n
 look-bounded cells Closed n idle k = k
 look-bounded cells (Walking w) n idle k = look-walked cells w n (next w) refl idle k
 look-bounded cells (Sweeping w s slot g) n idle k = look-swept cells w s slot g n (next_of_sweep s) refl k

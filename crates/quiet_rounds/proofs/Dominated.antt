@@ -17,12 +17,12 @@ use Rattle.red_walk.proofs.WalkLaws.{verdict-place}
 use Rattle.green_walk.specs.declared.sweep.SweepAt.{SweepAt}
 use Rattle.green_walk.specs.declared.sweep.SweepAt.TheVariants as sweep
 use Rattle.green_walk.specs.declared.sweep.Found.TheVariants.{Nothing}
-use Rattle.green_walk.specs.Sweeping.{Sweeping as Sweep, next as next_of_sweep, found as found_in_sweep}
+use Rattle.green_walk.specs.Sweeping.{SweepState as Sweep, next as next_of_sweep, found as found_in_sweep}
 use Rattle.green_walk.specs.Greening.{Greening}
 use Rattle.log_record.specs.declared.cell_record.CellRecord.{CellRecord}
 use Rattle.core_store.specs.declared.act.Act.{Act}
 use Rattle.core_store.specs.Changes.{is_counted_strong}
-use Rattle.core_store.specs.RoundView.{RoundView, round_of, Closed, Walking, Sweeping, IsWalking, Passes, none as no_look, more, passed, passed_by_sweep, next_slot, is_closed, Proceeds, skip, start, weaken, scan, judge, cut, free, flip, into, strengthen, end}
+use Rattle.core_store.specs.RoundView.{RoundView, round_of, Closed, Walking, Sweeping, IsWalking, Passes, none as no_look, more, looked_past, passed_by_sweep, next_slot, is_closed, Proceeds, skip, start, weaken, scan, judge, cut, free, flip, into, strengthen, end}
 use Rattle.quiet_rounds.specs.Quiet.{IsQuietWalk, IsQuietRound}
 use Rattle.quiet_rounds.specs.Laws.{IsQuietEvent}
 use Rattle.quiet_rounds.specs.WholeRounds.{IsDominated, itself, joins, OpenRun, none, looks, event, DominatedLaw}
@@ -117,7 +117,7 @@ module _ (began : List Cell) (x slots : ℕ) (cells : List Cell) where
   sweep-look-from w s slot g (sweep.Free id) k = k
   sweep-look-from w s slot g sweep.End k = k
 
-  look-from : (v : RoundView) → IsRoundFrom began x cells v → IsRoundFrom began x cells (passed slots cells v)
+  look-from : (v : RoundView) → IsRoundFrom began x cells v → IsRoundFrom began x cells (looked_past slots cells v)
   look-from Closed k = k
   look-from (Walking w) k = subst (λ l. IsFrom began x cells l) (sym (moved-list w)) k
   look-from (Sweeping w s slot g) k = sweep-look-from w s slot g (next_of_sweep s) k

@@ -11,7 +11,7 @@ use Rattle.store_model.proofs.Lists.{Contains-here, Contains-later}
 use Rattle.store_model.proofs.OnceLaws.{nothing-in}
 use Rattle.cell_model.proofs.RecordLaws.{target-counts}
 use Rattle.store_model.proofs.StepLaws.{Contains-cons}
-use Rattle.red_walk.specs.Ids.{has}
+use Rattle.ref_tables.specs.Queue.{has}
 use Rattle.red_walk.specs.Walk.{Walk}
 use Rattle.red_walk.specs.Rounds.{round_of as of_walk}
 use Rattle.red_walk.proofs.Members.{Contains-has, has-Contains}
@@ -21,7 +21,7 @@ use Rattle.green_walk.specs.declared.green_at.GreenAt.TheVariants as green
 use Rattle.green_walk.specs.declared.green_at.Test.{Test}
 use Rattle.green_walk.specs.declared.sweep.SweepAt.{SweepAt}
 use Rattle.green_walk.specs.declared.sweep.SweepAt.TheVariants as sweep
-use Rattle.green_walk.specs.Sweeping.{Sweeping as Sweep, next as next_of_sweep, first_of, unemptied, unfreed}
+use Rattle.green_walk.specs.Sweeping.{SweepState as Sweep, next as next_of_sweep, first_of, unemptied, unfreed}
 use Rattle.green_walk.specs.Greening.{Greening, GreenStage, AtSeed, AtInto, AtOut, waits, may_lead_to, first_with, first_seed, next as next_of_green}
 use Rattle.core_store.specs.declared.act.Act.TheVariants as act
 use Rattle.core_store.specs.declared.round_at.RoundAt.{RoundAt}

@@ -10,7 +10,7 @@ use Rattle.store_model.specs.Core.{Round, Core}
 use Rattle.cell_model.proofs.EditLaws.{live-within, live-there, edit-here, edit-other}
 use Rattle.cell_model.proofs.CountLaws.{relinked-live, relinked-bit, relinked-counted}
 use Rattle.cell_model.proofs.FlipLaws.{flip-live}
-use Rattle.red_walk.specs.Ids.{has}
+use Rattle.ref_tables.specs.Queue.{has}
 use Rattle.red_walk.specs.Walk.{Walk, opened, moved, removed}
 use Rattle.red_walk.specs.Rounds.{round_of as walked}
 use Rattle.red_walk.proofs.Filters.{among-filter}
@@ -18,7 +18,7 @@ use Rattle.red_walk.proofs.Members.{Contains-has, has-Contains}
 use Rattle.green_walk.specs.declared.sweep.SweepAt.{SweepAt}
 use Rattle.green_walk.specs.declared.sweep.SweepAt.TheVariants as sweep
 use Rattle.green_walk.specs.declared.sweep.Found.TheVariants.{Nothing}
-use Rattle.green_walk.specs.Sweeping.{Sweeping as Sweep, next as next_of_sweep, found as found_in_sweep, unfreed}
+use Rattle.green_walk.specs.Sweeping.{SweepState as Sweep, next as next_of_sweep, found as found_in_sweep, unfreed}
 use Rattle.green_walk.specs.Greening.{Greening}
 use Rattle.green_walk.proofs.SweepLaws.{free-law}
 use Rattle.log_record.specs.declared.cell_record.CellRecord.{CellRecord}
@@ -27,7 +27,7 @@ use Rattle.core_store.specs.declared.act.Act.{Act}
 use Rattle.core_store.specs.declared.act.Act.TheVariants as act
 use Rattle.core_store.specs.declared.round_at.RoundAt.TheVariants as at
 use Rattle.core_store.specs.Collects.{Weakens, WeakensInto, Flips, Strengthens}
-use Rattle.core_store.specs.RoundView.{RoundView, Closed, Walking, Sweeping, IsSweeping, asked, Passes, none as no_look, more, passed, passed_by_sweep, next_slot, is_closed, Proceeds, skip, start, weaken, scan, judge, cut, free, flip, into, strengthen, end}
+use Rattle.core_store.specs.RoundView.{RoundView, Closed, Walking, Sweeping, IsSweeping, asked, Passes, none as no_look, more, looked_past, passed_by_sweep, next_slot, is_closed, Proceeds, skip, start, weaken, scan, judge, cut, free, flip, into, strengthen, end}
 use Rattle.quiet_rounds.specs.Quiet.{IsQuietSweep, IsQuietRound}
 use Rattle.quiet_rounds.specs.Laws.{IsQuietEvent}
 use Rattle.quiet_rounds.specs.WholeRounds.{IsDominated, itself, joins, OpenRun, none, looks, event, IsWholeRound, IsWithoutStrong, FewerLaw}
@@ -137,7 +137,7 @@ module _ (began : List Cell) (x slots : ℕ) (cells : List Cell) where
       by true = refl
       by false = refl
 
-  look-along : (v : RoundView) → IsAlong began x cells v → IsAlong began x cells (passed slots cells v)
+  look-along : (v : RoundView) → IsAlong began x cells v → IsAlong began x cells (looked_past slots cells v)
   look-along Closed k = k
   look-along (Walking w) k = subst (λ l. IsFrom began x cells l) (sym (moved-list w)) k
   look-along (Sweeping w s slot g) k = sweep-along w s slot g (next_of_sweep s) k
@@ -164,8 +164,8 @@ module _ (began : List Cell) (x slots : ℕ) (c d : Core) (w : Walk) (s : Sweep)
   listed of there id m = step.walk.left_listed id (subst (λ (r : Round). Contains r.list id) (some-same of round (sym there ∙ sym e.before)) m)
 
   -- one slot's pointer to an object of the round has the other strength
-  turned-behind : (id at target : ℕ) (b : Bool) → HasPointer c.cells id at target b → Contains w.list target → IsBehind began (weakened c.cells id at) w
-  turned-behind id at target b p m =
+  switched-behind : (id at target : ℕ) (b : Bool) → HasPointer c.cells id at target b → Contains w.list target → IsBehind began (weakened c.cells id at) w
+  switched-behind id at target b p m =
       behind-like began c.cells (weakened c.cells id at) w (λ y. (turn-graph c.cells id at e.sound.consistent.exact p.live p.within).live y)
       (λ y n l. weakened-count c.cells id at e.sound.consistent.exact y l (λ t. n (subst (λ v. Contains w.list v) (sym p.target ∙ t) m))) k
 
@@ -225,11 +225,11 @@ module _ (began : List Cell) (x slots : ℕ) where
   by-event c d u v logged act (into w s slot «from» place to g at) e n q k =
       let does : WeakensInto c «from» to d.queue d.round = into-event began x slots c d w s slot g _ (logs.Weaken «from» place to) e k e.collects in
       subst (λ cells. IsBehind began cells w) (ap (λ (y : Core). y.cells) (sym e.after))
-      (turned-behind began x slots c d w s slot g _ (logs.Weaken «from» place to) e k «from» place to true e.fits.0 (listed began x slots c d w s slot g _ (logs.Weaken «from» place to) e k does.greens.of does.greens.there to does.target_listed))
+      (switched-behind began x slots c d w s slot g _ (logs.Weaken «from» place to) e k «from» place to true e.fits.0 (listed began x slots c d w s slot g _ (logs.Weaken «from» place to) e k does.greens.of does.greens.there to does.target_listed))
   by-event c d u v logged act (strengthen w s slot «from» place to g at) e n q k =
       let does : Strengthens c «from» to d.queue d.round = e.collects in
       subst (λ cells. IsBehind began cells w) (ap (λ (y : Core). y.cells) (sym e.after))
-      (turned-behind began x slots c d w s slot g _ (logs.Strengthen «from» place to) e k «from» place to false e.fits.0 (listed began x slots c d w s slot g _ (logs.Strengthen «from» place to) e k does.greens.of does.greens.there to does.target_listed))
+      (switched-behind began x slots c d w s slot g _ (logs.Strengthen «from» place to) e k «from» place to false e.fits.0 (listed began x slots c d w s slot g _ (logs.Strengthen «from» place to) e k does.greens.of does.greens.there to does.target_listed))
   by-event c d u v logged act (end w s slot g at) e n q k = absurd (cc)
 
   run-along : (c : Core) (u : RoundView) (d : Core) (v : RoundView) (n : ℕ) → OpenRun slots c u d v n → IsQuietRound slots c.cells u → IsAlong began x c.cells u → IsAlong began x d.cells v

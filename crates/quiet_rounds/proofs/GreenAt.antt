@@ -8,7 +8,7 @@ use Rattle.green_walk.specs.declared.green_at.Test.{Test}
 use Rattle.green_walk.specs.declared.sweep.SweepAt.{SweepAt}
 use Rattle.green_walk.specs.declared.sweep.SweepAt.TheVariants as sweep
 use Rattle.green_walk.specs.declared.sweep.Found.TheVariants.{Made}
-use Rattle.green_walk.specs.Sweeping.{Sweeping as Sweep, first_of as first_of_sweep, next as next_of_sweep, unemptied, unfreed}
+use Rattle.green_walk.specs.Sweeping.{SweepState as Sweep, first_of as first_of_sweep, next as next_of_sweep, unemptied, unfreed}
 use Rattle.green_walk.specs.Greening.{Greening, GreenStage, AtSeed, AtInto, AtOut, IsGreening, waits, may_lead_to, first_with, behind_first, greened, moved, first_seed, look_into, asked_at, settled_out, next as next_of_green, found_in, found as found_by_green}
 use Rattle.green_walk.proofs.GreenSteps.{IsThere, there, into-none, into-some, out-there, out-done}
 use Rattle.green_walk.proofs.GreenAnswers.{test-settled, next-settled}

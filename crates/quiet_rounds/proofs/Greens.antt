@@ -12,7 +12,7 @@ use Rattle.cell_model.proofs.EditLaws.{live-there}
 use Rattle.red_walk.specs.Walk.{Walk}
 use Rattle.green_walk.specs.declared.copied_slots.CopiedSlot.{CopiedSlot}
 use Rattle.green_walk.specs.declared.sweep.Found.TheVariants.{Made}
-use Rattle.green_walk.specs.Sweeping.{Sweeping as Sweep, next as next_of_sweep}
+use Rattle.green_walk.specs.Sweeping.{SweepState as Sweep, next as next_of_sweep}
 use Rattle.green_walk.specs.Greening.{Greening, GreenStage, AtSeed, AtInto, AtOut, IsPlace, waits, may_lead_to, behind_first, greened, moved, found as found_by_green}
 use Rattle.green_walk.proofs.GreenAsked.{green-done, first-has, waits-live}
 use Rattle.green_walk.proofs.GreenHeads.{lead-waits, leads-named}
@@ -25,7 +25,7 @@ use Rattle.core_store.specs.RoundView.{Sweeping, round_of}
 use Rattle.quiet_rounds.specs.Quiet.{IsToWeaken, WasWalked, IsHeldStrongly, IsQuietSweep, IsQuietRound}
 use Rattle.quiet_rounds.specs.Laws.{IsQuietEvent, NoneJoins}
 use Rattle.quiet_rounds.proofs.GreenAt.{asks, asked-green, IsAtFlip, at-flip, IsAtInto, at-into, IsAtStrengthen, at-strengthen}
-use Rattle.quiet_rounds.proofs.Strengths.{counted-parts, counted-from, weak-to, flip-graph, flip-zero, flip-apart, flip-into, flip-held, turned_at, turn-which, turn-graph, turn-turned, turn-apart, turn-held, turn-zero}
+use Rattle.quiet_rounds.proofs.Strengths.{counted-parts, counted-from, weak-to, flip-graph, flip-zero, flip-apart, flip-into, flip-held, switched_at, turn-which, turn-graph, turn-switched, turn-apart, turn-held, turn-zero}
 use Rattle.quiet_rounds.proofs.Kept.{waits-more, waits-none, waits-yes, waits-apart, behind-first, other-kept, copied-kept, led-kept, IsQuietGreen, quiet-green, queue-stays, left-stored, left-lives, stored-live, some-within, null-waits, waits-zero}
 
 -- ---- a flip
@@ -147,16 +147,16 @@ module _ {slots : ℕ} {c : Core} {w : Walk} {s : Sweep} {g : Greening} (h : IsQ
   source-waits = subst (λ x. waits g x ≡ true) a.id (lead-waits g to a.first (first-has (may_lead_to g to) a.rest a.first a.leads).1)
 
   -- the pointer isn't strong then
-  no-more_strong : (x k : ℕ) → x ≡ «from» → k ≡ slot → is_counted_strong (turned_at c.cells «from» slot) (pointer_at (turned_at c.cells «from» slot) x k) ≡ true → ⊥
+  no-more_strong : (x k : ℕ) → x ≡ «from» → k ≡ slot → is_counted_strong (switched_at c.cells «from» slot) (pointer_at (switched_at c.cells «from» slot) x k) ≡ true → ⊥
   no-more_strong x k e f st =
-      let new = turned_at c.cells «from» slot in
+      let new = switched_at c.cells «from» slot in
       let here = (counted-parts new (pointer_at new x k) st).1 in
       let strong : is_strong new (pointer_at new «from» slot) ≡ true = subst (λ y. is_strong new (pointer_at new «from» y) ≡ true) f (subst (λ y. is_strong new (pointer_at new y k) ≡ true) e here) in
       let was : is_strong c.cells (pointer_at c.cells «from» slot) ≡ true = fits.strength some in
-      true≢false (sym strong ∙ turn-turned c.cells «from» slot h.sound.consistent.exact fits.live fits.within ∙ ap not was)
+      true≢false (sym strong ∙ turn-switched c.cells «from» slot h.sound.consistent.exact fits.live fits.within ∙ ap not was)
 
-  weakened-none_out : (x k : ℕ) → Contains w.left x → (Contains g.green x → ⊥) → is_counted_strong (turned_at c.cells «from» slot) (pointer_at (turned_at c.cells «from» slot) x k) ≡ true
-      → IsToWeaken (AtInto to (behind_first (may_lead_to g to) a.rest)) x k (pointer_at (turned_at c.cells «from» slot) x k).target
+  weakened-none_out : (x k : ℕ) → Contains w.left x → (Contains g.green x → ⊥) → is_counted_strong (switched_at c.cells «from» slot) (pointer_at (switched_at c.cells «from» slot) x k) ≡ true
+      → IsToWeaken (AtInto to (behind_first (may_lead_to g to) a.rest)) x k (pointer_at (switched_at c.cells «from» slot) x k).target
   weakened-none_out x k m n st =
       ⊎_elim
       (λ e. absurd (no-more_strong x k e.0 e.1 st))
@@ -179,7 +179,7 @@ module _ {slots : ℕ} {c : Core} {w : Walk} {s : Sweep} {g : Greening} (h : IsQ
       (behind-first (may_lead_to g to) a.rest a.first copied a.leads there may))
       (turn-which c.cells «from» slot h.sound.consistent.exact fits.live fits.within x k)
 
-  weakened-held : (x : ℕ) → Contains g.green x → IsHeldStrongly (turned_at c.cells «from» slot) (record g { stage = AtInto to (behind_first (may_lead_to g to) a.rest) }) x
+  weakened-held : (x : ℕ) → Contains g.green x → IsHeldStrongly (switched_at c.cells «from» slot) (record g { stage = AtInto to (behind_first (may_lead_to g to) a.rest) }) x
   weakened-held x m =
       let was = h.quiet.green x m in
       ⊎_elim
@@ -187,7 +187,7 @@ module _ {slots : ℕ} {c : Core} {w : Walk} {s : Sweep} {g : Greening} (h : IsQ
       (λ same. (was.0, was.1, was.2, turn-held c.cells «from» slot h.sound.consistent.exact fits.live fits.within was.0 was.1 x same was.3))
       (turn-which c.cells «from» slot h.sound.consistent.exact fits.live fits.within was.0 was.1)
 
-  weakened-quiet : IsQuietSweep (turned_at c.cells «from» slot) slots w s (record g { stage = AtInto to (behind_first (may_lead_to g to) a.rest) })
+  weakened-quiet : IsQuietSweep (switched_at c.cells «from» slot) slots w s (record g { stage = AtInto to (behind_first (may_lead_to g to) a.rest) })
   weakened-quiet =
       let q = h.quiet in
       let exact = h.sound.consistent.exact in
@@ -215,9 +215,9 @@ pub quiet-into : (slots : ℕ) (c d : Core) (w : Walk) (s : Sweep) (slot «from�
 quiet-into slots c d w s slot «from» k to g e q =
     let asked = asked-green slot g (next_of_sweep s) (at.Into «from» k to) tt (asks e.proceeds) in
     let a = at-into g «from» k to asked.1 in
-    let cells : d.cells ≡ turned_at c.cells «from» k = ap (λ (x : Core). x.cells) e.after in (
+    let cells : d.cells ≡ switched_at c.cells «from» k = ap (λ (x : Core). x.cells) e.after in (
       subst (λ cells. IsQuietSweep cells slots w s (found_by_green g (Made «from»))) (sym cells)
-          (subst (λ x. IsQuietSweep (turned_at c.cells «from» k) slots w s x) (sym a.found) (weakened-quiet (quiet-green e q asked.0) «from» k to a e.fits.0 e.fits.1)),
+          (subst (λ x. IsQuietSweep (switched_at c.cells «from» k) slots w s x) (sym a.found) (weakened-quiet (quiet-green e q asked.0) «from» k to a e.fits.0 e.fits.1)),
       ⊎_elim (λ x. absurd (judged-before x e.before)) (λ x. queue-stays x.greens.queue_is) e.collects,
     )
   where
@@ -256,7 +256,7 @@ module _ {slots : ℕ} {c : Core} {w : Walk} {s : Sweep} {g : Greening} (h : IsQ
 
   -- the slots that were walked are those from before, and that of the pointer
   stronger-walked : (stage : GreenStage) → ((place k : ℕ) → WasWalked (stronger_walk g to stage) stage place k → (place < a.place) ⊎ ((place ≡ a.place) × ((k ≤ slot) ⊎ (slots ≤ k))))
-      → (place k : ℕ) → WasWalked (stronger_walk g to stage) stage place k → waits (stronger_walk g to stage) (pointer_at (turned_at c.cells «from» slot) (slice_index_or (g.green ++ to ∷ []) place 0) k).target ≡ false
+      → (place k : ℕ) → WasWalked (stronger_walk g to stage) stage place k → waits (stronger_walk g to stage) (pointer_at (switched_at c.cells «from» slot) (slice_index_or (g.green ++ to ∷ []) place 0) k).target ≡ false
   stronger-walked stage ways place k l =
       let graph = turn-graph c.cells «from» slot h.sound.consistent.exact fits.live fits.within in
       let a_within = a.within in
@@ -266,15 +266,15 @@ module _ {slots : ℕ} {c : Core} {w : Walk} {s : Sweep} {g : Greening} (h : IsQ
       let first = slice_index_or g.green place 0 in
       let at : WasWalked g (AtOut a.place slot) place k = inl before in
       let was = h.quiet.walked place k (subst (λ st. WasWalked g st place k) (sym a.stage) at) within in
-      subst (λ x. waits (stronger_walk g to stage) (pointer_at (turned_at c.cells «from» slot) x k).target ≡ false) (sym (get_or_append_left g.green (to ∷ []) 0 place within))
+      subst (λ x. waits (stronger_walk g to stage) (pointer_at (switched_at c.cells «from» slot) x k).target ≡ false) (sym (get_or_append_left g.green (to ∷ []) 0 place within))
       (subst (λ x. waits (stronger_walk g to stage) x ≡ false) (sym (graph.target first k)) (waits-more g to stage None (pointer_at c.cells first k).target was)))
       (λ here.
       let is : slice_index_or (g.green ++ to ∷ []) place 0 ≡ «from» = ap (λ x. slice_index_or (g.green ++ to ∷ []) x 0) here.0 ∙ get_or_append_left g.green (to ∷ []) 0 a.place a_within ∙ a.green in
-      subst (λ x. waits (stronger_walk g to stage) (pointer_at (turned_at c.cells «from» slot) x k).target ≡ false) (sym is)
+      subst (λ x. waits (stronger_walk g to stage) (pointer_at (switched_at c.cells «from» slot) x k).target ≡ false) (sym is)
       (subst (λ x. waits (stronger_walk g to stage) x ≡ false) (sym (graph.target «from» k)) (stronger-own stage k here.1)))
       (ways place k l)
 
-  stronger-none_out : (x k : ℕ) → Contains w.left x → (Contains (g.green ++ to ∷ []) x → ⊥) → is_counted_strong (turned_at c.cells «from» slot) (pointer_at (turned_at c.cells «from» slot) x k) ≡ true → ⊥
+  stronger-none_out : (x k : ℕ) → Contains w.left x → (Contains (g.green ++ to ∷ []) x → ⊥) → is_counted_strong (switched_at c.cells «from» slot) (pointer_at (switched_at c.cells «from» slot) x k) ≡ true → ⊥
   stronger-none_out x k m n st =
       ⊎_elim
       (λ e. n (subst (λ y. Contains (g.green ++ to ∷ []) y) (sym e.0) (Contains-append_left g.green (to ∷ []) «from» is-green)))
@@ -284,7 +284,7 @@ module _ {slots : ℕ} {c : Core} {w : Walk} {s : Sweep} {g : Greening} (h : IsQ
       (turn-which c.cells «from» slot h.sound.consistent.exact fits.live fits.within x k)
 
   -- what was green is held as before, since the pointer was weak
-  stronger-held_still : (stage : GreenStage) (x : ℕ) → Contains g.green x → IsHeldStrongly (turned_at c.cells «from» slot) (stronger_walk g to stage) x
+  stronger-held_still : (stage : GreenStage) (x : ℕ) → Contains g.green x → IsHeldStrongly (switched_at c.cells «from» slot) (stronger_walk g to stage) x
   stronger-held_still stage x m =
       let was = h.quiet.green x m in
       ⊎_elim
@@ -295,7 +295,7 @@ module _ {slots : ℕ} {c : Core} {w : Walk} {s : Sweep} {g : Greening} (h : IsQ
       (turn-which c.cells «from» slot h.sound.consistent.exact fits.live fits.within was.0 was.1)
 
   -- the target is held by the pointer
-  stronger-held_now : (stage : GreenStage) → IsHeldStrongly (turned_at c.cells «from» slot) (stronger_walk g to stage) to
+  stronger-held_now : (stage : GreenStage) → IsHeldStrongly (switched_at c.cells «from» slot) (stronger_walk g to stage) to
   stronger-held_now stage =
       let graph = turn-graph c.cells «from» slot h.sound.consistent.exact fits.live fits.within in (
         «from»,
@@ -305,12 +305,12 @@ module _ {slots : ℕ} {c : Core} {w : Walk} {s : Sweep} {g : Greening} (h : IsQ
           live = graph.live «from» ∙ fits.live;
           target = graph.target «from» slot ∙ fits.target;
           not_null = some;
-          strong = turn-turned c.cells «from» slot h.sound.consistent.exact fits.live fits.within ∙ ap not (fits.strength some);
+          strong = turn-switched c.cells «from» slot h.sound.consistent.exact fits.live fits.within ∙ ap not (fits.strength some);
         },
       )
 
   stronger-quiet : (stage : GreenStage) → (stage ≡ AtSeed → ⊥) → ((place k : ℕ) → WasWalked (stronger_walk g to stage) stage place k → (place < a.place) ⊎ ((place ≡ a.place) × ((k ≤ slot) ⊎ (slots ≤ k))))
-      → IsQuietSweep (turned_at c.cells «from» slot) slots w s (stronger_walk g to stage)
+      → IsQuietSweep (switched_at c.cells «from» slot) slots w s (stronger_walk g to stage)
   stronger-quiet stage apart ways =
       let q = h.quiet in
       let exact = h.sound.consistent.exact in
@@ -319,7 +319,7 @@ module _ {slots : ℕ} {c : Core} {w : Walk} {s : Sweep} {g : Greening} (h : IsQ
         zero = λ x m n. turn-zero c.cells «from» slot exact fits.live fits.within x (left-stored h x m) (λ e. n (subst (λ y. Contains (g.green ++ to ∷ []) y) (sym fits.target ∙ e) (Contains-push g.green to)))
             (q.zero x m (λ o. n (Contains-append_left g.green (to ∷ []) x o)));
         none_out = λ x k m n st. absurd (stronger-none_out x k m n st);
-        green = λ x m. ⊎_elim (λ o. stronger-held_still stage x o) (λ e. subst (λ y. IsHeldStrongly (turned_at c.cells «from» slot) (stronger_walk g to stage) y) e (stronger-held_now stage)) (Contains-push_cases g.green to x m);
+        green = λ x m. ⊎_elim (λ o. stronger-held_still stage x o) (λ e. subst (λ y. IsHeldStrongly (switched_at c.cells «from» slot) (stronger_walk g to stage) y) e (stronger-held_now stage)) (Contains-push_cases g.green to x m);
         seeds = λ x m. other-kept graph w.list x (q.seeds x m);
         copied = copied-kept graph g (g.green ++ to ∷ []) stage None slots q.copied;
         current = q.current;
@@ -332,13 +332,13 @@ module _ {slots : ℕ} {c : Core} {w : Walk} {s : Sweep} {g : Greening} (h : IsQ
       }
 
   -- the walk is behind the pointer
-  moved-quiet : IsQuietSweep (turned_at c.cells «from» slot) slots w s (moved (greened g to) a.place slot)
+  moved-quiet : IsQuietSweep (switched_at c.cells «from» slot) slots w s (moved (greened g to) a.place slot)
   moved-quiet = by (slot + 1 == g.slots) refl
     where
       same : g.slots ≡ slots
       same = h.greens.green_slots
 
-      by : (last : Bool) → (slot + 1 == g.slots) ≡ last → IsQuietSweep (turned_at c.cells «from» slot) slots w s (stronger_walk g to (if last then AtOut (a.place + 1) 0 else AtOut a.place (slot + 1)))
+      by : (last : Bool) → (slot + 1 == g.slots) ≡ last → IsQuietSweep (switched_at c.cells «from» slot) slots w s (stronger_walk g to (if last then AtOut (a.place + 1) 0 else AtOut a.place (slot + 1)))
       by true e = stronger-quiet (AtOut (a.place + 1) 0) (λ z. cc) (λ place k l.
           let last = eqb-true (slot + 1) g.slots e in
           let all = h.greens.green_slots in
@@ -355,9 +355,9 @@ pub quiet-strengthen : (slots : ℕ) (c d : Core) (w : Walk) (s : Sweep) (slot �
 quiet-strengthen slots c d w s slot «from» k to g e q =
     let asked = asked-green slot g (next_of_sweep s) (at.Strengthen «from» k to) tt (asks e.proceeds) in
     let a = at-strengthen g «from» k to asked.1.1 e.in_step.greens.greening asked.1.0 asked.1.2 asked.1.3 in
-    let cells : d.cells ≡ turned_at c.cells «from» k = ap (λ (x : Core). x.cells) e.after in
+    let cells : d.cells ≡ switched_at c.cells «from» k = ap (λ (x : Core). x.cells) e.after in
     let does : Strengthens c «from» to d.queue d.round = e.collects in (
       subst (λ cells. IsQuietSweep cells slots w s (found_by_green g (Made to))) (sym cells)
-          (subst (λ x. IsQuietSweep (turned_at c.cells «from» k) slots w s x) (sym a.found) (moved-quiet (quiet-green e q asked.0) «from» k to a e.fits.0 e.fits.1)),
+          (subst (λ x. IsQuietSweep (switched_at c.cells «from» k) slots w s x) (sym a.found) (moved-quiet (quiet-green e q asked.0) «from» k to a e.fits.0 e.fits.1)),
       queue-stays does.greens.queue_is,
     )

@@ -8,13 +8,13 @@ use Rattle.cell_model.specs.Cells.{Cell, cell_at, pointer_at, is_live}
 use Rattle.store_model.specs.Core.{Core, Round}
 use Rattle.store_model.specs.Sound.{in_round, IsSound}
 use Rattle.cell_model.proofs.RecordLaws.{slot-within}
-use Rattle.red_walk.specs.Ids.{has}
+use Rattle.ref_tables.specs.Queue.{has}
 use Rattle.red_walk.specs.Walk.{Walk}
 use Rattle.red_walk.proofs.Members.{Contains-has, has-Contains, absent}
 use Rattle.green_walk.specs.declared.copied_slots.CopiedSlot.{CopiedSlot}
 use Rattle.green_walk.specs.declared.green_at.Test.{Test}
 use Rattle.green_walk.specs.declared.sweep.SweepAt.TheVariants as sweep
-use Rattle.green_walk.specs.Sweeping.{Sweeping as Sweep, next as next_of_sweep}
+use Rattle.green_walk.specs.Sweeping.{SweepState as Sweep, next as next_of_sweep}
 use Rattle.green_walk.specs.Greening.{Greening, GreenStage, waits, first_with, behind_first}
 use Rattle.green_walk.proofs.GreenSteps.{waits-parts, id-within}
 use Rattle.green_walk.proofs.GreenAsked.{green-done}

@@ -16,7 +16,7 @@ use Rattle.green_walk.specs.declared.green_at.Test.{Test}
 use Rattle.green_walk.specs.declared.sweep.SweepAt.{SweepAt}
 use Rattle.green_walk.specs.declared.sweep.SweepAt.TheVariants as sweep
 use Rattle.green_walk.specs.declared.sweep.Found.TheVariants.{Nothing, Strong}
-use Rattle.green_walk.specs.Sweeping.{Sweeping as Sweep, next as next_of_sweep, found as found_in_sweep, found_at}
+use Rattle.green_walk.specs.Sweeping.{SweepState as Sweep, next as next_of_sweep, found as found_in_sweep, found_at}
 use Rattle.green_walk.specs.Greening.{GreenStage, AtSeed, AtInto, AtOut, Greening, IsGreening, IsPlace, IsTesting, IsAnswer, IsTestable, waits, settled, next, found, testing, tested}
 use Rattle.green_walk.specs.GreenLaws.{IsSameWalk, TestedGreeningLaw}
 use Rattle.green_walk.proofs.GreenAsked.{waits-live}
@@ -26,7 +26,7 @@ use Rattle.green_walk.proofs.GreenAnswers.{found-law, testing-law, tested-law}
 use Rattle.core_store.specs.Changes.{is_counted_strong, has_no_strong}
 use Rattle.core_store.specs.declared.round_at.RoundAt.{RoundAt}
 use Rattle.core_store.specs.declared.round_at.RoundAt.TheVariants as at
-use Rattle.core_store.specs.RoundView.{RoundView, Closed, Walking, Sweeping, round_of, asked, asked_by_walk, asked_by_green, asked_by_sweep, is_event, next_slot, passed, passed_by_green, passed_by_sweep, Passes, none, more, IsInStep}
+use Rattle.core_store.specs.RoundView.{RoundView, Closed, Walking, Sweeping, round_of, asked, asked_by_walk, asked_by_green, asked_by_sweep, is_event, next_slot, looked_past, passed_by_green, passed_by_sweep, Passes, none, more, IsInStep}
 use Rattle.quiet_rounds.specs.Quiet.{HasNoStrongIn, IsQuietWalk, IsToWeaken, IsQuietSweep, IsQuietRound}
 use Rattle.quiet_rounds.specs.Laws.{QuietLooksLaw}
 use Rattle.quiet_rounds.proofs.Settled.{quiet-settled, waits-out}
@@ -218,7 +218,7 @@ module _ (slots : ℕ) (cells : List Cell) where
 
   -- ---- one look after another
 
-  look-quiet : (v : RoundView) → is_event cells (asked v) ≡ false → IsQuietIn slots cells v → IsQuietIn slots cells (passed slots cells v)
+  look-quiet : (v : RoundView) → is_event cells (asked v) ≡ false → IsQuietIn slots cells v → IsQuietIn slots cells (looked_past slots cells v)
   look-quiet Closed idle k = tt
   look-quiet (Walking w) idle k = quiet-walk-look w (next_of_walk w) refl idle k
   look-quiet (Sweeping w s slot g) idle k = quiet-sweep-look w s slot g (next_of_sweep s) refl idle k

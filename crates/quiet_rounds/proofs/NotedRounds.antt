@@ -7,7 +7,7 @@ use Rattle.store_model.specs.Core.{Core}
 use Rattle.store_model.proofs.Lists.{Contains-here}
 use Rattle.red_walk.specs.Walk.{Walk, opened}
 use Rattle.green_walk.specs.declared.sweep.Found.TheVariants.{Nothing}
-use Rattle.green_walk.specs.Sweeping.{Sweeping as Sweep, found}
+use Rattle.green_walk.specs.Sweeping.{SweepState as Sweep, found}
 use Rattle.green_walk.specs.Greening.{Greening}
 use Rattle.log_record.specs.declared.cell_record.CellRecord.{CellRecord}
 use Rattle.core_store.specs.declared.act.Act.{Act}

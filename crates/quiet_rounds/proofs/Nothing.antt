@@ -6,7 +6,8 @@ use Rattle.store_model.proofs.Lists.{Contains-here}
 use Rattle.std.proofs.lemmas.List.{get_or_past}
 use Rattle.std.proofs.lemmas.List.Elements.{Contains-get_or}
 use Rattle.cell_model.specs.Cells.{Cell, Pointer, null, cell_at, pointer_at}
-use Rattle.red_walk.specs.Ids.{has, IsIdList}
+use Rattle.red_walk.specs.Ids.{IsIdList}
+use Rattle.ref_tables.specs.Queue.{has}
 use Rattle.red_walk.specs.Walk.{Walk}
 use Rattle.red_walk.proofs.Members.{Contains-has, has-Contains}
 use Rattle.green_walk.specs.declared.copied_slots.CopiedSlot.{CopiedSlot}
@@ -15,7 +16,7 @@ use Rattle.green_walk.specs.declared.green_at.GreenAt.TheVariants.{Seed, Into, O
 use Rattle.green_walk.specs.declared.green_at.Test.{Test}
 use Rattle.green_walk.specs.declared.sweep.SweepAt.TheVariants as sweep
 use Rattle.green_walk.specs.declared.sweep.Found.TheVariants.{Nothing}
-use Rattle.green_walk.specs.Sweeping.{Sweeping as Sweep, next as next_of_sweep}
+use Rattle.green_walk.specs.Sweeping.{SweepState as Sweep, next as next_of_sweep}
 use Rattle.green_walk.specs.Greening.{GreenStage, AtSeed, AtInto, AtOut, Greening, IsGreening, IsPlace, waits, may_lead_to, first_with, behind_first, first_seed, look_into, asked_at, settled, next, found_at_seed, found_in, found}
 use Rattle.green_walk.proofs.GreenSteps.{IsThere, there, settled-greening, settled-same, id-within}
 use Rattle.core_store.specs.Changes.{is_counted_strong}

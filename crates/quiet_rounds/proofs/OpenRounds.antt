@@ -10,7 +10,7 @@ use Rattle.red_walk.proofs.RoundLaws.{verdict-law}
 use Rattle.green_walk.specs.declared.sweep.SweepAt.{SweepAt}
 use Rattle.green_walk.specs.declared.sweep.SweepAt.TheVariants as sweep
 use Rattle.green_walk.specs.declared.sweep.Found.TheVariants.{Nothing}
-use Rattle.green_walk.specs.Sweeping.{Sweeping as Sweep, next as next_of_sweep, found}
+use Rattle.green_walk.specs.Sweeping.{SweepState as Sweep, next as next_of_sweep, found}
 use Rattle.green_walk.specs.Greening.{Greening}
 use Rattle.log_record.specs.declared.cell_record.CellRecord.{CellRecord}
 use Rattle.log_record.specs.declared.cell_record.CellRecord.TheVariants as logs
@@ -18,7 +18,7 @@ use Rattle.core_store.specs.declared.act.Act.{Act}
 use Rattle.core_store.specs.declared.act.Act.TheVariants as act
 use Rattle.core_store.specs.declared.note.Note.{Note}
 use Rattle.core_store.specs.Logged.{after_logged}
-use Rattle.core_store.specs.RoundView.{RoundView, Closed, Walking, Sweeping, is_closed, next_slot, passed, passed_by_sweep, Passes, none as no_look, more, Proceeds, skip, start, weaken, scan, judge, cut, free, flip, into, strengthen, end}
+use Rattle.core_store.specs.RoundView.{RoundView, Closed, Walking, Sweeping, is_closed, next_slot, looked_past, passed_by_sweep, Passes, none as no_look, more, Proceeds, skip, start, weaken, scan, judge, cut, free, flip, into, strengthen, end}
 use Rattle.quiet_rounds.specs.Laws.{IsQuietEvent}
 use Rattle.quiet_rounds.specs.WholeRounds.{IsStill, OpenRun, none, looks, event, IsWholeRound}
 use Rattle.quiet_rounds.specs.RoundNotes.{list_after, list_from}
@@ -71,7 +71,7 @@ next-alike slots w s slot g = by (slot + 1 == slots)
     by true = record { list = refl; copies = refl; still_open = refl }
     by false = record { list = refl; copies = refl; still_open = refl }
 
-look-alike : (slots : ℕ) (cells : List Cell) (v : RoundView) → IsAlike v (passed slots cells v)
+look-alike : (slots : ℕ) (cells : List Cell) (v : RoundView) → IsAlike v (looked_past slots cells v)
 look-alike slots cells Closed = alike Closed
 look-alike slots cells (Walking w) = moved-alike slots w
 look-alike slots cells (Sweeping w s slot g) = at (next_of_sweep s)

@@ -4,14 +4,14 @@ use Rattle.std.specs.Prelude.{Contains, ◌⊎◌, slice_index_or}
 use Rattle.std.proofs.lemmas.Bool.{ltb-true, ltb-false}
 use Rattle.cell_model.specs.Cells.{Cell, pointer_at}
 use Rattle.store_model.proofs.StepLaws.{Contains-cons}
-use Rattle.red_walk.specs.Ids.{has}
+use Rattle.ref_tables.specs.Queue.{has}
 use Rattle.red_walk.specs.Walk.{Walk}
 use Rattle.red_walk.proofs.Members.{has-Contains, absent}
 use Rattle.green_walk.specs.declared.copied_slots.CopiedSlot.{CopiedSlot}
 use Rattle.green_walk.specs.declared.green_at.Test.{Test}
 use Rattle.green_walk.specs.declared.sweep.SweepAt.{SweepAt}
 use Rattle.green_walk.specs.declared.sweep.SweepAt.TheVariants as sweep
-use Rattle.green_walk.specs.Sweeping.{Sweeping as Sweep, first_of, next as next_of_sweep, unemptied, unfreed}
+use Rattle.green_walk.specs.Sweeping.{SweepState as Sweep, first_of, next as next_of_sweep, unemptied, unfreed}
 use Rattle.green_walk.specs.Greening.{GreenStage, AtSeed, AtInto, AtOut, Greening, IsGreening, IsPlace, waits, may_lead_to, first_with, behind_first, walking, seed_done, settled_out, settled}
 use Rattle.green_walk.proofs.GreenHeads.{leads-named, passed-over, found-first, passed-behind}
 use Rattle.green_walk.proofs.GreenAsked.{Contains-drop}

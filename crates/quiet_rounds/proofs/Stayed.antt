@@ -8,9 +8,9 @@ use Rattle.red_walk.specs.Walk.{Walk}
 use Rattle.green_walk.specs.declared.sweep.SweepAt.{SweepAt}
 use Rattle.green_walk.specs.declared.sweep.SweepAt.TheVariants as sweep
 use Rattle.green_walk.specs.declared.sweep.Found.TheVariants.{Nothing}
-use Rattle.green_walk.specs.Sweeping.{Sweeping as Sweep, next as next_of_sweep, found, found_at, unfreed}
+use Rattle.green_walk.specs.Sweeping.{SweepState as Sweep, next as next_of_sweep, found, found_at, unfreed}
 use Rattle.green_walk.specs.Greening.{Greening}
-use Rattle.core_store.specs.RoundView.{RoundView, Closed, Walking, Sweeping, next_slot, passed, passed_by_sweep, Passes, none, more}
+use Rattle.core_store.specs.RoundView.{RoundView, Closed, Walking, Sweeping, next_slot, looked_past, passed_by_sweep, Passes, none, more}
 
 -- ---- an object that stays
 
@@ -87,7 +87,7 @@ stayed-next slots start cells w s slot id g at h = by (slot + 1 == slots) behind
     by true next here = next
     by false next here = here
 
-look-stays : (slots : ℕ) (start cells : List Cell) (u : RoundView) → HasStayed start cells u → HasStayed start cells (passed slots cells u)
+look-stays : (slots : ℕ) (start cells : List Cell) (u : RoundView) → HasStayed start cells u → HasStayed start cells (looked_past slots cells u)
 look-stays slots start cells Closed h = absurd h
 look-stays slots start cells (Walking w) h = h
 look-stays slots start cells (Sweeping w s slot g) h = at (next_of_sweep s) refl

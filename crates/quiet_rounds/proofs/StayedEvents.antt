@@ -18,7 +18,7 @@ use Rattle.red_walk.specs.Rounds.{round_of as walked}
 use Rattle.green_walk.specs.declared.sweep.SweepAt.{SweepAt}
 use Rattle.green_walk.specs.declared.sweep.SweepAt.TheVariants as sweep
 use Rattle.green_walk.specs.declared.sweep.Found.TheVariants.{Made}
-use Rattle.green_walk.specs.Sweeping.{Sweeping as Sweep, next as next_of_sweep, found, found_at, unfreed, started}
+use Rattle.green_walk.specs.Sweeping.{SweepState as Sweep, next as next_of_sweep, found, found_at, unfreed, started}
 use Rattle.green_walk.specs.Greening.{Greening, started as green_started}
 use Rattle.green_walk.specs.Judged.{Judged, Picks}
 use Rattle.green_walk.proofs.GreenAsked.{Contains-drop}
@@ -124,8 +124,8 @@ module _ (slots : ℕ) (first : List Cell) (c d : Core) (w : Walk) (j : Judged) 
 
 -- ---- events that change strengths alone
 
-turned-same : (cells : List Cell) (id slot x : ℕ) → IsSameAt cells (relinked cells id slot (other_strength (pointer_at cells id slot))) x
-turned-same cells id slot x = record { live = relinked-live cells id slot (other_strength (pointer_at cells id slot)) x; object = strength-objects cells id slot x }
+switched-same : (cells : List Cell) (id slot x : ℕ) → IsSameAt cells (relinked cells id slot (other_strength (pointer_at cells id slot))) x
+switched-same cells id slot x = record { live = relinked-live cells id slot (other_strength (pointer_at cells id slot)) x; object = strength-objects cells id slot x }
 
 flipped-same : (cells : List Cell) (id : ℕ) → IsExact cells → is_live cells id ≡ true → (x : ℕ) → IsSameAt cells (edit cells id (flipped id)) x
 flipped-same cells id e l x = record { live = flip-live cells id e l x; object = flip-objects cells id x }
@@ -187,7 +187,7 @@ by-event : (slots : ℕ) (first : List Cell) (c d : Core) (u v : RoundView) (eve
     → is_closed v ≡ false → HasStayed first (after_logged slots c.cells logged) v
 by-event slots first c d u v event logged (skip id) e q h o = absurd h
 by-event slots first c d u v event logged (start id) e q h o = absurd h
-by-event slots first c d u v event logged (weaken w id slot target joins at) e q h o = λ x. same-then (h x) (turned-same c.cells id slot x)
+by-event slots first c d u v event logged (weaken w id slot target joins at) e q h o = λ x. same-then (h x) (switched-same c.cells id slot x)
 by-event slots first c d u v event logged (scan w id copy at) e q h o = h
 by-event slots first c d u v event logged (judge w j at) e q h o = judged-stays slots first c d w j e q h
 by-event slots first c d u v event logged (cut w s slot id target strong g at) e q h o = cut-stays slots first c d w s slot id target strong g at e h
@@ -195,9 +195,9 @@ by-event slots first c d u v event logged (free w s slot id g at) e q h o = free
 by-event slots first c d u v event logged (flip w s slot id g at) e q h o =
     stayed-same first c.cells (edit c.cells id (flipped id)) w.list s.list (unfreed s) (flipped-same c.cells id e.sound.consistent.exact e.fits.0) h
 by-event slots first c d u v event logged (into w s slot «from» k to g at) e q h o =
-    stayed-same first c.cells (relinked c.cells «from» k (other_strength (pointer_at c.cells «from» k))) w.list s.list (unfreed s) (turned-same c.cells «from» k) h
+    stayed-same first c.cells (relinked c.cells «from» k (other_strength (pointer_at c.cells «from» k))) w.list s.list (unfreed s) (switched-same c.cells «from» k) h
 by-event slots first c d u v event logged (strengthen w s slot «from» k to g at) e q h o =
-    stayed-same first c.cells (relinked c.cells «from» k (other_strength (pointer_at c.cells «from» k))) w.list s.list (unfreed s) (turned-same c.cells «from» k) h
+    stayed-same first c.cells (relinked c.cells «from» k (other_strength (pointer_at c.cells «from» k))) w.list s.list (unfreed s) (switched-same c.cells «from» k) h
 by-event slots first c d u v event logged (end w s slot g at) e q h o = absurd (true≢false o)
 
 pub event-stays : (slots : ℕ) (first : List Cell) (c d : Core) (u v : RoundView) (event : Act) (logged : Option CellRecord) → IsQuietEvent slots c d u v event logged → IsQuietRound slots c.cells u → HasStayed first c.cells u → is_closed v ≡ false → HasStayed first d.cells v

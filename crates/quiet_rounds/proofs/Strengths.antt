@@ -86,59 +86,59 @@ module _ (cells : List Cell) (id : ℕ) (e : IsExact cells) (l : is_live cells i
 -- ---- one pointer gets the other strength
 
 -- the cells after it
-abbrev pub turned_at : List Cell → ℕ → ℕ → List Cell
-turned_at cells id slot = relinked cells id slot (other_strength (pointer_at cells id slot))
+abbrev pub switched_at : List Cell → ℕ → ℕ → List Cell
+switched_at cells id slot = relinked cells id slot (other_strength (pointer_at cells id slot))
 
 module _ (cells : List Cell) (id slot : ℕ) (e : IsExact cells) (l : is_live cells id ≡ true) (h : slot < length (cell_at cells id).pointers) where
   nonzero : id ≢ 0
   nonzero = live-there cells id e.none l
 
-  -- the pointer is the one that was turned, or another one, which is as it was
-  pub turn-which : (u k : ℕ) → ((u ≡ id) × (k ≡ slot)) ⊎ (pointer_at (turned_at cells id slot) u k ≡ pointer_at cells u k)
+  -- the pointer is the one that was switched, or another one, which is as it was
+  pub turn-which : (u k : ℕ) → ((u ≡ id) × (k ≡ slot)) ⊎ (pointer_at (switched_at cells id slot) u k ≡ pointer_at cells u k)
   turn-which u k = ⊎_elim (λ w. inl (w.0, w.1)) (λ w. inr w) (relinked-which cells id slot (other_strength (pointer_at cells id slot)) u k nonzero (live-within cells id l) h)
 
-  pub turn-here : pointer_at (turned_at cells id slot) id slot ≡ other_strength (pointer_at cells id slot)
+  pub turn-here : pointer_at (switched_at cells id slot) id slot ≡ other_strength (pointer_at cells id slot)
   turn-here = relinked-slot cells id slot (other_strength (pointer_at cells id slot)) nonzero (live-within cells id l) h
 
-  pub turn-graph : AreSameGraph cells (turned_at cells id slot)
+  pub turn-graph : AreSameGraph cells (switched_at cells id slot)
   turn-graph = record {
     live = relinked-live cells id slot (other_strength (pointer_at cells id slot));
     target = λ u k. ⊎_elim
-        (λ w. subst (λ x. (pointer_at (turned_at cells id slot) x k).target ≡ (pointer_at cells x k).target) (sym w.0)
-        (subst (λ y. (pointer_at (turned_at cells id slot) id y).target ≡ (pointer_at cells id y).target) (sym w.1) (ap (λ (p : Pointer). p.target) turn-here)))
+        (λ w. subst (λ x. (pointer_at (switched_at cells id slot) x k).target ≡ (pointer_at cells x k).target) (sym w.0)
+        (subst (λ y. (pointer_at (switched_at cells id slot) id y).target ≡ (pointer_at cells id y).target) (sym w.1) (ap (λ (p : Pointer). p.target) turn-here)))
         (λ w. ap (λ (p : Pointer). p.target) w)
         (turn-which u k);
   }
 
   -- what a pointer's strength is by its bit stays
-  pub turn-strength : (p : Pointer) → is_strong (turned_at cells id slot) p ≡ is_strong cells p
+  pub turn-strength : (p : Pointer) → is_strong (switched_at cells id slot) p ≡ is_strong cells p
   turn-strength p = ap (λ b. same b p.bit) (relinked-bit cells id slot (other_strength (pointer_at cells id slot)) p.target)
 
-  -- that of the turned one is the other
-  pub turn-turned : is_strong (turned_at cells id slot) (pointer_at (turned_at cells id slot) id slot) ≡ not (is_strong cells (pointer_at cells id slot))
-  turn-turned =
+  -- that of the switched one is the other
+  pub turn-switched : is_strong (switched_at cells id slot) (pointer_at (switched_at cells id slot) id slot) ≡ not (is_strong cells (pointer_at cells id slot))
+  turn-switched =
       let p = pointer_at cells id slot in
-      ap (λ q. is_strong (turned_at cells id slot) q) turn-here ∙ turn-strength (other_strength p) ∙ same-other (cell_at cells p.target).bit p.bit
+      ap (λ q. is_strong (switched_at cells id slot) q) turn-here ∙ turn-strength (other_strength p) ∙ same-other (cell_at cells p.target).bit p.bit
 
-  pub turn-apart : (u k : ℕ) → pointer_at (turned_at cells id slot) u k ≡ pointer_at cells u k → is_counted_strong (turned_at cells id slot) (pointer_at (turned_at cells id slot) u k) ≡ is_counted_strong cells (pointer_at cells u k)
+  pub turn-apart : (u k : ℕ) → pointer_at (switched_at cells id slot) u k ≡ pointer_at cells u k → is_counted_strong (switched_at cells id slot) (pointer_at (switched_at cells id slot) u k) ≡ is_counted_strong cells (pointer_at cells u k)
   turn-apart u k w =
       let p = pointer_at cells u k in
-      ap (λ q. is_counted_strong (turned_at cells id slot) q) w ∙ ap (λ b. not (p.target == 0) && b) (turn-strength p)
+      ap (λ q. is_counted_strong (switched_at cells id slot) q) w ∙ ap (λ b. not (p.target == 0) && b) (turn-strength p)
 
-  pub turn-held : (u k to : ℕ) → pointer_at (turned_at cells id slot) u k ≡ pointer_at cells u k → IsStrongAt cells u k to → IsStrongAt (turned_at cells id slot) u k to
+  pub turn-held : (u k to : ℕ) → pointer_at (switched_at cells id slot) u k ≡ pointer_at cells u k → IsStrongAt cells u k to → IsStrongAt (switched_at cells id slot) u k to
   turn-held u k to w s = record {
     live = relinked-live cells id slot (other_strength (pointer_at cells id slot)) u ∙ s.live;
     target = ap (λ (p : Pointer). p.target) w ∙ s.target;
     not_null = s.not_null;
-    strong = ap (λ q. is_strong (turned_at cells id slot) q) w ∙ turn-strength (pointer_at cells u k) ∙ s.strong;
+    strong = ap (λ q. is_strong (switched_at cells id slot) q) w ∙ turn-strength (pointer_at cells u k) ∙ s.strong;
   }
 
   -- only the target counts otherwise
-  pub turn-zero : (u : ℕ) → is_live cells u ≡ true → (pointer_at cells id slot).target ≢ u → (cell_at cells u).strong ≡ 0 → (cell_at (turned_at cells id slot) u).strong ≡ 0
+  pub turn-zero : (u : ℕ) → is_live cells u ≡ true → (pointer_at cells id slot).target ≢ u → (cell_at cells u).strong ≡ 0 → (cell_at (switched_at cells id slot) u).strong ≡ 0
   turn-zero u lu n z =
       let p = pointer_at cells id slot in
       let old = cell_at cells u in
-      let new = cell_at (turned_at cells id slot) u in
+      let new = cell_at (switched_at cells id slot) u in
       let bit : new.bit ≡ old.bit = relinked-bit cells id slot (other_strength p) u in
       let moved = relinked-counted cells id slot (other_strength p) u old.bit (live-there cells u e.none lu) (live-within cells u lu) in
       let less = no-hit old.bit p u n in

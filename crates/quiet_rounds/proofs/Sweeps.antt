@@ -17,7 +17,7 @@ use Rattle.red_walk.specs.Rounds.{round_of as of_walk}
 use Rattle.green_walk.specs.declared.sweep.SweepAt.{SweepAt}
 use Rattle.green_walk.specs.declared.sweep.SweepAt.TheVariants as sweep
 use Rattle.green_walk.specs.declared.sweep.Found.TheVariants.{Nothing, Made}
-use Rattle.green_walk.specs.Sweeping.{Sweeping as Sweep, next as next_of_sweep, found, found_at, unfreed}
+use Rattle.green_walk.specs.Sweeping.{SweepState as Sweep, next as next_of_sweep, found, found_at, unfreed}
 use Rattle.green_walk.specs.Greening.{Greening, GreenStage, AtSeed, IsGreening}
 use Rattle.green_walk.proofs.GreenAsked.{Contains-drop}
 use Rattle.green_walk.proofs.SweepLaws.{free-law}

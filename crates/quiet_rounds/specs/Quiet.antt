@@ -7,7 +7,7 @@ use Rattle.red_walk.specs.Walk.{Walk}
 use Rattle.green_walk.specs.declared.copied_slots.CopiedSlot.{CopiedSlot}
 use Rattle.cell_model.specs.Strong.{IsStrongAt}
 use Rattle.green_walk.specs.declared.sweep.SweepAt.TheVariants.{End as SweepEnd}
-use Rattle.green_walk.specs.Sweeping.{Sweeping as Sweep, next as next_of_sweep, unfreed}
+use Rattle.green_walk.specs.Sweeping.{SweepState as Sweep, next as next_of_sweep, unfreed}
 use Rattle.green_walk.specs.Greening.{Greening, GreenStage, AtSeed, AtInto, AtOut, waits}
 use Rattle.core_store.specs.Changes.{is_counted_strong}
 use Rattle.core_store.specs.RoundView.{RoundView, Closed, Walking, Sweeping}

@@ -7,7 +7,7 @@ use Rattle.store_model.specs.Core.{Core}
 use Rattle.store_model.specs.Sound.{IsSound}
 use Rattle.store_model.specs.RestLaws.{HasStrongIn}
 use Rattle.red_walk.specs.Walk.{Walk, opened}
-use Rattle.green_walk.specs.Sweeping.{Sweeping as Sweep}
+use Rattle.green_walk.specs.Sweeping.{SweepState as Sweep}
 use Rattle.green_walk.specs.Greening.{Greening}
 use Rattle.core_store.specs.declared.act.Act.{Act}
 use Rattle.core_store.specs.declared.act.Act.TheVariants as act

@@ -7,7 +7,7 @@ use Rattle.std.proofs.lemmas.Bool.Decides.{nat_tests}
 use Rattle.store_model.specs.Sound.{IsOnce}
 use Rattle.store_model.proofs.VerdictLaws.{AllDistinct, distinct_from}
 use Rattle.store_model.proofs.OnceLaws.{once_from}
-use Rattle.red_walk.specs.Ids.{has, without}
+use Rattle.ref_tables.specs.Queue.{has, without}
 use Rattle.red_walk.proofs.Members.{has-here, has-later, Contains-has, has-Contains}
 
 -- two tests that agree on the members

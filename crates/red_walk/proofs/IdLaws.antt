@@ -8,7 +8,8 @@ use Rattle.std.proofs.lemmas.Map.Keys.{IsDistinct-from_apart}
 use Rattle.std.proofs.lemmas.Map.Steps.{length-le_from_distinct_below}
 use Rattle.std.proofs.lemmas.Map.Views.{Contains-from_any}
 use Rattle.store_model.specs.Sound.{IsOnce}
-use Rattle.red_walk.specs.Ids.{has, IsIdList, IsKept}
+use Rattle.red_walk.specs.Ids.{IsIdList, IsIdListInside}
+use Rattle.ref_tables.specs.Queue.{has}
 use Rattle.red_walk.proofs.Members.{has-at, Contains-has, apart}
 
 -- ---- there are no more ids than the limit
@@ -44,10 +45,10 @@ most-of xs limit once within =
 
 -- ---- the ids and their places
 
-kept-once : (ids : List ℕ) (capacity : ℕ) (places : List ℕ) (limit : ℕ) → IsKept ids capacity places limit → IsOnce ids
+kept-once : (ids : List ℕ) (capacity : ℕ) (places : List ℕ) (limit : ℕ) → IsIdListInside ids capacity places limit → IsOnce ids
 kept-once ids capacity places limit k i j li lj e = sym (k.placed i li) ∙ ap (λ x. get_or places x 0) e ∙ k.placed j lj
 
-pub kept-list : (ids : List ℕ) (capacity : ℕ) (places : List ℕ) (limit : ℕ) → IsKept ids capacity places limit → IsIdList ids limit
+pub kept-list : (ids : List ℕ) (capacity : ℕ) (places : List ℕ) (limit : ℕ) → IsIdListInside ids capacity places limit → IsIdList ids limit
 kept-list ids capacity places limit k =
     let once = kept-once ids capacity places limit k in
     record { within = k.within; once = once; most = most-of ids limit once k.within }
@@ -61,7 +62,7 @@ at_push P xs x all here place l =
     place (let n = length_push xs x in omega (arith, l, n))
 
 -- an id joins at the end
-pub kept-push : (ids : List ℕ) (capacity more : ℕ) (places : List ℕ) (limit id n : ℕ) → n ≡ length ids → IsKept ids capacity places limit → 1 ≤ id → id ≤ limit → has ids id ≡ false → capacity ≤ more → IsKept (ids ++ id ∷ []) more (slice_set places id n) limit
+pub kept-push : (ids : List ℕ) (capacity more : ℕ) (places : List ℕ) (limit id n : ℕ) → n ≡ length ids → IsIdListInside ids capacity places limit → 1 ≤ id → id ≤ limit → has ids id ≡ false → capacity ≤ more → IsIdListInside (ids ++ id ∷ []) more (slice_set places id n) limit
 kept-push ids capacity more places limit id n last k above below new grows = record {
   within = at_push (λ place x. (1 ≤ x) × (x ≤ limit)) ids id k.within (above, below);
   placed = at_push (λ place x. get_or (slice_set places id n) x 0 ≡ place) ids id
@@ -73,7 +74,7 @@ kept-push ids capacity more places limit id n last k above below new grows = rec
 }
 
 -- there is room for an id that may join
-pub kept-room : (ids : List ℕ) (capacity : ℕ) (places : List ℕ) (limit id : ℕ) → IsKept ids capacity places limit → 1 ≤ id → id ≤ limit → has ids id ≡ false → length ids < limit
+pub kept-room : (ids : List ℕ) (capacity : ℕ) (places : List ℕ) (limit id : ℕ) → IsIdListInside ids capacity places limit → 1 ≤ id → id ≤ limit → has ids id ≡ false → length ids < limit
 kept-room ids capacity places limit id k above below new =
     let l = kept-list _ _ _ _ (kept-push ids capacity capacity places limit id (length ids) refl k above below new (omega arith)) in
     let n = length_push ids id in

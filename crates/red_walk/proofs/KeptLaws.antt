@@ -6,7 +6,7 @@ use Rattle.std.proofs.lemmas.List.Elements.{Contains-append_left, Contains-push,
 use Rattle.std.proofs.lemmas.Bool.Decides.{nat_tests}
 use Rattle.store_model.specs.Core.{Copy}
 use Rattle.store_model.proofs.OnceLaws.{once-push}
-use Rattle.red_walk.specs.Ids.{has}
+use Rattle.ref_tables.specs.Queue.{has}
 use Rattle.red_walk.specs.Walk.{Walk, IsWalk, is_open, joined, moved, touched_at}
 use Rattle.red_walk.specs.Rounds.{MovedWalkLaw, JoinedWalkLaw, CopiedWalkLaw, TouchedWalkLaw, RemovedWalkLaw}
 use Rattle.red_walk.proofs.Members.{has-Contains}

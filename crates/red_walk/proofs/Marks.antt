@@ -4,7 +4,7 @@ use Rattle.std.proofs.Math.Bool.{and-false}
 use Rattle.std.proofs.lemmas.Bool.{cases_eq}
 use Rattle.std.proofs.lemmas.List.{get_or-set_same, get_or-set_other, append-nil}
 use Rattle.std.proofs.lemmas.List.Elements.{filter-append}
-use Rattle.red_walk.specs.Ids.{has, without}
+use Rattle.ref_tables.specs.Queue.{has, without}
 use Rattle.red_walk.specs.Inside.{marked, unmarked}
 use Rattle.red_walk.proofs.Filters.{filter-same, filter-both, has-filter}
 

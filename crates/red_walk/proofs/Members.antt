@@ -5,7 +5,7 @@ use Rattle.std.proofs.lemmas.Bool.{cases_eq, false_from_ne_true}
 use Rattle.std.proofs.lemmas.Bool.Decides.{nat_tests}
 use Rattle.std.proofs.lemmas.List.{get_or_default}
 use Rattle.store_model.proofs.Lists.{Contains-here, Contains-later}
-use Rattle.red_walk.specs.Ids.{has}
+use Rattle.ref_tables.specs.Queue.{has}
 
 -- the first is among them
 pub has-here : (x : ℕ) (xs : List ℕ) → has (x ∷ xs) x ≡ true

@@ -7,7 +7,7 @@ use Rattle.std.proofs.lemmas.List.Elements.{Contains-append_left}
 use Rattle.cell_page.specs.Stored.{pointers_from}
 use Rattle.cell_model.specs.Cells.{Pointer}
 use Rattle.store_model.specs.Core.{Copy}
-use Rattle.red_walk.specs.Ids.{has}
+use Rattle.ref_tables.specs.Queue.{has}
 use Rattle.red_walk.specs.Walk.{Walk, IsWalk, is_open, touched_at}
 use Rattle.red_walk.specs.Rounds.{CopiedLaw, Touches, TouchedLaw, RemovedLaw, LookLaw, CopyLaw, VerdictLaw}
 use Rattle.red_walk.proofs.Members.{has-Contains}

@@ -5,7 +5,8 @@ use Rattle.std.proofs.lemmas.List.{get_or_default, drop_more, drop_all, length-d
 use Rattle.cell_page.specs.declared.cell.Seen.{Seen}
 use Rattle.store_model.specs.Core.{Copy}
 use Rattle.red_walk.specs.declared.red_at.RedAt.TheVariants.{Look, Copy as CopyOf, Verdict}
-use Rattle.red_walk.specs.Ids.{has, without, IsIdList}
+use Rattle.red_walk.specs.Ids.{IsIdList}
+use Rattle.ref_tables.specs.Queue.{has, without}
 use Rattle.red_walk.specs.Walk.{Walk, IsWalk, IsLook, first_of, next, joined, copied, touched_at, removed}
 use Rattle.red_walk.specs.Inside.{copy_of_seen, paired, marked, unmarked, walk_of, AreInStep}
 use Rattle.store_model.proofs.VerdictLaws.{distinct_from}

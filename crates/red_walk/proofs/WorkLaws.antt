@@ -1,7 +1,7 @@
 -- How much work a walk has left.
 use Rattle.std.proofs.Common.{◌≡◌, ℕ, ◌+◌, ◌-◌, ◌*◌, ◌<◌, Bool, true, false, ◌&&◌, ◌==◌, Some, None, refl, ap, ◌∙◌, arith}
 use Rattle.std.proofs.lemmas.List.{length_push}
-use Rattle.red_walk.specs.Ids.{has}
+use Rattle.ref_tables.specs.Queue.{has}
 use Rattle.red_walk.specs.Walk.{is_open, moved, touched_at, work_left}
 use Rattle.red_walk.specs.Rounds.{LookWorkLaw, CopyWorkLaw, JoinWorkLaw, TouchWorkLaw}
 use Rattle.red_walk.proofs.WalkLaws.{look-at, copy-place}

@@ -1,20 +1,11 @@
 -- Lists of ids, each at most once.
-use Rattle.std.specs.Prelude.{◌≡◌, ℕ, ◌+◌, ◌^◌, ◌≤◌, ◌<◌, Bool, not, ◌==◌, List, length, filter, slice_index}
-use Rattle.std.specs.List.{list_any}
+use Rattle.std.specs.Prelude.{◌≡◌, ℕ, ◌+◌, ◌^◌, ◌≤◌, ◌<◌, List, length, slice_index}
 use Rattle.store_model.specs.Sound.{IsOnce}
 
 -- the ids in the order in which they joined, and the greatest id that may join
 pub record Ids : Type 0 where
   pub ids : List ℕ
   pub limit : ℕ
-
--- whether the id is among them
-abbrev pub has : List ℕ → ℕ → Bool
-has ids id = list_any (λ member. member == id) ids
-
--- the others, in their order
-abbrev pub without : List ℕ → ℕ → List ℕ
-without ids id = filter (λ member. not (member == id)) ids
 
 -- each of the ids is from 1 to the limit, none stands there twice, and so there are no more of them than the limit
 pub record IsIdList (ids : List ℕ) (limit : ℕ) : Type 0 where
@@ -23,7 +14,7 @@ pub record IsIdList (ids : List ℕ) (limit : ℕ) : Type 0 where
   pub most : length ids ≤ limit
 
 -- the places are those of the ids, and there is room for all ids
-pub record IsKept (ids : List ℕ) (capacity : ℕ) (places : List ℕ) (limit : ℕ) : Type 0 where
+pub record IsIdListInside (ids : List ℕ) (capacity : ℕ) (places : List ℕ) (limit : ℕ) : Type 0 where
   pub within : (place : ℕ) → place < length ids → (1 ≤ slice_index ids place) × (slice_index ids place ≤ limit)
   pub placed : (place : ℕ) → place < length ids → slice_index places (slice_index ids place) ≡ place
   pub all : length places ≡ limit + 1

@@ -6,7 +6,7 @@ use Rattle.store_model.specs.Core.{Round, Copy}
 use Rattle.store_model.specs.Sound.{IsOnce}
 use Rattle.store_model.specs.Steps.{opened_round, with_listed, with_copy, IsTouched, IsQuiet, IsWithout}
 use Rattle.red_walk.specs.declared.red_at.RedAt.TheVariants.{Look, Copy as CopyOf, Verdict}
-use Rattle.red_walk.specs.Ids.{has}
+use Rattle.ref_tables.specs.Queue.{has}
 use Rattle.red_walk.specs.Walk.{Walk, IsWalk, IsLook, next, opened, joined_by, moved, copied, touched_at, removed, work_left}
 use Rattle.red_walk.specs.Inside.{copy_of_seen}
 

@@ -4,7 +4,8 @@ use Rattle.cell_page.specs.Format.{IsSlotCount}
 use Rattle.store_model.specs.Core.{Copy}
 use Rattle.red_walk.specs.declared.red_at.RedAt.{RedAt}
 use Rattle.red_walk.specs.declared.red_at.RedAt.TheVariants.{Look, Copy as CopyOf, Verdict}
-use Rattle.red_walk.specs.Ids.{has, without, IsIdList}
+use Rattle.red_walk.specs.Ids.{IsIdList}
+use Rattle.ref_tables.specs.Queue.{has, without}
 
 -- a round, as far as its walk has come
 pub record Walk : Type 0 where

@@ -1,6 +1,7 @@
 //! A list of ids, each at most once.
 ghost use Rattle.std.specs.Prelude.{◌≡◌, ℕ, ◌<◌, ◌≤◌, ◌^◌, [], ◌∷◌, ◌++◌, length, slice_index, vec_len, vec_capacity, true, false, IfOk, IfSome, Some};
-ghost use Rattle.red_walk.specs.Ids.{has, IsIdList};
+ghost use Rattle.red_walk.specs.Ids.{IsIdList};
+ghost use Rattle.ref_tables.specs.Queue.{has};
 
 use crate::Memory;
 use std::alloc::Global;
@@ -20,13 +21,13 @@ pub struct IdList {
 
 impl Model for IdList {
     ghost use Rattle.std.specs.Prelude.{vec_capacity};
-    ghost use Rattle.red_walk.specs.Ids.{Ids, IsKept};
+    ghost use Rattle.red_walk.specs.Ids.{Ids, IsIdListInside};
 
     ghost Value = { Ids };
 
     ghost view = { λ a. record { ids = a.order.items; limit = a.limit } };
 
-    ghost invariant = { λ a. IsKept a.order.items (vec_capacity a.order) a.places.items a.limit };
+    ghost invariant = { λ a. IsIdListInside a.order.items (vec_capacity a.order) a.places.items a.limit };
 }
 
 /// Appends the id, for which there is room.

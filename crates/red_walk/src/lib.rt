@@ -22,6 +22,3 @@ pub use red_at::RedAt;
 
 /// Out of memory: the library's own error for an allocation that was refused.
 pub type Memory = std::alloc::AllocError;
-
-#[cfg(test)]
-mod tests;

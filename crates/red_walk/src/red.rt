@@ -2,7 +2,7 @@
 ghost use Rattle.std.specs.Prelude.{◌≡◌, ℕ, ◌+◌, ◌<◌, ◌≤◌, [], ◌∷◌, ◌++◌, length, filter, slice_index, slice_index_or, vec_len, vec_capacity, true, false, IfOk, IfSome, Some};
 ghost use Rattle.cell_page.specs.Format.{IsSlotCount};
 ghost use Rattle.store_model.specs.Core.{Copy};
-ghost use Rattle.red_walk.specs.Ids.{has};
+ghost use Rattle.ref_tables.specs.Queue.{has};
 ghost use Rattle.red_walk.specs.Walk.{IsWalk, IsLook, next, closed, opened, joined, joined_by, moved, copied, touched_at, removed, work_left};
 ghost use Rattle.red_walk.specs.Inside.{copy_of_seen};
 

@@ -11,10 +11,10 @@ use Rattle.std.proofs.lemmas.List.Folds.{list_any-append, sum_by-replicate}
 use Rattle.std.proofs.lemmas.List.{get_or-set_same, get_or-set_other, length_push, length-set, length-replicate}
 use Rattle.indexmap.specs.IndexMap.{IndexMap}
 use Rattle.ref_tables.specs.declared.ring.Link.{Link}
-use Rattle.ref_tables.specs.Queue.{has, without, bit, IsQueue, IsKept, AreWithin}
+use Rattle.ref_tables.specs.Queue.{has, without, bit, IsQueue, IsQueueInside, AreWithin}
 use Rattle.ref_tables.specs.Ring.{next_of, previous_of, is_linked, IsLinked, along}
 use Rattle.ref_tables.proofs.MemberLaws.{has-flip, has-without, IsQueue-without, length-without, first-once, without-first}
-use Rattle.ref_tables.proofs.RingLaws.{along-ids, previous-within, next-within, Leads-append, Leads-without}
+use Rattle.ref_tables.proofs.RingLaws.{along-ids, previous-within, next-within, IsChain-append, IsChain-without}
 
 -- a mark that is set is in range
 pub set-within : (marks : List Bool) (id : ℕ) → get_or marks id false ≡ true → id < length marks
@@ -42,20 +42,20 @@ get-set marks id x mark within =
     (cases_eq x id)
 
 -- the links lead along the ids
-pub IsKept-along : {S : Type 0} (ids : List ℕ) (count : ℕ) (links : IndexMap ℕ Link S) (marks : List Bool) (limit : ℕ) → IsKept ids count links marks limit → along (next_of links) count 0 ≡ ids
-IsKept-along ids count links marks limit k = rw k.number (along-ids (next_of links) (previous_of links) 0 ids 0 k.ring)
+pub IsQueueInside-along : {S : Type 0} (ids : List ℕ) (count : ℕ) (links : IndexMap ℕ Link S) (marks : List Bool) (limit : ℕ) → IsQueueInside ids count links marks limit → along (next_of links) count 0 ≡ ids
+IsQueueInside-along ids count links marks limit k = rw k.number (along-ids (next_of links) (previous_of links) 0 ids 0 k.ring)
 
 -- so what is kept of the ids is kept of those that the links lead along
-pub IsKept-seen : {S : Type 0} (ids : List ℕ) (count : ℕ) (links : IndexMap ℕ Link S) (marks : List Bool) (limit : ℕ) → IsKept ids count links marks limit → IsKept (along (next_of links) count 0) count links marks limit
-IsKept-seen ids count links marks limit k = subst (λ xs. IsKept xs count links marks limit) (sym (IsKept-along ids count links marks limit k)) k
+pub IsQueueInside-seen : {S : Type 0} (ids : List ℕ) (count : ℕ) (links : IndexMap ℕ Link S) (marks : List Bool) (limit : ℕ) → IsQueueInside ids count links marks limit → IsQueueInside (along (next_of links) count 0) count links marks limit
+IsQueueInside-seen ids count links marks limit k = subst (λ xs. IsQueueInside xs count links marks limit) (sym (IsQueueInside-along ids count links marks limit k)) k
 
 -- the queue is no longer than its limit
-pub IsKept-length : {S : Type 0} (ids : List ℕ) (count : ℕ) (links : IndexMap ℕ Link S) (marks : List Bool) (limit : ℕ) → IsKept ids count links marks limit → length ids ≤ limit
-IsKept-length ids count links marks limit k = let lt = bits-lt marks 0 (omega (arith, k.all)) k.nothing in omega (arith, lt, k.counted, k.all)
+pub IsQueueInside-length : {S : Type 0} (ids : List ℕ) (count : ℕ) (links : IndexMap ℕ Link S) (marks : List Bool) (limit : ℕ) → IsQueueInside ids count links marks limit → length ids ≤ limit
+IsQueueInside-length ids count links marks limit k = let lt = bits-lt marks 0 (omega (arith, k.all)) k.nothing in omega (arith, lt, k.counted, k.all)
 
 -- and where an id may join, it is shorter
-pub IsKept-room : {S : Type 0} (ids : List ℕ) (count : ℕ) (links : IndexMap ℕ Link S) (marks : List Bool) (limit : ℕ) (id : ℕ) → IsKept ids count links marks limit → 1 ≤ id → id ≤ limit → get_or marks id false ≡ false → count < limit
-IsKept-room ids count links marks limit id k positive le unset =
+pub IsQueueInside-room : {S : Type 0} (ids : List ℕ) (count : ℕ) (links : IndexMap ℕ Link S) (marks : List Bool) (limit : ℕ) (id : ℕ) → IsQueueInside ids count links marks limit → 1 ≤ id → id ≤ limit → get_or marks id false ≡ false → count < limit
+IsQueueInside-room ids count links marks limit id k positive le unset =
     let within : id < length marks = omega (arith, k.all, le) in
     let s = sum_by-set bit marks id true false within in
     let nothing : get_or (slice_set marks id true) 0 false ≡ false = get-set marks id 0 true within ∙ grind (arith, nat_tests, k.nothing) in
@@ -63,8 +63,8 @@ IsKept-room ids count links marks limit id k positive le unset =
     grind (arith, s, lt, unset, k.counted, k.all, k.number, length-set marks id true)
 
 -- each id of the queue is within the limits
-pub IsKept-within : {S : Type 0} (ids : List ℕ) (count : ℕ) (links : IndexMap ℕ Link S) (marks : List Bool) (limit : ℕ) → IsKept ids count links marks limit → AreWithin ids limit
-IsKept-within ids count links marks limit k id there =
+pub IsQueueInside-within : {S : Type 0} (ids : List ℕ) (count : ℕ) (links : IndexMap ℕ Link S) (marks : List Bool) (limit : ℕ) → IsQueueInside ids count links marks limit → AreWithin ids limit
+IsQueueInside-within ids count links marks limit k id there =
     let set : get_or marks id false ≡ true = sym (k.marked id) ∙ there in
     let within = set-within marks id set in
     let positive : 1 ≤ id = ⊎_elim
@@ -74,29 +74,29 @@ IsKept-within ids count links marks limit k id there =
     (positive, omega (arith, within, k.all))
 
 -- 0 and each id of the queue have a link
-member-linked : {S : Type 0} (ids : List ℕ) (count : ℕ) (links : IndexMap ℕ Link S) (marks : List Bool) (limit : ℕ) (id : ℕ) → IsKept ids count links marks limit → has (0 ∷ ids) id ≡ true → IsLinked links id
+member-linked : {S : Type 0} (ids : List ℕ) (count : ℕ) (links : IndexMap ℕ Link S) (marks : List Bool) (limit : ℕ) (id : ℕ) → IsQueueInside ids count links marks limit → has (0 ∷ ids) id ≡ true → IsLinked links id
 member-linked ids count links marks limit id k there =
     k.linked id
     (⊎_elim
     (λ (none : 0 ≡ id). omega (arith, none))
-    (λ (some : 0 ≢ id). (IsKept-within ids count links marks limit k id (grind (arith, nat_tests, there))).1)
+    (λ (some : 0 ≢ id). (IsQueueInside-within ids count links marks limit k id (grind (arith, nat_tests, there))).1)
     (cases_eq 0 id))
 
 -- and so have their neighbours
-pub IsKept-previous : {S : Type 0} (ids : List ℕ) (count : ℕ) (links : IndexMap ℕ Link S) (marks : List Bool) (limit : ℕ) (id : ℕ) → IsKept ids count links marks limit → has (0 ∷ ids) id ≡ true → IsLinked links (previous_of links id)
-IsKept-previous ids count links marks limit id k there = member-linked ids count links marks limit (previous_of links id) k (previous-within (next_of links) (previous_of links) 0 ids 0 id k.ring there)
+pub IsQueueInside-previous : {S : Type 0} (ids : List ℕ) (count : ℕ) (links : IndexMap ℕ Link S) (marks : List Bool) (limit : ℕ) (id : ℕ) → IsQueueInside ids count links marks limit → has (0 ∷ ids) id ≡ true → IsLinked links (previous_of links id)
+IsQueueInside-previous ids count links marks limit id k there = member-linked ids count links marks limit (previous_of links id) k (previous-within (next_of links) (previous_of links) 0 ids 0 id k.ring there)
 
-pub IsKept-next : {S : Type 0} (ids : List ℕ) (count : ℕ) (links : IndexMap ℕ Link S) (marks : List Bool) (limit : ℕ) (id : ℕ) → IsKept ids count links marks limit → has (0 ∷ ids) id ≡ true → IsLinked links (next_of links id)
-IsKept-next ids count links marks limit id k there = member-linked ids count links marks limit (next_of links id) k (next-within (next_of links) (previous_of links) 0 ids 0 id k.ring there)
+pub IsQueueInside-next : {S : Type 0} (ids : List ℕ) (count : ℕ) (links : IndexMap ℕ Link S) (marks : List Bool) (limit : ℕ) (id : ℕ) → IsQueueInside ids count links marks limit → has (0 ∷ ids) id ≡ true → IsLinked links (next_of links id)
+IsQueueInside-next ids count links marks limit id k there = member-linked ids count links marks limit (next_of links id) k (next-within (next_of links) (previous_of links) 0 ids 0 id k.ring there)
 
 IsQueue-none : IsQueue []
 unfolding IsDistinct
 IsQueue-none = tt
 
 -- a new queue is empty, with no mark set
-pub IsKept-new : {S : Type 0} (links : IndexMap ℕ Link S) (limit : ℕ) → limit < 2 ^ 32 → ((id : ℕ) → id ≤ limit → IsLinked links id) → next_of links 0 ≡ 0 → previous_of links 0 ≡ 0
-    → IsKept [] 0 links (replicate (limit + 1) false) limit
-IsKept-new links limit small linked next previous = record {
+pub IsQueueInside-new : {S : Type 0} (links : IndexMap ℕ Link S) (limit : ℕ) → limit < 2 ^ 32 → ((id : ℕ) → id ≤ limit → IsLinked links id) → next_of links 0 ≡ 0 → previous_of links 0 ≡ 0
+    → IsQueueInside [] 0 links (replicate (limit + 1) false) limit
+IsQueueInside-new links limit small linked next previous = record {
   distinct = IsQueue-none;
   marked = λ id. sym (unset id);
   counted = grind (arith, sum_by-replicate bit (limit + 1) false);
@@ -112,13 +112,13 @@ IsKept-new links limit small linked next previous = record {
     unset id = grind (arith, common_steps)
 
 -- an id joins
-pub IsKept-push : {S : Type 0} (ids : List ℕ) (count : ℕ) (links : IndexMap ℕ Link S) (marks : List Bool) (limit : ℕ) (id : ℕ) (changed : IndexMap ℕ Link S)
-    → IsKept ids count links marks limit → 1 ≤ id → id ≤ limit → get_or marks id false ≡ false
+pub IsQueueInside-push : {S : Type 0} (ids : List ℕ) (count : ℕ) (links : IndexMap ℕ Link S) (marks : List Bool) (limit : ℕ) (id : ℕ) (changed : IndexMap ℕ Link S)
+    → IsQueueInside ids count links marks limit → 1 ≤ id → id ≤ limit → get_or marks id false ≡ false
     → ((at : ℕ) → is_linked changed at ≡ is_linked links at)
     → ((at : ℕ) → next_of changed at ≡ (if at == id then 0 else if at == previous_of links 0 then id else next_of links at))
     → ((at : ℕ) → previous_of changed at ≡ (if at == 0 then id else if at == id then previous_of links 0 else previous_of links at))
-    → IsKept (ids ++ id ∷ []) (count + 1) changed (slice_set marks id true) limit
-IsKept-push ids count links marks limit id changed k positive le unset same_linked new_next new_previous =
+    → IsQueueInside (ids ++ id ∷ []) (count + 1) changed (slice_set marks id true) limit
+IsQueueInside-push ids count links marks limit id changed k positive le unset same_linked new_next new_previous =
     let within : id < length marks = omega (arith, k.all, le) in
     let absent : has ids id ≡ false = k.marked id ∙ unset in
     let no_zero : has ids 0 ≡ false = k.marked 0 ∙ k.nothing in
@@ -129,20 +129,20 @@ IsKept-push ids count links marks limit id changed k positive le unset same_link
       counted = let s = sum_by-set bit marks id true false within in grind (arith, k.counted, unset, length_push ids id, s);
       nothing = get-set marks id 0 true within ∙ grind (arith, nat_tests, k.nothing);
       all = length-set marks id true ∙ k.all;
-      ring = Leads-append (next_of links) (previous_of links) (next_of changed) (previous_of changed) 0 ids 0 id k.ring k.distinct no_zero no_zero (grind (arith, nat_tests, absent, apart)) apart new_next new_previous;
+      ring = IsChain-append (next_of links) (previous_of links) (next_of changed) (previous_of changed) 0 ids 0 id k.ring k.distinct no_zero no_zero (grind (arith, nat_tests, absent, apart)) apart new_next new_previous;
       number = omega (arith, k.number, length_push ids id);
       linked = λ at le. same_linked at ∙ k.linked at le;
       small = k.small;
     }
 
 -- an id leaves, in the same way
-pub IsKept-drop : {S : Type 0} (ids : List ℕ) (count : ℕ) (links : IndexMap ℕ Link S) (marks : List Bool) (limit : ℕ) (id : ℕ) (changed : IndexMap ℕ Link S)
-    → IsKept ids count links marks limit → has ids id ≡ true
+pub IsQueueInside-drop : {S : Type 0} (ids : List ℕ) (count : ℕ) (links : IndexMap ℕ Link S) (marks : List Bool) (limit : ℕ) (id : ℕ) (changed : IndexMap ℕ Link S)
+    → IsQueueInside ids count links marks limit → has ids id ≡ true
     → ((at : ℕ) → is_linked changed at ≡ is_linked links at)
     → ((at : ℕ) → next_of changed at ≡ (if at == previous_of links id then next_of links id else next_of links at))
     → ((at : ℕ) → previous_of changed at ≡ (if at == next_of links id then previous_of links id else previous_of links at))
-    → IsKept (without ids id) (count - 1) changed (slice_set marks id false) limit
-IsKept-drop ids count links marks limit id changed k there same_linked new_next new_previous =
+    → IsQueueInside (without ids id) (count - 1) changed (slice_set marks id false) limit
+IsQueueInside-drop ids count links marks limit id changed k there same_linked new_next new_previous =
     let set : get_or marks id false ≡ true = sym (k.marked id) ∙ there in
     let within = set-within marks id set in
     let no_zero : has ids 0 ≡ false = k.marked 0 ∙ k.nothing in
@@ -153,20 +153,20 @@ IsKept-drop ids count links marks limit id changed k there same_linked new_next 
       counted = let s = sum_by-set bit marks id false false within in grind (arith, k.counted, set, s, fewer);
       nothing = get-set marks id 0 false within ∙ grind (arith, nat_tests, k.nothing);
       all = length-set marks id false ∙ k.all;
-      ring = Leads-without (next_of links) (previous_of links) (next_of changed) (previous_of changed) 0 ids 0 id k.ring k.distinct no_zero no_zero there new_next new_previous;
+      ring = IsChain-without (next_of links) (previous_of links) (next_of changed) (previous_of changed) 0 ids 0 id k.ring k.distinct no_zero no_zero there new_next new_previous;
       number = omega (arith, k.number, fewer);
       linked = λ at le. same_linked at ∙ k.linked at le;
       small = k.small;
     }
 
 -- behind 0 stands the first
-pub IsKept-first : {S : Type 0} (ids : List ℕ) (count : ℕ) (links : IndexMap ℕ Link S) (marks : List Bool) (limit : ℕ) → IsKept ids count links marks limit → next_of links 0 ≢ 0 → ids ≡ next_of links 0 ∷ without ids (next_of links 0)
-IsKept-first [] count links marks limit k some = absurd (some k.ring.0)
-IsKept-first (x ∷ xs) count links marks limit k some = subst (λ y. x ∷ xs ≡ y ∷ without (x ∷ xs) y) (sym k.ring.0) (ap (λ ys. x ∷ ys) (sym (without-first x xs (first-once x xs k.distinct))))
+pub IsQueueInside-first : {S : Type 0} (ids : List ℕ) (count : ℕ) (links : IndexMap ℕ Link S) (marks : List Bool) (limit : ℕ) → IsQueueInside ids count links marks limit → next_of links 0 ≢ 0 → ids ≡ next_of links 0 ∷ without ids (next_of links 0)
+IsQueueInside-first [] count links marks limit k some = absurd (some k.ring.0)
+IsQueueInside-first (x ∷ xs) count links marks limit k some = subst (λ y. x ∷ xs ≡ y ∷ without (x ∷ xs) y) (sym k.ring.0) (ap (λ ys. x ∷ ys) (sym (without-first x xs (first-once x xs k.distinct))))
 
 -- or 0 itself, where there is none
-pub IsKept-none : {S : Type 0} (ids : List ℕ) (count : ℕ) (links : IndexMap ℕ Link S) (marks : List Bool) (limit : ℕ) → IsKept ids count links marks limit → next_of links 0 ≡ 0 → ids ≡ []
-IsKept-none [] count links marks limit k none = refl
-IsKept-none (x ∷ xs) count links marks limit k none =
+pub IsQueueInside-none : {S : Type 0} (ids : List ℕ) (count : ℕ) (links : IndexMap ℕ Link S) (marks : List Bool) (limit : ℕ) → IsQueueInside ids count links marks limit → next_of links 0 ≡ 0 → ids ≡ []
+IsQueueInside-none [] count links marks limit k none = refl
+IsQueueInside-none (x ∷ xs) count links marks limit k none =
     let m = k.marked 0 in
     absurd (true≢false (sym (grind (arith, nat_tests, sym k.ring.0 ∙ none)) ∙ m ∙ k.nothing))

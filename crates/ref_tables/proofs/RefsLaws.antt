@@ -15,7 +15,7 @@ use Rattle.indexmap.specs.IndexMap.{IndexMap, spare}
 use Rattle.ref_tables.specs.declared.kind.TempRef.{TempRef}
 use Rattle.ref_tables.specs.Lists.{Lists, list_of, HasRoom, KeepsRoom, AreSame, AddsEntry, EndsClient}
 use Rattle.ref_tables.specs.Counts.{count_of, count_in}
-use Rattle.ref_tables.specs.Refs.{entries_of, Names, seen, sum_below, IsSound}
+use Rattle.ref_tables.specs.Refs.{entries_of, Names, seen, sum_below, AreRefsInside}
 
 -- ---- what contracts see
 
@@ -115,7 +115,7 @@ short-option : (o : Option (Vec TempRef)) → length (option_map_or (λ list. li
 short-option None = omega arith
 short-option (Some list) = omega (arith, list.small, list.ok)
 
-pub count-small : {S : Type 0} (lists : Lists) (counts : IndexMap ℕ ℕ S) (room_for room target : ℕ) → IsSound lists counts room_for room → count_of counts target + 1 < 2 ^ 128
+pub count-small : {S : Type 0} (lists : Lists) (counts : IndexMap ℕ ℕ S) (room_for room target : ℕ) → AreRefsInside lists counts room_for room → count_of counts target + 1 < 2 ^ 128
 count-small lists counts room_for room target sound =
     let short : (p : ℕ) → count_in target (list_of lists p) ≤ 2 ^ 64 = λ p. let s = short-option (lookup (is_at (nat_cmp p)) lists) in let c = count_by-le-length (λ entry. entry.target == target) (list_of lists p) in omega (arith, s, c) in
     let all = sum_below-le 256 (2 ^ 64) (λ p. count_in target (list_of lists p)) short in
@@ -124,8 +124,8 @@ count-small lists counts room_for room target sound =
 -- ---- what the calls keep
 
 -- a new table has nothing
-pub IsSound-new : {S : Type 0} (lists : Lists) (counts : IndexMap ℕ ℕ S) → lists ≡ [] → counts.entries ≡ [] → IsSound lists counts 0 0
-IsSound-new lists counts no_lists no_counts = record {
+pub AreRefsInside-new : {S : Type 0} (lists : Lists) (counts : IndexMap ℕ ℕ S) → lists ≡ [] → counts.entries ≡ [] → AreRefsInside lists counts 0 0
+AreRefsInside-new lists counts no_lists no_counts = record {
   counted = λ t. ap (λ entries. unwrap_or (lookup (nat_eq t) entries) 0) no_counts ∙ sym (sum_below-zero 256 (λ p. count_in t (list_of lists p)) (λ p. ap (λ ls. count_in t (list_of ls p)) no_lists));
   clients = λ p beyond. ap (λ ls. list_of ls p) no_lists;
   room_of_list = λ some. absurd (omega (arith, some));
@@ -133,8 +133,8 @@ IsSound-new lists counts no_lists no_counts = record {
 }
 
 -- the entries and their counts stay, and so does room
-pub IsSound-same : {S : Type 0} (old new : Lists) (counts kept : IndexMap ℕ ℕ S) (room_for room : ℕ) → AreSame old new → KeepsRoom old new → ((t : ℕ) → count_of kept t ≡ count_of counts t) → room ≤ spare kept → IsSound old counts room_for room → IsSound new kept room_for room
-IsSound-same old new counts kept room_for room same keeps counted left sound = record {
+pub AreRefsInside-same : {S : Type 0} (old new : Lists) (counts kept : IndexMap ℕ ℕ S) (room_for room : ℕ) → AreSame old new → KeepsRoom old new → ((t : ℕ) → count_of kept t ≡ count_of counts t) → room ≤ spare kept → AreRefsInside old counts room_for room → AreRefsInside new kept room_for room
+AreRefsInside-same old new counts kept room_for room same keeps counted left sound = record {
   counted = λ t. counted t ∙ sound.counted t ∙ sym (sum_below-same 256 (λ p. count_in t (list_of old p)) (λ p. count_in t (list_of new p)) (λ p. ap (count_in t) (same p)));
   clients = λ p beyond. same p ∙ sound.clients p beyond;
   room_of_list = λ some. keeps room_for room (sound.room_of_list some);
@@ -142,8 +142,8 @@ IsSound-same old new counts kept room_for room same keeps counted left sound = r
 }
 
 -- with room for another client
-pub IsSound-room : {S : Type 0} (lists : Lists) (counts : IndexMap ℕ ℕ S) (room_for room pass more : ℕ) → HasRoom lists pass more → more ≤ spare counts → IsSound lists counts room_for room → IsSound lists counts pass more
-IsSound-room lists counts room_for room pass more has left sound = record {
+pub AreRefsInside-room : {S : Type 0} (lists : Lists) (counts : IndexMap ℕ ℕ S) (room_for room pass more : ℕ) → HasRoom lists pass more → more ≤ spare counts → AreRefsInside lists counts room_for room → AreRefsInside lists counts pass more
+AreRefsInside-room lists counts room_for room pass more has left sound = record {
   counted = sound.counted;
   clients = sound.clients;
   room_of_list = λ some. has;
@@ -151,8 +151,8 @@ IsSound-room lists counts room_for room pass more has left sound = record {
 }
 
 -- one entry more
-pub IsSound-add : {S : Type 0} (old new : Lists) (counts added : IndexMap ℕ ℕ S) (room_for room left pass : ℕ) (entry : TempRef) → pass < 256 → AddsEntry old new pass entry → ((p n : ℕ) → HasRoom old p (n + 1) → HasRoom new p n) → ((t : ℕ) → count_of added t ≡ count_of counts t + cond (t == entry.target) 1 0) → spare counts ≤ spare added + 1 → left ≡ room - 1 → IsSound old counts room_for room → IsSound new added room_for left
-IsSound-add old new counts added room_for room left pass entry within adds uses counted spares less sound =
+pub AreRefsInside-add : {S : Type 0} (old new : Lists) (counts added : IndexMap ℕ ℕ S) (room_for room left pass : ℕ) (entry : TempRef) → pass < 256 → AddsEntry old new pass entry → ((p n : ℕ) → HasRoom old p (n + 1) → HasRoom new p n) → ((t : ℕ) → count_of added t ≡ count_of counts t + cond (t == entry.target) 1 0) → spare counts ≤ spare added + 1 → left ≡ room - 1 → AreRefsInside old counts room_for room → AreRefsInside new added room_for left
+AreRefsInside-add old new counts added room_for room left pass entry within adds uses counted spares less sound =
     let apart : (p : ℕ) → p ≢ pass → list_of new p ≡ list_of old p = λ p other. adds p ∙ grind (arith, nat_tests, other) in
     let here : list_of new pass ≡ list_of old pass ++ entry ∷ [] = adds pass ∙ grind (arith, nat_tests) in
     record {
@@ -168,8 +168,8 @@ IsSound-add old new counts added room_for room left pass entry within adds uses 
     }
 
 -- the client's entries go
-pub IsSound-end : {S : Type 0} (old new : Lists) (counts left : IndexMap ℕ ℕ S) (room_for room pass : ℕ) → pass < 256 → EndsClient old new pass → KeepsRoom old new → ((t : ℕ) → count_of left t + count_in t (list_of old pass) ≡ count_of counts t) → spare counts ≤ spare left → IsSound old counts room_for room → IsSound new left room_for room
-IsSound-end old new counts left room_for room pass within ends keeps counted spares sound =
+pub AreRefsInside-end : {S : Type 0} (old new : Lists) (counts left : IndexMap ℕ ℕ S) (room_for room pass : ℕ) → pass < 256 → EndsClient old new pass → KeepsRoom old new → ((t : ℕ) → count_of left t + count_in t (list_of old pass) ≡ count_of counts t) → spare counts ≤ spare left → AreRefsInside old counts room_for room → AreRefsInside new left room_for room
+AreRefsInside-end old new counts left room_for room pass within ends keeps counted spares sound =
     let apart : (p : ℕ) → p ≢ pass → list_of new p ≡ list_of old p = λ p other. ends p ∙ grind (arith, nat_tests, other) in
     let here : list_of new pass ≡ [] = ends pass ∙ grind (arith, nat_tests) in
     record {
@@ -185,19 +185,19 @@ IsSound-end old new counts left room_for room pass within ends keeps counted spa
     }
 
 -- the client's entries are counted
-pub IsSound-part : {S : Type 0} (lists : Lists) (counts : IndexMap ℕ ℕ S) (room_for room pass : ℕ) → pass < 256 → IsSound lists counts room_for room → (t : ℕ) → count_in t (list_of lists pass) ≤ count_of counts t
-IsSound-part lists counts room_for room pass within sound t = let part = sum_below-part 256 pass (λ p. count_in t (list_of lists p)) within in omega (arith, part, sound.counted t)
+pub AreRefsInside-part : {S : Type 0} (lists : Lists) (counts : IndexMap ℕ ℕ S) (room_for room pass : ℕ) → pass < 256 → AreRefsInside lists counts room_for room → (t : ℕ) → count_in t (list_of lists pass) ≤ count_of counts t
+AreRefsInside-part lists counts room_for room pass within sound t = let part = sum_below-part 256 pass (λ p. count_in t (list_of lists p)) within in omega (arith, part, sound.counted t)
 
 -- a target that is counted is that of some entry
-pub IsSound-named : {S : Type 0} (lists : Lists) (counts : IndexMap ℕ ℕ S) (room_for room id : ℕ) → IsSound lists counts room_for room → 0 < count_of counts id → (p : ℕ) × Names (list_of lists p) id
-IsSound-named lists counts room_for room id sound some =
+pub AreRefsInside-named : {S : Type 0} (lists : Lists) (counts : IndexMap ℕ ℕ S) (room_for room id : ℕ) → AreRefsInside lists counts room_for room → 0 < count_of counts id → (p : ℕ) × Names (list_of lists p) id
+AreRefsInside-named lists counts room_for room id sound some =
     let found = sum_below-some 256 (λ p. count_in id (list_of lists p)) (omega (arith, some, sound.counted id)) in
     let any = count_in-any id (list_of lists found.0) in
     (found.0, sym any ∙ grind (arith, nat_tests, found.1))
 
 -- and one that is not counted is that of none
-pub IsSound-unnamed : {S : Type 0} (lists : Lists) (counts : IndexMap ℕ ℕ S) (room_for room id : ℕ) → IsSound lists counts room_for room → count_of counts id ≡ 0 → (p : ℕ) → ¬ Names (list_of lists p) id
-IsSound-unnamed lists counts room_for room id sound none p named =
+pub AreRefsInside-unnamed : {S : Type 0} (lists : Lists) (counts : IndexMap ℕ ℕ S) (room_for room id : ℕ) → AreRefsInside lists counts room_for room → count_of counts id ≡ 0 → (p : ℕ) → ¬ Names (list_of lists p) id
+AreRefsInside-unnamed lists counts room_for room id sound none p named =
     let any = count_in-any id (list_of lists p) in
     let some : 0 < count_in id (list_of lists p) = grind (arith, nat_tests, any, named) in
     ⊎_elim

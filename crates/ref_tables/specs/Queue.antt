@@ -35,7 +35,7 @@ abbrev pub bit : Bool → ℕ
 bit mark = cond mark 1 0
 
 -- the marks say which ids are in the queue, each once, the links have them in their order, and there is room for all ids
-pub record IsKept {S : Type 0} (ids : List ℕ) (count : ℕ) (links : IndexMap ℕ Link S) (marks : List Bool) (limit : ℕ) : Type 0 where
+pub record IsQueueInside {S : Type 0} (ids : List ℕ) (count : ℕ) (links : IndexMap ℕ Link S) (marks : List Bool) (limit : ℕ) : Type 0 where
   pub distinct : IsQueue ids
   pub marked : (id : ℕ) → has ids id ≡ get_or marks id false
   pub counted : sum_by bit marks ≡ length ids

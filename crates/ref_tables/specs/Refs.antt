@@ -60,7 +60,7 @@ abbrev pub count_all : Lists → ℕ → ℕ
 count_all lists target = sum_below 256 (λ p. count_in target (list_of lists p))
 
 -- the counts are those of the entries, no other client has entries, and the room is there
-pub record IsSound {S : Type 0} (lists : Lists) (counts : IndexMap ℕ ℕ S) (room_for room : ℕ) : Type 0 where
+pub record AreRefsInside {S : Type 0} (lists : Lists) (counts : IndexMap ℕ ℕ S) (room_for room : ℕ) : Type 0 where
   pub counted : (target : ℕ) → count_of counts target ≡ count_all lists target
   pub clients : (p : ℕ) → 256 ≤ p → list_of lists p ≡ []
   pub room_of_list : 0 < room → HasRoom lists room_for room

@@ -29,10 +29,10 @@ along next zero «from» = []
 along next (suc steps) «from» = next «from» ∷ along next steps (next «from»)
 
 -- from the first over the ids to the end, each beside its neighbour in both directions
-abbrev pub Leads : (ℕ → ℕ) → (ℕ → ℕ) → ℕ → List ℕ → ℕ → Type 0
-Leads next previous «from» [] end = (next «from» ≡ end) × (previous end ≡ «from»)
-Leads next previous «from» (id ∷ ids) end = (next «from» ≡ id) × (previous id ≡ «from») × Leads next previous id ids end
+abbrev pub IsChain : (ℕ → ℕ) → (ℕ → ℕ) → ℕ → List ℕ → ℕ → Type 0
+IsChain next previous «from» [] end = (next «from» ≡ end) × (previous end ≡ «from»)
+IsChain next previous «from» (id ∷ ids) end = (next «from» ≡ id) × (previous id ≡ «from») × IsChain next previous id ids end
 
 -- the ids in their order, from 0 and back to 0
 abbrev pub IsRing : {S : Type 0} → IndexMap ℕ Link S → List ℕ → Type 0
-IsRing links ids = Leads (next_of links) (previous_of links) 0 ids 0
+IsRing links ids = IsChain (next_of links) (previous_of links) 0 ids 0

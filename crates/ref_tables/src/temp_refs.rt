@@ -26,13 +26,13 @@ pub struct TempRefs {
 }
 
 impl Model for TempRefs {
-    ghost use Rattle.ref_tables.specs.Refs.{Table, seen, IsSound};
+    ghost use Rattle.ref_tables.specs.Refs.{Table, seen, AreRefsInside};
 
     ghost Value = { Table };
 
     ghost view = { λ a. record { clients = seen a.lists.entries; room_for = a.room_for; room = a.room } };
 
-    ghost invariant = { λ a. IsSound a.lists.entries a.counts a.room_for a.room };
+    ghost invariant = { λ a. AreRefsInside a.lists.entries a.counts a.room_for a.room };
 }
 
 impl TempRefs {
@@ -117,31 +117,5 @@ impl TempRefs {
     {
         counts::forget_all(&mut self.counts, lists::list(&self.lists, pass));
         lists::clear(&mut self.lists, pass);
-    }
-}
-
-#[cfg(test)]
-mod tests {
-    use super::*;
-    use std::process::Abort;
-
-    #[test]
-    fn a_target_is_named_until_its_clients_end(rt: HostRuntime) {
-        let mut refs = TempRefs::new(rt.alloc());
-        assert_eq!(rt; refs.add(1, 2, Kind::Put), Ok(()));
-        assert!(rt; refs.names(2));
-        assert!(rt; !refs.names(1));
-        assert_eq!(rt; refs.reserve(64, 1), Ok(()));
-        assert_eq!(rt; refs.add(64, 2, Kind::Cut), Ok(()));
-        assert_eq!(rt; refs.add(1, 7, Kind::Made), Ok(()));
-        assert_eq!(rt; refs.target(1, 1), Some(7));
-        assert_eq!(rt; refs.target(64, 0), Some(2));
-        assert_eq!(rt; refs.target(64, 1), None);
-        refs.end(1);
-        assert!(rt; refs.names(2));
-        assert!(rt; !refs.names(7));
-        assert_eq!(rt; refs.target(1, 0), None);
-        refs.end(64);
-        assert!(rt; !refs.names(2));
     }
 }

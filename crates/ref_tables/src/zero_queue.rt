@@ -29,14 +29,14 @@ pub struct ZeroQueue {
 }
 
 impl Model for ZeroQueue {
-    ghost use Rattle.ref_tables.specs.Queue.{Queue, IsKept};
+    ghost use Rattle.ref_tables.specs.Queue.{Queue, IsQueueInside};
     ghost use Rattle.ref_tables.specs.Ring.{along, next_of};
 
     ghost Value = { Queue };
 
     ghost view = { λ a. record { ids = along (next_of a.links) a.count 0; limit = a.limit } };
 
-    ghost invariant = { λ a. IsKept (along (next_of a.links) a.count 0) a.count a.links a.present.items a.limit };
+    ghost invariant = { λ a. IsQueueInside (along (next_of a.links) a.count 0) a.count a.links a.present.items a.limit };
 }
 
 impl ZeroQueue {
@@ -113,55 +113,5 @@ impl ZeroQueue {
         ensures few { result ≤ self.now.limit }
     {
         self.count
-    }
-}
-
-#[cfg(test)]
-mod tests {
-    use super::*;
-    use std::process::Abort;
-
-    #[test]
-    fn ids_leave_in_the_order_in_which_they_joined(rt: HostRuntime) {
-        let mut queue = ZeroQueue::new(rt.alloc(), 8).expect(&rt, "room for eight ids");
-        assert_eq!(rt; queue.len(), 0);
-        queue.push(3);
-        queue.push(3);
-        assert_eq!(rt; queue.len(), 1);
-        queue.push(8);
-        queue.push(1);
-        queue.push(5);
-        queue.push(3);
-        queue.drop_id(1);
-        queue.drop_id(2);
-        queue.drop_id(9);
-        assert_eq!(rt; queue.len(), 3);
-        queue.push(1);
-        assert_eq!(rt; queue.pop(), Some(3));
-        assert_eq!(rt; queue.pop(), Some(8));
-        assert_eq!(rt; queue.pop(), Some(5));
-        assert_eq!(rt; queue.pop(), Some(1));
-        assert_eq!(rt; queue.pop(), None);
-    }
-
-    #[test]
-    fn ids_leave_from_any_place_and_join_again(rt: HostRuntime) {
-        let mut queue = ZeroQueue::new(rt.alloc(), 5).expect(&rt, "room for five ids");
-        queue.push(4);
-        queue.push(2);
-        queue.push(5);
-        queue.push(1);
-        queue.drop_id(4);
-        queue.drop_id(5);
-        queue.drop_id(1);
-        assert_eq!(rt; queue.len(), 1);
-        queue.push(5);
-        queue.push(4);
-        assert_eq!(rt; queue.pop(), Some(2));
-        assert_eq!(rt; queue.pop(), Some(5));
-        assert_eq!(rt; queue.pop(), Some(4));
-        assert_eq!(rt; queue.pop(), None);
-        queue.push(4);
-        assert_eq!(rt; queue.pop(), Some(4));
     }
 }

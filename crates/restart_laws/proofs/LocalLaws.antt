@@ -113,20 +113,20 @@ local-effect slots cells (Weaken id slot target) e f x n =
     let live = subst (λ y. is_live cells y ≡ true) (sym h.target) (h.target_live f.1) in
     relinked-local cells id slot x (other_strength p) n e h.live true false (λ z. (live, h.strength f.1)) (λ z. (live, other-strong (cell_at cells p.target).bit p.bit true (h.strength f.1)))
     ∙ (ap (λ y. concerning x y (counts_more false) (concerning x y (counts_less true) (concerning x id (relink slot (other_strength p)) (cell_at cells x)))) h.target
-    ∙ ap (λ c. concerning x target (counts_more false) (concerning x target (counts_less true) c)) (turned-here cells id slot x))
+    ∙ ap (λ c. concerning x target (counts_more false) (concerning x target (counts_less true) c)) (switched-here cells id slot x))
   where
-    turned-here : (cells : List Cell) (id slot x : ℕ) → concerning x id (relink slot (other_strength (pointer_at cells id slot))) (cell_at cells x) ≡ concerning x id (turns slot) (cell_at cells x)
-    turned-here cells id slot x = concerning-same x id (relink slot (other_strength (pointer_at cells id slot))) (turns slot) (cell_at cells x) (λ q. ap (λ y. relink slot (other_strength (pointer_at cells y slot)) (cell_at cells x)) (sym q))
+    switched-here : (cells : List Cell) (id slot x : ℕ) → concerning x id (relink slot (other_strength (pointer_at cells id slot))) (cell_at cells x) ≡ concerning x id (turns slot) (cell_at cells x)
+    switched-here cells id slot x = concerning-same x id (relink slot (other_strength (pointer_at cells id slot))) (turns slot) (cell_at cells x) (λ q. ap (λ y. relink slot (other_strength (pointer_at cells y slot)) (cell_at cells x)) (sym q))
 local-effect slots cells (Strengthen id slot target) e f x n =
     let p = pointer_at cells id slot in
     let h = f.0 in
     let live = subst (λ y. is_live cells y ≡ true) (sym h.target) (h.target_live f.1) in
     relinked-local cells id slot x (other_strength p) n e h.live false true (λ z. (live, h.strength f.1)) (λ z. (live, other-strong (cell_at cells p.target).bit p.bit false (h.strength f.1)))
     ∙ (ap (λ y. concerning x y (counts_more true) (concerning x y (counts_less false) (concerning x id (relink slot (other_strength p)) (cell_at cells x)))) h.target
-    ∙ ap (λ c. concerning x target (counts_more true) (concerning x target (counts_less false) c)) (turned-here cells id slot x))
+    ∙ ap (λ c. concerning x target (counts_more true) (concerning x target (counts_less false) c)) (switched-here cells id slot x))
   where
-    turned-here : (cells : List Cell) (id slot x : ℕ) → concerning x id (relink slot (other_strength (pointer_at cells id slot))) (cell_at cells x) ≡ concerning x id (turns slot) (cell_at cells x)
-    turned-here cells id slot x = concerning-same x id (relink slot (other_strength (pointer_at cells id slot))) (turns slot) (cell_at cells x) (λ q. ap (λ y. relink slot (other_strength (pointer_at cells y slot)) (cell_at cells x)) (sym q))
+    switched-here : (cells : List Cell) (id slot x : ℕ) → concerning x id (relink slot (other_strength (pointer_at cells id slot))) (cell_at cells x) ≡ concerning x id (turns slot) (cell_at cells x)
+    switched-here cells id slot x = concerning-same x id (relink slot (other_strength (pointer_at cells id slot))) (turns slot) (cell_at cells x) (λ q. ap (λ y. relink slot (other_strength (pointer_at cells y slot)) (cell_at cells x)) (sym q))
 local-effect slots cells (Flip id) e f x n = edited cells id x (flipped id) n (inr (live-within cells id f.0))
 local-effect slots cells (CutDead id slot target was_strong) e f x n =
     let h = f.0 in

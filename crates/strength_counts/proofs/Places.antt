@@ -10,7 +10,7 @@ use Rattle.cell_page.specs.Format.{IsCell}
 use Rattle.cell_page.specs.Stored.{cell_of}
 use Rattle.strength_counts.specs.Held.{Held, is_held, held_cell, edit_held}
 use Rattle.strength_counts.proofs.Edits.{AreOnce-edit_held}
-use Rattle.strength_counts.specs.Inside.{held_of, all_held_of, IsPlaced, AreKept}
+use Rattle.strength_counts.specs.Inside.{held_of, all_held_of, IsPlaced, AreCellsInside}
 
 -- the place of an id is within the cells
 pub held-within : {slots : ℕ} (cs : List (Cell slots)) (k id : ℕ) → is_held (all_held_of cs) id ≡ true
@@ -56,7 +56,7 @@ module _ {slots : ℕ} (cells : List (Cell slots)) (count place id : ℕ) (d : C
   pub held_cell-place : held_cell (all_held_of (take count cells)) id ≡ cell_of (get_or cells place d)
   held_cell-place = rw held-place (held_cell-at (take count cells) place id d within here first)
 
-  pub IsPlaced-place : AreKept cells count → IsPlaced (get_or cells place d)
+  pub IsPlaced-place : AreCellsInside cells count → IsPlaced (get_or cells place d)
   IsPlaced-place kept = rw held-place (All-from_recursion IsPlaced (take count cells) kept.placed place d within)
 
 take-set-within : {X : Type 0} (n : ℕ) (xs : List X) (i : ℕ) (x : X) → i < n → take n (set xs i x) ≡ set (take n xs) i x
@@ -73,8 +73,8 @@ module _ {slots : ℕ} (cells : List (Cell slots)) (count place : ℕ) (c d : Ce
   pub edit_held-place : all_held_of (take count (set cells place c)) ≡ edit_held c.id (λ _. cell_of c) (all_held_of (take count cells))
   edit_held-place = rw (take-set-within count cells place c below) (edit_held-at (take count cells) place c d within here first)
 
-  pub AreKept-set : AreKept cells count → IsCell c.id c → AreKept (set cells place c) count
-  AreKept-set kept rules =
+  pub AreCellsInside-set : AreCellsInside cells count → IsCell c.id c → AreCellsInside (set cells place c) count
+  AreCellsInside-set kept rules =
       let was = All-from_recursion IsPlaced (take count cells) kept.placed in
       let above : 0 < c.id = subst (λ (n : ℕ). 0 < n) here (was place d within).above in
       record {

@@ -6,7 +6,7 @@ use Rattle.std.specs.List.{list_all}
 use Rattle.std.proofs.lemmas.Bool.{eq-eqb, ne_eqb}
 use Rattle.std.proofs.lemmas.List.{set-get_or, take_all, drop_all, append-nil}
 use Rattle.std.proofs.lemmas.List.Sums.{sum_by-cons}
-use Rattle.cell_model.specs.Cells.{Pointer, Cell, null, pointer_in, relink, turned, self_pointers, flipped}
+use Rattle.cell_model.specs.Cells.{Pointer, Cell, null, pointer_in, relink, switched, self_pointers, flipped}
 use Rattle.cell_page.specs.Stored.{pointers_from}
 
 pub list_all_pointers : (bits i : ℕ) (targets : List ℕ) → list_all (λ p. p.target == 0) (pointers_from bits i targets) ≡ list_all (λ target. target == 0) targets
@@ -28,11 +28,11 @@ self_pointers-targets bits i (t ∷ ts) id =
 
 -- ---- pointers to the object itself
 
-pub turned-own : (id : ℕ) (p : Pointer) → p.target ≡ id → record { target = id; bit = not p.bit } ≡ turned id p
-turned-own id p e = rw (eq-eqb p.target id e, e) refl
+pub switched-own : (id : ℕ) (p : Pointer) → p.target ≡ id → record { target = id; bit = not p.bit } ≡ switched id p
+switched-own id p e = rw (eq-eqb p.target id e, e) refl
 
 -- the pointer of a slot, laid in it again
-pub relink-other : (id slot : ℕ) (c : Cell) → ((pointer_in c slot).target ≡ id → ⊥) → c ≡ relink slot (turned id (pointer_in c slot)) c
+pub relink-other : (id slot : ℕ) (c : Cell) → ((pointer_in c slot).target ≡ id → ⊥) → c ≡ relink slot (switched id (pointer_in c slot)) c
 relink-other id slot c n = rw (ne_eqb (pointer_in c slot).target id n, set-get_or c.pointers slot null) refl
 
 -- the first k of a list changed, and then one more
@@ -46,18 +46,18 @@ changed_more f (x ∷ xs) (suc k) d = ap (λ (rest : List _). f x ∷ rest) (cha
 pub changed_all : {X : Type 0} (f : X → X) (xs : List X) (k : ℕ) → length xs ≤ k → map f (take k xs) ++ drop k xs ≡ map f xs
 changed_all f xs k l = rw (take_all k xs l, drop_all k xs l) (append-nil (map f xs))
 
--- a cell whose own pointers are turned, and then its bit and its counts
-pub flipped-turned : (id own : ℕ) (c mid : Cell) → mid ≡ record c { pointers = map (turned id) c.pointers } → own ≡ self_pointers id c
+-- a cell whose own pointers are switched, and then its bit and its counts
+pub flipped-switched : (id own : ℕ) (c mid : Cell) → mid ≡ record c { pointers = map (switched id) c.pointers } → own ≡ self_pointers id c
     → record { live = mid.live; bit = not mid.bit; strong = mid.weak - own; weak = own; payload = mid.payload; pointers = mid.pointers } ≡ flipped id c
-flipped-turned id own c mid e f = rw (e, f) refl
+flipped-switched id own c mid e f = rw (e, f) refl
 
--- a cell whose first k pointers are turned
-abbrev pub turned_below : ℕ → ℕ → Cell → Cell
-turned_below id k c = record c { pointers = map (turned id) (take k c.pointers) ++ drop k c.pointers }
+-- a cell whose first k pointers are switched
+abbrev pub switched_below : ℕ → ℕ → Cell → Cell
+switched_below id k c = record c { pointers = map (switched id) (take k c.pointers) ++ drop k c.pointers }
 
 -- and one more
-pub turned_more : (id i k : ℕ) (first mid new : Cell) → i ≡ id → mid ≡ turned_below id k first → new ≡ relink k (turned i (pointer_in mid k)) mid → new ≡ turned_below id (k + 1) first
-turned_more id i k first mid new same before after =
+pub switched_more : (id i k : ℕ) (first mid new : Cell) → i ≡ id → mid ≡ switched_below id k first → new ≡ relink k (switched i (pointer_in mid k)) mid → new ≡ switched_below id (k + 1) first
+switched_more id i k first mid new same before after =
     after
     ∙ (rw (same, before) refl
-    ∙ ap (λ (ps : List Pointer). let c : Cell = record first { pointers = ps } in c) (changed_more (turned id) first.pointers k null ∙ rw (add-one k) refl))
+    ∙ ap (λ (ps : List Pointer). let c : Cell = record first { pointers = ps } in c) (changed_more (switched id) first.pointers k null ∙ rw (add-one k) refl))

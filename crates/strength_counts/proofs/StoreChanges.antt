@@ -9,7 +9,7 @@ use Rattle.cell_model.proofs.EditLaws.{edit-none, loses-shape}
 use Rattle.cell_model.proofs.CountLaws.{relinked-exact}
 use Rattle.cell_model.proofs.FlipLaws.{flip-exact}
 use Rattle.strength_counts.specs.Held.{Held, is_held, held_cell, held_pointer, edit_held}
-use Rattle.strength_counts.specs.Changes.{pointer_to, holds_strong, is_laid_strong, takes_strong, with_pointer, without_pointer, with_other_strength, with_flipped}
+use Rattle.strength_counts.specs.Changes.{pointer_to, holds_strong, may_be_strong, takes_strong, with_pointer, without_pointer, with_other_strength, with_flipped}
 use Rattle.strength_counts.specs.Laws.{ArePart, with_held}
 use Rattle.strength_counts.proofs.Edits.{live-held, is_held-edit_held, AreOnce-edit_held, held_cell-edit_keeps, held_cell-edit_other, same-same}
 use Rattle.strength_counts.proofs.StoreEdits.{with_held-edit_held, with_held-of, look-of}
@@ -66,9 +66,9 @@ module _ (cells : List Cell) (held : List Held) (part : ArePart cells held) wher
       two id old.target (relink slot null) (loses old.bit) l m
       ∙ ap (λ (q : Pointer). edit (edit cells id (relink slot null)) q.target (loses q.bit)) (look-pointer id slot l)
 
-  pub turn-relinked : (id slot : ℕ) → is_held held id ≡ true → is_held held (held_pointer held id slot).target ≡ true
+  pub switch-relinked : (id slot : ℕ) → is_held held id ≡ true → is_held held (held_pointer held id slot).target ≡ true
       → with_held (with_other_strength id slot held) cells ≡ relinked cells id slot (other_strength (pointer_at cells id slot))
-  turn-relinked id slot l m =
+  switch-relinked id slot l m =
       let old = held_pointer held id slot in
       let new = other_strength old in
       three id old.target (relink slot new) (loses old.bit) (gains new.bit) l m
@@ -102,10 +102,10 @@ module _ (cells : List Cell) (held : List Held) (part : ArePart cells held) wher
         λ slot. ap (λ (d : Cell). (pointer_in d slot).target) (sym (look target l)) ∙ ap (λ (ps : List Pointer). (get_or ps slot null).target) (sym same_pointers) ∙ all_null c.pointers null_alone slot,
       )
 
-  pub well_laid : (id target : ℕ) → is_held held target ≡ true → is_laid_strong id target held ≡ true → (id ≢ target) × HasNoPointer (cell_at cells target)
+  pub well_laid : (id target : ℕ) → is_held held target ≡ true → may_be_strong id target held ≡ true → (id ≢ target) × HasNoPointer (cell_at cells target)
   well_laid id target l h = takes id target (held_cell held target) refl l h
 
-  pub well_laid-after_cut : (id slot target : ℕ) → is_held held target ≡ true → is_laid_strong id target (without_pointer id slot held) ≡ true → (id ≢ target) × HasNoPointer (cell_at cells target)
+  pub well_laid-after_cut : (id slot target : ℕ) → is_held held target ≡ true → may_be_strong id target (without_pointer id slot held) ≡ true → (id ≢ target) × HasNoPointer (cell_at cells target)
   well_laid-after_cut id slot target l h =
       let apart = eqb-false id target (not-true (id == target) (and_parts (not (id == target)) (takes_strong (held_cell (without_pointer id slot held) target)) h).0) in
       takes id target (held_cell (without_pointer id slot held) target) (cut-pointers held id slot target apart) l h
@@ -130,11 +130,11 @@ module _ (cells : List Cell) (held : List Held) (part : ArePart cells held) wher
       subst IsExact (sym (cut-relinked id slot (live-held held id l) m))
       (relinked-exact cells id slot null e (live id l) (within id slot l w) (λ n. absurd (n refl)))
 
-  pub turn-exact : IsExact cells → (id slot : ℕ) → (held_cell held id).live ≡ true → slot < length (held_cell held id).pointers
+  pub switch-exact : IsExact cells → (id slot : ℕ) → (held_cell held id).live ≡ true → slot < length (held_cell held id).pointers
       → (held_cell held (held_pointer held id slot).target).live ≡ true → IsExact (with_held (with_other_strength id slot held) cells)
-  turn-exact e id slot l w m =
+  switch-exact e id slot l w m =
       let target = (held_pointer held id slot).target in
-      subst IsExact (sym (turn-relinked id slot (live-held held id l) (live-held held target m)))
+      subst IsExact (sym (switch-relinked id slot (live-held held id l) (live-held held target m)))
       (relinked-exact cells id slot (other_strength (pointer_at cells id slot)) e (live id l) (within id slot l w) (λ n. e.closed id slot (live id l) n))
 
   pub flip-stays_exact : IsExact cells → (id : ℕ) → (held_cell held id).live ≡ true → (held_cell held id).strong ≡ 0 → IsExact (with_held (with_flipped id held) cells)

@@ -21,8 +21,8 @@ abbrev pub takes_strong : Cell → Bool
 takes_strong c = (c.strong == 0) && list_all (λ p. p.target == 0) c.pointers
 
 -- a new pointer is strong where its target is such an object, and another one
-abbrev pub is_laid_strong : ℕ → ℕ → List Held → Bool
-is_laid_strong id target cells = not (id == target) && takes_strong (held_cell cells target)
+abbrev pub may_be_strong : ℕ → ℕ → List Held → Bool
+may_be_strong id target cells = not (id == target) && takes_strong (held_cell cells target)
 
 -- the slot holds the pointer, and its target counts it
 abbrev pub with_pointer : ℕ → ℕ → Pointer → List Held → List Held

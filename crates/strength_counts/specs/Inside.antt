@@ -18,7 +18,7 @@ pub record IsPlaced {slots : ℕ} (c : Cell slots) : Type 0 where
   pub rules : IsCell c.id c
 
 -- the first so many of three are held
-pub record AreKept {slots : ℕ} (cells : List (Cell slots)) (count : ℕ) : Type 0 where
+pub record AreCellsInside {slots : ℕ} (cells : List (Cell slots)) (count : ℕ) : Type 0 where
   pub three : length cells ≡ 3
   pub most : count ≤ 3
   pub placed : AllByRecursion IsPlaced (take count cells)

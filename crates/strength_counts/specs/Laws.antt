@@ -3,7 +3,7 @@ use Rattle.std.specs.Prelude.{◌≡◌, ◌≢◌, ℕ, ◌<◌, Bool, true, Li
 use Rattle.cell_model.specs.Cells.{Pointer, Cell, null, cell_at, pointer_at, is_strong, edit, relinked, other_strength, flipped, IsExact}
 use Rattle.cell_model.specs.Records.{HasNoPointer}
 use Rattle.strength_counts.specs.Held.{Held, is_held, held_cell, held_pointer, AreOnce}
-use Rattle.strength_counts.specs.Changes.{pointer_to, holds_strong, is_laid_strong, with_pointer, without_pointer, with_other_strength, with_flipped}
+use Rattle.strength_counts.specs.Changes.{pointer_to, holds_strong, may_be_strong, with_pointer, without_pointer, with_other_strength, with_flipped}
 
 -- each of them stands in the store at its id
 abbrev pub AreOf : List Cell → List Held → Type 0
@@ -37,8 +37,8 @@ CutLaw =
     (cells : List Cell) (held : List Held) → ArePart cells held → (id slot : ℕ) → is_held held id ≡ true → is_held held (held_pointer held id slot).target ≡ true
     → with_held (without_pointer id slot held) cells ≡ relinked cells id slot null
 
-abbrev pub TurnLaw : Type 0
-TurnLaw =
+abbrev pub SwitchLaw : Type 0
+SwitchLaw =
     (cells : List Cell) (held : List Held) → ArePart cells held → (id slot : ℕ) → is_held held id ≡ true → is_held held (held_pointer held id slot).target ≡ true
     → with_held (with_other_strength id slot held) cells ≡ relinked cells id slot (other_strength (pointer_at cells id slot))
 
@@ -70,13 +70,13 @@ HoldsLaw =
 -- what is laid strong closes no cycle: its target is another object, and has no pointers
 abbrev pub WellLaidLaw : Type 0
 WellLaidLaw =
-    (cells : List Cell) (held : List Held) → ArePart cells held → (id target : ℕ) → is_held held target ≡ true → is_laid_strong id target held ≡ true
+    (cells : List Cell) (held : List Held) → ArePart cells held → (id target : ℕ) → is_held held target ≡ true → may_be_strong id target held ≡ true
     → (id ≢ target) × HasNoPointer (cell_at cells target)
 
 -- nor where a slot of the object was made null before
 abbrev pub WellLaidAfterCutLaw : Type 0
 WellLaidAfterCutLaw =
-    (cells : List Cell) (held : List Held) → ArePart cells held → (id slot target : ℕ) → is_held held target ≡ true → is_laid_strong id target (without_pointer id slot held) ≡ true
+    (cells : List Cell) (held : List Held) → ArePart cells held → (id slot target : ℕ) → is_held held target ≡ true → may_be_strong id target (without_pointer id slot held) ≡ true
     → (id ≢ target) × HasNoPointer (cell_at cells target)
 
 -- and the pointer of a strength stays the same
@@ -95,8 +95,8 @@ ExactCutLaw =
     (cells : List Cell) (held : List Held) → ArePart cells held → IsExact cells → (id slot : ℕ) → (held_cell held id).live ≡ true
     → slot < length (held_cell held id).pointers → is_held held (held_pointer held id slot).target ≡ true → IsExact (with_held (without_pointer id slot held) cells)
 
-abbrev pub ExactTurnLaw : Type 0
-ExactTurnLaw =
+abbrev pub ExactSwitchLaw : Type 0
+ExactSwitchLaw =
     (cells : List Cell) (held : List Held) → ArePart cells held → IsExact cells → (id slot : ℕ) → (held_cell held id).live ≡ true
     → slot < length (held_cell held id).pointers → (held_cell held (held_pointer held id slot).target).live ≡ true → IsExact (with_held (with_other_strength id slot held) cells)
 

@@ -24,13 +24,13 @@ pub struct Cells<const SLOTS: usize> {
 impl<const SLOTS: usize> Model for Cells<SLOTS> {
     ghost use Rattle.std.specs.Prelude.{List, take};
     ghost use Rattle.strength_counts.specs.Held.{Held};
-    ghost use Rattle.strength_counts.specs.Inside.{all_held_of, AreKept};
+    ghost use Rattle.strength_counts.specs.Inside.{all_held_of, AreCellsInside};
 
     ghost Value = { List Held };
 
     ghost view = { λ s. all_held_of (take s.count s.cells) };
 
-    ghost invariant = { λ s. AreKept s.cells s.count };
+    ghost invariant = { λ s. AreCellsInside s.cells s.count };
 }
 
 /// The place of the cell of this id.

@@ -1,7 +1,7 @@
 //! The flip of a target bit, which exchanges strong and weak for all pointers to an object.
 
 ghost use Rattle.std.specs.Prelude.{◌≡◌, ◌<◌, ◌≤◌, ◌==◌, ℕ, true, length, map, count_by};
-ghost use Rattle.cell_model.specs.Cells.{relink, pointer_in, self_pointers, turned, flipped};
+ghost use Rattle.cell_model.specs.Cells.{relink, pointer_in, self_pointers, switched, flipped};
 ghost use Rattle.cell_page.specs.Format.{IsSlotCount, IsCell};
 ghost use Rattle.cell_page.specs.Stored.{cell_of};
 ghost use Rattle.strength_counts.specs.Held.{held_cell};
@@ -19,13 +19,13 @@ fn names(slots: &[u32], id: u32) -> u32
 }
 
 /// Changes the bit of a slot's pointer where it leads to the object itself.
-fn turn_own<const SLOTS: usize>(cell: &mut Cell<SLOTS>, slot: u8)
+fn switch_own<const SLOTS: usize>(cell: &mut Cell<SLOTS>, slot: u8)
     requires size { IsSlotCount SLOTS }
     requires within { slot < SLOTS }
     requires live { cell.old.live ≡ true }
     requires above { 0 < cell.old.id }
     requires rules { IsCell cell.old.id cell.old }
-    ensures model { cell_of cell.new ≡ relink slot (turned cell.old.id (pointer_in (cell_of cell.old) slot)) (cell_of cell.old) }
+    ensures model { cell_of cell.new ≡ relink slot (switched cell.old.id (pointer_in (cell_of cell.old) slot)) (cell_of cell.old) }
     ensures id { cell.new.id ≡ cell.old.id }
     ensures rules { IsCell cell.old.id cell.new }
 {
@@ -37,18 +37,18 @@ fn turn_own<const SLOTS: usize>(cell: &mut Cell<SLOTS>, slot: u8)
 }
 
 /// Changes the bits of the pointers to the object itself.
-fn turn_all_own<const SLOTS: usize>(cell: &mut Cell<SLOTS>)
+fn switch_all_own<const SLOTS: usize>(cell: &mut Cell<SLOTS>)
     requires size { IsSlotCount SLOTS }
     requires count { length cell.old.slots ≡ SLOTS }
     requires live { cell.old.live ≡ true }
     requires above { 0 < cell.old.id }
     requires rules { IsCell cell.old.id cell.old }
-    ensures model { cell_of cell.new ≡ record (cell_of cell.old) { pointers = map (turned cell.old.id) (cell_of cell.old).pointers } }
+    ensures model { cell_of cell.new ≡ record (cell_of cell.old) { pointers = map (switched cell.old.id) (cell_of cell.old).pointers } }
     ensures id { cell.new.id ≡ cell.old.id }
     ensures rules { IsCell cell.old.id cell.new }
 {
     for slot in 0..SLOTS {
-        turn_own(cell, slot as u8);
+        switch_own(cell, slot as u8);
     }
 }
 
@@ -64,7 +64,7 @@ fn flip_cell<const SLOTS: usize>(cell: &mut Cell<SLOTS>)
     ensures rules { IsCell cell.old.id cell.new }
 {
     let own = names(&cell.slots, cell.id);
-    turn_all_own(cell);
+    switch_all_own(cell);
     cell.bit = !cell.bit;
     cell.strong = cell.weak - own;
     cell.weak = own;

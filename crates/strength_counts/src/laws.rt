@@ -1,13 +1,13 @@
 //! What the changes of the held cells are to a store that has them.
 
-ghost use Rattle.strength_counts.specs.Laws.{LookLaw, PutLaw, CutLaw, TurnLaw, FlipLaw, NextLaw, StoreLaw, StrengthLaw, HoldsLaw, WellLaidLaw, WellLaidAfterCutLaw, PointerAfterCutLaw, ExactPutLaw, ExactCutLaw, ExactTurnLaw, ExactFlipLaw};
+ghost use Rattle.strength_counts.specs.Laws.{LookLaw, PutLaw, CutLaw, SwitchLaw, FlipLaw, NextLaw, StoreLaw, StrengthLaw, HoldsLaw, WellLaidLaw, WellLaidAfterCutLaw, PointerAfterCutLaw, ExactPutLaw, ExactCutLaw, ExactSwitchLaw, ExactFlipLaw};
 
 /// Each change of the held cells changes one slot of the store, or flips one of its cells.
 pub fn changes_are_of_the_store()
     ensures look { LookLaw }
     ensures put { PutLaw }
     ensures cut { CutLaw }
-    ensures turn { TurnLaw }
+    ensures switch { SwitchLaw }
     ensures flip { FlipLaw }
     ensures next { NextLaw }
     ensures store { StoreLaw }
@@ -26,6 +26,6 @@ pub fn strengths_are_of_the_store()
 pub fn counts_stay_exact()
     ensures put { ExactPutLaw }
     ensures cut { ExactCutLaw }
-    ensures turn { ExactTurnLaw }
+    ensures switch { ExactSwitchLaw }
     ensures flip { ExactFlipLaw }
 {}

@@ -4,7 +4,7 @@ ghost use Rattle.std.specs.Prelude.{◌≡◌, ◌≢◌, ◌+◌, ◌<◌, ◌^
 ghost use Rattle.cell_model.specs.Cells.{null, same, counted, relink, gains, loses, other_strength};
 ghost use Rattle.cell_page.specs.Format.{IsSlotCount};
 ghost use Rattle.strength_counts.specs.Held.{held_cell, held_pointer, held_target, edit_held};
-ghost use Rattle.strength_counts.specs.Changes.{count_of, pointer_to, holds_strong, is_laid_strong, with_pointer, without_pointer, with_other_strength};
+ghost use Rattle.strength_counts.specs.Changes.{count_of, pointer_to, holds_strong, may_be_strong, with_pointer, without_pointer, with_other_strength};
 
 use crate::cells::Cells;
 use crate::counts::{gain, lose, same, takes_strong};
@@ -93,8 +93,8 @@ impl<const SLOTS: usize> Cells<SLOTS> {
         requires target { (held_cell self.old target).live ≡ true }
         requires within { slot < SLOTS }
         requires null { (held_pointer self.old object slot).target ≡ 0 }
-        requires room { is_laid_strong object target self.old ≡ false → (held_cell self.old target).weak + 1 < 2 ^ 32 }
-        ensures strong { result ≡ is_laid_strong object target self.old }
+        requires room { may_be_strong object target self.old ≡ false → (held_cell self.old target).weak + 1 < 2 ^ 32 }
+        ensures strong { result ≡ may_be_strong object target self.old }
         ensures held { self.new ≡ with_pointer object slot (pointer_to target result self.old) self.old }
     {
         let strong = object != target && takes_strong(self.get(target));
@@ -131,7 +131,7 @@ impl<const SLOTS: usize> Cells<SLOTS> {
     }
 
     /// Gives a slot's pointer its other strength.
-    fn turn(&mut self, object: u32, slot: u8)
+    fn switch(&mut self, object: u32, slot: u8)
         requires size { IsSlotCount SLOTS }
         requires object { (held_cell self.old object).live ≡ true }
         requires within { slot < SLOTS }
@@ -157,7 +157,7 @@ impl<const SLOTS: usize> Cells<SLOTS> {
         requires room { (held_target self.old object slot).weak + 1 < 2 ^ 32 }
         ensures { self.new ≡ with_other_strength object slot self.old }
     {
-        self.turn(object, slot);
+        self.switch(object, slot);
     }
 
     /// Makes a slot's weak pointer strong.
@@ -171,6 +171,6 @@ impl<const SLOTS: usize> Cells<SLOTS> {
         requires room { (held_target self.old object slot).strong + 1 < 2 ^ 32 }
         ensures { self.new ≡ with_other_strength object slot self.old }
     {
-        self.turn(object, slot);
+        self.switch(object, slot);
     }
 }

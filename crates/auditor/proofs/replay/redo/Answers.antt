@@ -4,7 +4,7 @@ use Rattle.cell_model.specs.Cells.{Cell, null, blank_cell, edit}
 use Rattle.cell_page.specs.Stored.{cell_of}
 use Rattle.log_record.specs.declared.cell_record.CellRecord.{CellRecord}
 use Rattle.auditor.specs.Replay.{uncounted, Replays}
-use Rattle.auditor.proofs.EditSame.{blank-same, relinked-same, turned-same, pays-same, flip-same}
+use Rattle.auditor.proofs.EditSame.{blank-same, relinked-same, switched-same, pays-same, flip-same}
 use Rattle.auditor.proofs.ReplayLaws.{undo-replays}
 use Rattle.auditor.proofs.replay.redo.Goals as goal
 
@@ -35,14 +35,14 @@ returns-in-Undo-clause-exact g c =
 pub returns-in-Weaken-clause-exact : goal.returns-in-Weaken-clause-exact
 returns-in-Weaken-clause-exact g c =
     let before = map cell_of c.args.cells.now in
-    subst (λ (r : CellRecord). Replays g.row.SLOTS before r (map cell_of c.redo_turn.new.cells)) (sym c.in-Weaken.is)
-    (λ stored e fits. ap (λ (cs : List Cell). map uncounted cs) c.redo_turn.ensures.exact ∙ turned-same before stored c.in-Weaken.id c.in-Weaken.slot e)
+    subst (λ (r : CellRecord). Replays g.row.SLOTS before r (map cell_of c.redo_switch.new.cells)) (sym c.in-Weaken.is)
+    (λ stored e fits. ap (λ (cs : List Cell). map uncounted cs) c.redo_switch.ensures.exact ∙ switched-same before stored c.in-Weaken.id c.in-Weaken.slot e)
 
 pub returns-in-Strengthen-clause-exact : goal.returns-in-Strengthen-clause-exact
 returns-in-Strengthen-clause-exact g c =
     let before = map cell_of c.args.cells.now in
-    subst (λ (r : CellRecord). Replays g.row.SLOTS before r (map cell_of c.redo_turn-in-Strengthen.new.cells)) (sym c.in-Strengthen.is)
-    (λ stored e fits. ap (λ (cs : List Cell). map uncounted cs) c.redo_turn-in-Strengthen.ensures.exact ∙ turned-same before stored c.in-Strengthen.id c.in-Strengthen.slot e)
+    subst (λ (r : CellRecord). Replays g.row.SLOTS before r (map cell_of c.redo_switch-in-Strengthen.new.cells)) (sym c.in-Strengthen.is)
+    (λ stored e fits. ap (λ (cs : List Cell). map uncounted cs) c.redo_switch-in-Strengthen.ensures.exact ∙ switched-same before stored c.in-Strengthen.id c.in-Strengthen.slot e)
 
 pub returns-in-Flip-clause-exact : goal.returns-in-Flip-clause-exact
 returns-in-Flip-clause-exact g c =

@@ -1,5 +1,5 @@
 use Rattle.std.proofs.Common.{◌≡◌, ℕ, ◌<◌, false, slice_index}
-use Rattle.red_walk.specs.Ids.{has}
+use Rattle.ref_tables.specs.Queue.{has}
 use Rattle.green_walk.proofs.green.is_touched.Given as goal
 
 abbrev pub invariant-loop-place : goal.invariant-loop-place

@@ -1,5 +1,6 @@
 use Rattle.std.proofs.Common.{◌≡◌, false, slice_index_or, sym, subst}
-use Rattle.red_walk.specs.Ids.{Ids, has}
+use Rattle.red_walk.specs.Ids.{Ids}
+use Rattle.ref_tables.specs.Queue.{has}
 use Rattle.green_walk.proofs.PicksLaws.{next-new}
 use Rattle.green_walk.proofs.reach.begin_with.Goals as goal
 

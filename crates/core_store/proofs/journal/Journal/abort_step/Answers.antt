@@ -11,7 +11,7 @@ use Rattle.core_store.specs.declared.journal.Journal.TheInside.{Inside}
 use Rattle.core_store.specs.declared.act.Act.TheVariants.{Other}
 use Rattle.core_store.specs.Events.{after_event}
 use Rattle.core_store.specs.JournalView.{JournalView, cells_of, core_of, with_note}
-use Rattle.core_store.specs.Journal.{view_of, IsSound}
+use Rattle.core_store.specs.Journal.{view_of, IsJournalInside}
 use Rattle.core_store.specs.Logged.{logged_by_undo}
 use Rattle.core_store.specs.Replaced.{next_to_restore}
 use Rattle.core_store.specs.Transactions.{running_at}
@@ -24,7 +24,7 @@ use Rattle.core_store.proofs.JournalSteps.{Grows, HasGrown}
 use Rattle.core_store.proofs.journal.Journal.abort_step.Given.{Over}
 use Rattle.core_store.proofs.journal.Journal.abort_step.Goals as goal
 
-active : {slots : ℕ} (a : Inside slots) (now : JournalView) (pass : ℕ) → IsSound a → view_of a ≡ now → IsSome (transaction_of (end_of now.history).state pass) → IsSome (running_at a.tables.transactions.entries pass)
+active : {slots : ℕ} (a : Inside slots) (now : JournalView) (pass : ℕ) → IsJournalInside a → view_of a ≡ now → IsSome (transaction_of (end_of now.history).state pass) → IsSome (running_at a.tables.transactions.entries pass)
 active a now pass s is some = active-running (view_of a) (tables_of a.tables) pass s.keeps (subst (λ (j : JournalView). IsSome (transaction_of (end_of j.history).state pass)) (sym is) some)
 
 pub undo-logged-requires : goal.undo-logged-requires

@@ -1,5 +1,5 @@
 use Rattle.std.proofs.Common.{◌≡◌, ◌+◌, sym, subst}
-use Rattle.green_walk.specs.Sweeping.{Sweeping as Sweep, IsSweep}
+use Rattle.green_walk.specs.Sweeping.{SweepState as Sweep, IsSweep}
 use Rattle.core_store.specs.declared.round_at.RoundAt.TheVariants as at
 use Rattle.core_store.specs.RoundView.{Rounds, asked}
 use Rattle.core_store.specs.RoundInside.{AreInStep}

@@ -1,7 +1,7 @@
 use Rattle.std.proofs.Common.{◌≡◌, sym, subst}
 use Rattle.red_walk.specs.Walk.{Walk, IsWalk}
 use Rattle.green_walk.specs.declared.sweep.Found.TheVariants.{Made}
-use Rattle.green_walk.specs.Sweeping.{Sweeping as Sweep, IsSweep, found}
+use Rattle.green_walk.specs.Sweeping.{SweepState as Sweep, IsSweep, found}
 use Rattle.core_store.specs.declared.round_at.RoundAt.TheVariants as at
 use Rattle.core_store.specs.RoundView.{Rounds, asked}
 use Rattle.core_store.specs.RoundInside.{AreInStep}

@@ -1,7 +1,7 @@
 use Rattle.std.proofs.Common.{◌≡◌, ℕ, List, Bool, sym, ap, ◌∙◌, subst, rules}
 use Rattle.red_walk.specs.Walk.{Walk}
 use Rattle.green_walk.specs.Judged.{Judged, IsSeed, IsLive, Picks}
-use Rattle.green_walk.specs.Sweeping.{Sweeping as Sweep, IsSweep, started}
+use Rattle.green_walk.specs.Sweeping.{SweepState as Sweep, IsSweep, started}
 use Rattle.green_walk.specs.Greening.{Greening, IsGreening, started as green_started}
 use Rattle.green_walk.proofs.GreenAnswers.{seeds-live}
 use Rattle.core_store.specs.declared.round.Stage.TheVariants as stage

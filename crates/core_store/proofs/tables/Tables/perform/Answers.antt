@@ -1,5 +1,5 @@
 use Rattle.std.proofs.Common.{arith}
-use Rattle.core_store.specs.declared.handlers.Outcome.{Outcome}
+use Rattle.core_store.specs.declared.handlers.Performed.{Performed}
 use Rattle.core_store.specs.Ready.{Does, DoesPlanned}
 use Rattle.core_store.specs.Views.{view_of}
 use Rattle.core_store.proofs.ReplyLaws.{if_ok}
@@ -11,7 +11,7 @@ pub returns-in-Ok-clause-ok : goal.returns-in-Ok-clause-ok
 returns-in-Ok-clause-ok g c =
     let v = view_of c.args.self.now in
     let w = view_of c.grant.new.self in
-    if_ok c.grant.result (λ (o : Outcome). Does v w c.args.held.now c.grant.new.held c.args.pass c.in-Ok.plan o) (λ (o : Outcome). DoesPlanned v w c.args.held.now c.grant.new.held c.args.pass c.args.planned o)
+    if_ok c.grant.result (λ (o : Performed). Does v w c.args.held.now c.grant.new.held c.args.pass c.in-Ok.plan o) (λ (o : Performed). DoesPlanned v w c.args.held.now c.grant.new.held c.args.pass c.args.planned o)
     (does-granted v w c.args.held.now c.grant.new.held c.args.pass c.args.planned c.in-Ok.plan c.in-Ok.is) c.grant.ensures.ok
 
 pub returns-in-Ok-clause-owed : goal.returns-in-Ok-clause-owed

@@ -43,8 +43,8 @@ is_event-requires g c =
     let pages = subst (λ (a : RoundAt). HoldsPagesOf held (objects_at r.core.cells a)) (sym c.at-at.ensures.next) (ready-pages r.core.cells view held wants) in
     (search rules, (r.stands.counted, (work, λ look. (r.core.cells, r.agree, small-targets h, pages))))
 
-pub pass-requires : goal.pass-requires
-pass-requires g c =
+pub look_past-requires : goal.look_past-requires
+look_past-requires g c =
     let r = c.requires.standing in
     let small : g.row.SLOTS ≤ 14 = ⊎_elim (λ six. omega arith) (λ fourteen. omega arith) r.stands.counted in
     let held = c.args.held.now in
@@ -60,16 +60,16 @@ looks-smaller g c =
     let view = c.looks.self.round.view in
     let h = c.looks.invariant.stands r.core r.stands r.agree in
     let nothing = ap (is_event r.core.cells) (sym c.at-at.ensures.next) ∙ (sym (c.is_event.ensures r.core.cells r.agree) ∙ c.if-is_event.false) in
-    subst (λ (x : RoundView). left_of g.row.SLOTS x < left_of g.row.SLOTS view) (sym (c.pass.ensures.passes r.core h r.agree)) (left-passed g.row.SLOTS c.looks.self.ids r.core.cells view h.in_step nothing)
+    subst (λ (x : RoundView). left_of g.row.SLOTS x < left_of g.row.SLOTS view) (sym (c.look_past.ensures.passes r.core h r.agree)) (left-passed g.row.SLOTS c.looks.self.ids r.core.cells view h.in_step nothing)
 
 pub looks-preserved : goal.looks-preserved
 looks-preserved g c =
-    passed-more g.row.SLOTS (view_of c.args.self.now) (view_of {slots = g.row.SLOTS} c.looks.self) (view_of {slots = g.row.SLOTS} c.pass.new.self) c.args.held.now c.looks.invariant
+    passed-more g.row.SLOTS (view_of c.args.self.now) (view_of {slots = g.row.SLOTS} c.looks.self) (view_of {slots = g.row.SLOTS} c.look_past.new.self) c.args.held.now c.looks.invariant
     (record {
-      same = c.pass.ensures.same;
+      same = c.look_past.ensures.same;
       nothing = λ d h agree. ap (is_event d.cells) (sym c.at-at.ensures.next) ∙ (sym (c.is_event.ensures d.cells agree) ∙ c.if-is_event.false);
-      passes = c.pass.ensures.passes;
-      stands = c.pass.ensures.stands;
+      passes = c.look_past.ensures.passes;
+      stands = c.look_past.ensures.stands;
     })
 
 pub returns-then-ne-clause-next : goal.returns-then-ne-clause-next

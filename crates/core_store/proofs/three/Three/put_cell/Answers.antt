@@ -1,14 +1,14 @@
 use Rattle.std.proofs.Common.{List, get_or, refl, ap, ◌∙◌}
 use Rattle.core_store.specs.declared.three.HeldFrame.{HeldFrame}
 use Rattle.core_store.specs.Frames.{pages_held}
-use Rattle.core_store.proofs.PagePlaces.{pages-place, AreKept-set, Agree-place}
+use Rattle.core_store.proofs.PagePlaces.{pages-place, AreThreeInside-set, Agree-place}
 use Rattle.core_store.proofs.three.Three.put_cell.Goals as goal
 
 pub invariant_of-self : goal.invariant_of-self
 invariant_of-self g c =
     let d = c.index-self-place.result in
     let h : HeldFrame g.row.SLOTS = record { page = (get_or c.self.inside.frames c.place_of-place.result d).page; frame = record { page = c.put_cell.new.self } } in
-    AreKept-set c.self.inside.frames c.self.inside.count c.place_of-place.result h d c.place_of-place.ensures.within refl c.self.invariant
+    AreThreeInside-set c.self.inside.frames c.self.inside.count c.place_of-place.result h d c.place_of-place.ensures.within refl c.self.invariant
 
 pub returns-clause-stored : goal.returns-clause-stored
 returns-clause-stored g c = λ cells agree.

@@ -43,3 +43,6 @@ returns-clause-collector_undo g c = λ e. rw (← c.self.view_is) (c.abort_step-
 
 pub returns-clause-cursor_undo : goal.returns-clause-cursor_undo
 returns-clause-cursor_undo g c = λ e. rw (← c.self.view_is) (c.abort_step-step.ensures.cursor_undo e)
+
+pub returns-clause-noted_undo : goal.returns-clause-noted_undo
+returns-clause-noted_undo g c = λ e. rw (← c.self.view_is) (c.abort_step-step.ensures.noted_undo e)

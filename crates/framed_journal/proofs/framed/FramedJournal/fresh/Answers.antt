@@ -12,5 +12,5 @@ invariant_of-result g c =
         agree = made.agree;
         size = (ap (λ (h : History). h.slots) made.history, c.requires.size);
       },
-      c.new-held.ensures,
+      c.new.ensures,
     )

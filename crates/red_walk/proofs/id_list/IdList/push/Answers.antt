@@ -1,5 +1,6 @@
 use Rattle.std.proofs.Common.{◌≡◌, ◌≤◌, false, length, sym, subst, arith}
-use Rattle.red_walk.specs.Ids.{Ids, has}
+use Rattle.red_walk.specs.Ids.{Ids}
+use Rattle.ref_tables.specs.Queue.{has}
 use Rattle.red_walk.proofs.IdLaws.{kept-push, kept-room, kept-list}
 use Rattle.red_walk.proofs.id_list.IdList.push.Goals as goal
 

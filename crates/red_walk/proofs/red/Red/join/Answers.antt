@@ -1,5 +1,6 @@
 use Rattle.std.proofs.Common.{◌≡◌, ◌≤◌, [], false, ap, sym, subst}
-use Rattle.red_walk.specs.Ids.{Ids, has, IsIdList}
+use Rattle.red_walk.specs.Ids.{Ids, IsIdList}
+use Rattle.ref_tables.specs.Queue.{has}
 use Rattle.red_walk.specs.Walk.{Walk}
 use Rattle.red_walk.proofs.WalkLaws.{walk-holds, join-step, join-walk}
 use Rattle.red_walk.proofs.red.Red.join.Goals as goal

@@ -1,5 +1,5 @@
 use Rattle.std.proofs.Common.{◌≡◌, false, not, filter, get_or, subst}
-use Rattle.red_walk.specs.Ids.{has}
+use Rattle.ref_tables.specs.Queue.{has}
 use Rattle.red_walk.specs.Walk.{Walk}
 use Rattle.red_walk.proofs.Filters.{filter-again}
 use Rattle.red_walk.proofs.WalkLaws.{walk-holds}

@@ -1,5 +1,5 @@
 use Rattle.std.proofs.Common.{◌≡◌, ◌≤◌, true, false, sym, ◌∙◌, subst}
-use Rattle.red_walk.specs.Ids.{has}
+use Rattle.ref_tables.specs.Queue.{has}
 use Rattle.red_walk.specs.Walk.{Walk}
 use Rattle.red_walk.proofs.WalkLaws.{walk-holds, remove-step, remove-walk, remove-absent}
 use Rattle.red_walk.proofs.red.Red.remove.Goals as goal

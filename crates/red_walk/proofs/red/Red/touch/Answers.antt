@@ -1,5 +1,5 @@
 use Rattle.std.proofs.Common.{◌≡◌, ◌≤◌, true, false, arith, sym, ◌∙◌, subst}
-use Rattle.red_walk.specs.Ids.{has}
+use Rattle.ref_tables.specs.Queue.{has}
 use Rattle.red_walk.specs.Walk.{Walk, IsWalk}
 use Rattle.red_walk.proofs.WalkLaws.{walk-holds, touch-walk, untouched-closed, untouched-absent}
 use Rattle.red_walk.proofs.KeptLaws.{touched-walk-law}
