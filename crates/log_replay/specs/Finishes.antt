@@ -10,7 +10,7 @@ use Rattle.log_record.specs.Records.{record_of}
 use Rattle.log_record.specs.Spelling.{HasCellSpelling}
 use Rattle.log_replay.specs.Replays.{Replaying, FitsReplay, taken}
 use Rattle.log_replay.specs.declared.refusals.FinishRefusal.{FinishRefusal}
-use Rattle.log_replay.specs.declared.refusals.FinishRefusal.TheVariants.{Unsound, Memory}
+use Rattle.log_replay.specs.declared.refusals.FinishRefusal.TheVariants.{Unsound}
 
 -- no image is still to come
 abbrev pub AreNoneAwaited : List ℕ → Type 0
@@ -32,7 +32,6 @@ FinishesBy {slots} v (Some (OfCells r)) w =
     (next_undo v.cells v.unended ≡ Some (record_of r)) × CanUndoNext v × HasCellSpelling slots r × FitsReplay {slots = slots} v (OfCells r) × (w ≡ taken {slots = slots} (OfCells r) v) × (w.cells ≡ after_record slots v.cells (record_of r))
 FinishesBy v _ w = ⊥
 
--- why the next one isn't done: the change of this object can't be undone, or out of memory
+-- why the next one isn't done: the change of this object can't be undone
 abbrev pub RefusesFinish : Replaying → FinishRefusal → Type 0
 RefusesFinish v (Unsound id) = (c : Change) × (change_to_undo v.unended ≡ Some c) × (c.id ≡ id) × (CanBeUndone v.cells c → ⊥)
-RefusesFinish v Memory = CanUndoNext v

@@ -9,7 +9,7 @@ use Rattle.cell_page.specs.declared.cell.Cell.{Cell}
 use Rattle.cell_page.specs.Format.{IsSlotCount, page_of_id}
 use Rattle.cell_page.specs.Stored.{cell_of}
 use Rattle.log_record.specs.declared.cell_record.CellRecord.{CellRecord}
-use Rattle.log_record.specs.declared.cell_record.CellRecord.TheVariants.{Make, Store, Pay, Undo, Weaken, Strengthen, Flip, CutDead, Free}
+use Rattle.log_record.specs.declared.cell_record.CellRecord.TheVariants.{Begin, Make, Store, Pay, Undo, Weaken, Strengthen, Flip, CutDead, Free}
 use Rattle.log_record.specs.declared.record.Record.{Record}
 use Rattle.log_record.specs.declared.record.Record.TheVariants.{OfCells, Image, Turn}
 use Rattle.log_replay.specs.Placed.{ArePlaced}
@@ -52,6 +52,13 @@ IsWithin ids (Flip id) = id ≤ ids
 IsWithin ids (CutDead id slot target was_strong) = (id ≤ ids) × (target ≤ ids)
 IsWithin ids (Free id) = id ≤ ids
 IsWithin ids _ = Unit {0}
+
+-- the record adds nothing to what is remembered of the transactions that haven't ended
+abbrev pub NotesNothing : CellRecord → Type 0
+NotesNothing (Begin pass) = ⊥
+NotesNothing (Store pass id slot old_target old_strong new_target new_bit new_strong) = ⊥
+NotesNothing (Pay pass id old_value new_value) = ⊥
+NotesNothing _ = Unit {0}
 
 -- the record fits each cell but those of whose pages images are still to come
 abbrev pub FitsCells : List ℕ → List StoredCell → StoredRecord → Type 0

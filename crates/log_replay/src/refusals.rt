@@ -15,6 +15,4 @@ pub enum FinishRefusal {
     /// Exactly where the write can't be undone: its cell isn't live, or has something else there than the transaction
     /// left, or what stood there before is an object that isn't live.
     Unsound { id: u32 },
-    /// Out of memory.
-    Memory,
 }

@@ -6,7 +6,7 @@ ghost use Rattle.cell_page.specs.Stored.{HoldsPage};
 ghost use Rattle.log_record.specs.Spelling.{HasSpelling, HasCellSpelling};
 ghost use Rattle.log_record.specs.Records.{record_of};
 ghost use Rattle.log_replay.specs.Inside.{cells_of, ArePages};
-ghost use Rattle.log_replay.specs.Replays.{IsReplaying, IsWithin, is_skipped, FitsCells, FitsReplay, taken};
+ghost use Rattle.log_replay.specs.Replays.{IsReplaying, IsWithin, is_skipped, NotesNothing, FitsCells, FitsReplay, taken};
 ghost use Rattle.log_replay.specs.Steps.{FitsCell, changed_in, with_cells_after, taken_of_cells, taken_image};
 ghost use Rattle.log_replay.specs.declared.refusals.TakeRefusal.TheVariants.{Unfit, Memory};
 
@@ -138,7 +138,7 @@ impl<const SLOTS: usize> Replay<SLOTS> {
 
     /// Takes a record of single cells, which fits. Out of memory is its only error.
     #[tactic(auto, using(crate::proofs::PlacedLaws::placed_after))]
-    pub(crate) fn take_of_cells(&mut self, r: &CellRecord) -> Result<(), TakeRefusal>
+    fn take_of_cells(&mut self, r: &CellRecord) -> Result<(), TakeRefusal>
         requires spelled { HasCellSpelling SLOTS r.now }
         requires within { IsWithin (8 * length self.old.skips) r.now }
         requires fits { FitsCells self.old.skips self.old.cells (record_of r.now) }
@@ -151,6 +151,19 @@ impl<const SLOTS: usize> Replay<SLOTS> {
         }
         self.change_cells(r);
         Ok(())
+    }
+
+    /// Takes a record of single cells, which fits, and adds nothing to the transactions. It takes no memory.
+    #[tactic(auto, using(crate::proofs::PlacedLaws::placed_after))]
+    pub(crate) fn take_leaving(&mut self, r: &CellRecord)
+        requires nothing { NotesNothing r.now }
+        requires spelled { HasCellSpelling SLOTS r.now }
+        requires within { IsWithin (8 * length self.old.skips) r.now }
+        requires fits { FitsCells self.old.skips self.old.cells (record_of r.now) }
+        ensures { self.new ≡ taken_of_cells SLOTS (record_of r.now) self.old }
+    {
+        unended::leave(&mut self.unended, r);
+        self.change_cells(r);
     }
 
     /// Does a record, which fits, to the cells.

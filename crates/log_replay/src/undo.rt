@@ -8,7 +8,7 @@ ghost use Rattle.restart_laws.specs.Restored.{CanBeUndone, undo_of, is_counted_s
 ghost use Rattle.log_record.specs.Spelling.{HasCellSpelling, IsPass};
 ghost use Rattle.log_record.specs.Records.{record_of};
 ghost use Rattle.log_replay.specs.Placed.{IsPlaced};
-ghost use Rattle.log_replay.specs.Replays.{IsWithin};
+ghost use Rattle.log_replay.specs.Replays.{IsWithin, NotesNothing};
 ghost use Rattle.log_replay.specs.Steps.{change_of};
 
 use crate::cell_steps::target_in;
@@ -121,6 +121,7 @@ fn undo_of_slot<const SLOTS: usize>(
     ensures undo { record_of result ≡ undo_of pages.now pass (record { id = id; place = Slot slot; old = old; new = new }) }
     ensures spelled { HasCellSpelling SLOTS result }
     ensures within { IsWithin (length pages.now - 1) result }
+    ensures nothing { NotesNothing result }
 {
     CellRecord::Undo {
         pass,
@@ -147,6 +148,7 @@ pub(crate) fn undo_record<const SLOTS: usize>(
     ensures undo { record_of result ≡ undo_of pages.now pass (change_of write.now) }
     ensures spelled { HasCellSpelling SLOTS result }
     ensures within { IsWithin (length pages.now - 1) result }
+    ensures nothing { NotesNothing result }
 {
     if let Place::Slot(slot) = write.place {
         return undo_of_slot(

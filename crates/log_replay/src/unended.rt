@@ -3,6 +3,7 @@
 ghost use Rattle.std.specs.Prelude.{◌≡◌, ◌≢◌, ◌↔◌, [], true, IfSome, IfNone, OnOk, OnErr};
 ghost use Rattle.restart_laws.specs.Unended.{unended_at, unended_after, changed_at, with_change, without_change, IsRunning, IsLastChange, IsAllUndone, FitsUnended};
 ghost use Rattle.log_record.specs.Records.{record_of};
+ghost use Rattle.log_replay.specs.Replays.{NotesNothing};
 ghost use Rattle.log_replay.specs.Steps.{change_of, place_of_byte, IsFirst};
 
 use crate::Memory;
@@ -107,6 +108,20 @@ fn undo(unended: &mut UnendedMap, pass: u8)
     }
 }
 
+/// The transactions after a record that adds nothing to them.
+pub(crate) fn leave(unended: &mut UnendedMap, r: &CellRecord)
+    requires { NotesNothing r.now }
+    ensures { unended.new.entries ≡ unended_after unended.old.entries (record_of r.now) }
+{
+    match *r {
+        CellRecord::Undo { pass, .. } => undo(unended, pass),
+        CellRecord::Commit { pass } | CellRecord::AbortEnd { pass } => {
+            unended.remove(&pass);
+        }
+        _ => (),
+    }
+}
+
 /// The transactions after the record. Out of memory is its only error, and changes nothing.
 pub(crate) fn take(unended: &mut UnendedMap, alloc: Global, r: &CellRecord) -> Result<(), Memory>
     ensures ok { OnOk result (unended.new.entries ≡ unended_after unended.old.entries (record_of r.now)) }
@@ -147,15 +162,10 @@ pub(crate) fn take(unended: &mut UnendedMap, alloc: Global, r: &CellRecord) -> R
             };
             note(unended, pass, write)
         }
-        CellRecord::Undo { pass, .. } => {
-            undo(unended, pass);
+        _ => {
+            leave(unended, r);
             Ok(())
         }
-        CellRecord::Commit { pass } | CellRecord::AbortEnd { pass } => {
-            unended.remove(&pass);
-            Ok(())
-        }
-        _ => Ok(()),
     }
 }
 
