@@ -15,8 +15,8 @@ use Rattle.restart_laws.specs.Unended.{Change, Unended, unended_at, FitsUnended,
 use Rattle.restart_laws.specs.Restored.{CanBeUndone, undo_of, next_undo}
 use Rattle.restart_laws.proofs.LocalLaws.{local-effect}
 use Rattle.restart_laws.proofs.LocalFits.{local-fits}
-use Rattle.log_replay.specs.Placed.{IsPlaced}
-use Rattle.log_replay.specs.Replays.{is_skipped, FitsCells, each_after, after_cells}
+use Rattle.log_replay.specs.Placed.{IsStoreChange}
+use Rattle.log_replay.specs.Replays.{is_skipped, FitsUnskippedCells, each_after, after_cells}
 use Rattle.log_replay.specs.Finishes.{AreNoneAwaited, change_to_undo}
 use Rattle.log_replay.proofs.Rooms.{room-weak, room-strong}
 use Rattle.log_replay.proofs.TakenLaws.{is-each_after, none-after_cells, done-after_cells}
@@ -27,7 +27,7 @@ same-not : (b : Bool) → same b (not b) ≡ false
 same-not true = refl
 same-not false = refl
 
-fits-by : (slots ids : ℕ) (cells : List StoredCell) (pass id old new : ℕ) (place : Place) → AreConsistent slots ids cells → IsPlaced slots ids (record { id = id; place = place; old = old; new = new })
+fits-by : (slots ids : ℕ) (cells : List StoredCell) (pass id old new : ℕ) (place : Place) → AreConsistent slots ids cells → IsStoreChange slots ids (record { id = id; place = place; old = old; new = new })
     → CanBeUndone cells (record { id = id; place = place; old = old; new = new }) → Fits cells (undo_of cells pass (record { id = id; place = place; old = old; new = new }))
 fits-by slots ids cells pass id old new (Slot slot) k p u =
     let q = pointer_at cells id slot in (
@@ -47,7 +47,7 @@ fits-by slots ids cells pass id old new (Slot slot) k p u =
 fits-by slots ids cells pass id old new Payload k p u = (u.live, u.left)
 fits-by slots ids cells pass id old new Whole k p u = absurd p.place
 
-pub undo-fits : (slots ids : ℕ) (cells : List StoredCell) (pass : ℕ) (c : Change) → AreConsistent slots ids cells → IsPlaced slots ids c → CanBeUndone cells c → Fits cells (undo_of cells pass c)
+pub undo-fits : (slots ids : ℕ) (cells : List StoredCell) (pass : ℕ) (c : Change) → AreConsistent slots ids cells → IsStoreChange slots ids c → CanBeUndone cells c → Fits cells (undo_of cells pass c)
 undo-fits slots ids cells pass c k p u = fits-by slots ids cells pass c.id c.old c.new c.place k p u
 
 laid-by : (cells : List StoredCell) (pass id old new : ℕ) (place : Place) → IsWellLaid cells (undo_of cells pass (record { id = id; place = place; old = old; new = new }))
@@ -63,7 +63,7 @@ undo-laid cells pass c = laid-by cells pass c.id c.old c.new c.place
 none_skipped : (skips : List ℕ) (x : ℕ) → AreNoneAwaited skips → is_skipped skips x ≡ false
 none_skipped skips x none = rw (none (page_of_id x)) refl
 
-pub fits-each : (slots ids : ℕ) (skips : List ℕ) (cells : List StoredCell) (r : StoredRecord) → IsSlotCount slots → ids ≤ 8192 → AreConsistent slots ids cells → Fits cells r → FitsCells skips cells r
+pub fits-each : (slots ids : ℕ) (skips : List ℕ) (cells : List StoredCell) (r : StoredRecord) → IsSlotCount slots → ids ≤ 8192 → AreConsistent slots ids cells → Fits cells r → FitsUnskippedCells skips cells r
 fits-each slots ids skips cells r count few k f =
     λ x above below seen. local-fits cells (λ y live. (room-strong slots ids cells count k few y live, room-weak slots ids cells count k few y live)) r k.exact f x (λ z. omega (arith, above, z))
 
@@ -95,13 +95,13 @@ first-found us es e pass s h = ap (λ (ds : List (ℕ × Unended)). unended_at d
     here : unended_at (e ∷ es) pass ≡ Some e.1
     here = grind (arith, nat_tests)
 
-pub undo-fits_unended-by : (cells : List StoredCell) (us : List (ℕ × Unended)) (u : Unended) (pass id old new : ℕ) (place : Place) (slots ids : ℕ) → IsPlaced slots ids (record { id = id; place = place; old = old; new = new })
+pub undo-fits_unended-by : (cells : List StoredCell) (us : List (ℕ × Unended)) (u : Unended) (pass id old new : ℕ) (place : Place) (slots ids : ℕ) → IsStoreChange slots ids (record { id = id; place = place; old = old; new = new })
     → unended_at us pass ≡ Some u → last_or None u.changes ≡ Some (record { id = id; place = place; old = old; new = new }) → FitsUnended us (undo_of cells pass (record { id = id; place = place; old = old; new = new }))
 undo-fits_unended-by cells us u pass id old new (Slot slot) slots ids p at last = subst (λ (o : Option Unended). IsLastChange o (record { id = id; place = Slot slot; old = old; new = new })) (sym at) last
 undo-fits_unended-by cells us u pass id old new Payload slots ids p at last = subst (λ (o : Option Unended). IsLastChange o (record { id = id; place = Payload; old = old; new = new })) (sym at) last
 undo-fits_unended-by cells us u pass id old new Whole slots ids p at last = absurd p.place
 
-pub undo-fits_unended : (cells : List StoredCell) (us : List (ℕ × Unended)) (u : Unended) (pass : ℕ) (c : Change) (slots ids : ℕ) → IsPlaced slots ids c → unended_at us pass ≡ Some u → last_or None u.changes ≡ Some c → FitsUnended us (undo_of cells pass c)
+pub undo-fits_unended : (cells : List StoredCell) (us : List (ℕ × Unended)) (u : Unended) (pass : ℕ) (c : Change) (slots ids : ℕ) → IsStoreChange slots ids c → unended_at us pass ≡ Some u → last_or None u.changes ≡ Some c → FitsUnended us (undo_of cells pass c)
 undo-fits_unended cells us u pass c slots ids p at last = undo-fits_unended-by cells us u pass c.id c.old c.new c.place slots ids p at last
 
 pub end-fits_unended : (us : List (ℕ × Unended)) (u : Unended) (pass : ℕ) → unended_at us pass ≡ Some u → u.changes ≡ [] → FitsUnended us (AbortEnd pass)

@@ -10,7 +10,7 @@ use Rattle.cell_model.specs.Records.{Record as StoredRecord}
 use Rattle.restart_laws.specs.Local.{effect, FitsAt, is_in_page, cell_in}
 use Rattle.cell_page.specs.declared.cell.Cell.{Cell}
 use Rattle.cell_page.specs.Stored.{cell_of}
-use Rattle.log_replay.specs.Replays.{is_skipped, FitsCells, each_after, after_cells, after_image}
+use Rattle.log_replay.specs.Replays.{is_skipped, FitsUnskippedCells, each_after, after_cells, after_image}
 use Rattle.log_replay.specs.Steps.{FitsCell, AreConcerned}
 use Rattle.log_replay.specs.declared.concerned.ThreeIds.{ThreeIds}
 
@@ -140,7 +140,7 @@ three-done slots skips r ids cells are own_in from_in to_in = is-each_after f ce
 
 -- a record that fits the cells that it concerns fits all
 pub fits-all : (slots : ℕ) (skips : List ℕ) (r : StoredRecord) (ids : ThreeIds) (cells : List StoredCell) → AreConcerned slots r ids
-    → FitsCell skips cells r ids.own → FitsCell skips cells r ids.«from» → FitsCell skips cells r ids.to → FitsCells skips cells r
+    → FitsCell skips cells r ids.own → FitsCell skips cells r ids.«from» → FitsCell skips cells r ids.to → FitsUnskippedCells skips cells r
 fits-all slots skips r ids cells are own old new = λ (x : ℕ) (above : 1 ≤ x) (below : x < length cells) (seen : is_skipped skips x ≡ false). by x above seen (same_or_apart x ids.own) (same_or_apart x ids.«from») (same_or_apart x ids.to)
   where
     at : (id x : ℕ) → FitsCell skips cells r id → 1 ≤ x → is_skipped skips x ≡ false → x ≡ id → FitsAt r x (cell_at cells x)
@@ -184,7 +184,7 @@ pub kept-fits : (slots : ℕ) (skips : List ℕ) (r : StoredRecord) (id x : ℕ)
 kept-fits slots skips r id x cells apart h =
     λ above seen. subst (FitsAt r x) (sym (at-done_other (after_cells slots skips r) id x cells (apart (λ (z : x ≡ 0). omega (arith, above, z))))) (h above seen)
 
-pub one-fits : (skips : List ℕ) (cells : List StoredCell) (r : StoredRecord) (x : ℕ) → x < length cells → FitsCells skips cells r → FitsCell skips cells r x
+pub one-fits : (skips : List ℕ) (cells : List StoredCell) (r : StoredRecord) (x : ℕ) → x < length cells → FitsUnskippedCells skips cells r → FitsCell skips cells r x
 one-fits skips cells r x below h = λ above seen. h x above below seen
 
 pub all-three : (a b c : Bool) (A B C D : Type 0) → (a ≡ true → A) × (A → a ≡ true) → (b ≡ true → B) × (B → b ≡ true) → (c ≡ true → C) × (C → c ≡ true)

@@ -4,7 +4,7 @@ use Rattle.std.specs.Prelude.{suc, slice_get, IfSome}
 use Rattle.std.specs.Option.{option_map}
 use Rattle.std.specs.List.{last_or}
 use Rattle.restart_laws.specs.Unended.{Change}
-use Rattle.log_replay.specs.Steps.{change_of}
+use Rattle.log_replay.specs.Steps.{change_by}
 use Rattle.log_replay.specs.declared.transaction.Write.{Write}
 
 pub slice_get-last : {A : Type 0} (xs : List A) → slice_get xs (length xs - 1) ≡ last_or None xs
@@ -18,22 +18,22 @@ slice_get-last (x ∷ y ∷ ys) = ap (slice_get (x ∷ y ∷ ys)) (one_less (len
     less_one : (n : ℕ) → n ≡ suc n - 1
     less_one n = omega arith
 
-pub last_or-map : (o : Option Write) (ws : List Write) → last_or (option_map change_of o) (map change_of ws) ≡ option_map change_of (last_or o ws)
+pub last_or-map : (o : Option Write) (ws : List Write) → last_or (option_map change_by o) (map change_by ws) ≡ option_map change_by (last_or o ws)
 last_or-map o [] = refl
 last_or-map o (w ∷ ws) = last_or-map (Some w) ws
 
-pub last-change : (ws : List Write) → last_or None (map change_of ws) ≡ option_map change_of (last_or None ws)
+pub last-change : (ws : List Write) → last_or None (map change_by ws) ≡ option_map change_by (last_or None ws)
 last-change ws = last_or-map None ws
 
-pub last-some : (ws : List Write) (o : Option Write) → o ≡ last_or None ws → IfSome o (λ w. last_or None (map change_of ws) ≡ Some (change_of w))
-last-some ws o e = subst (λ (p : Option Write). IfSome p (λ w. last_or None (map change_of ws) ≡ Some (change_of w))) (sym e) (by (last_or None ws) refl)
+pub last-some : (ws : List Write) (o : Option Write) → o ≡ last_or None ws → IfSome o (λ w. last_or None (map change_by ws) ≡ Some (change_by w))
+last-some ws o e = subst (λ (p : Option Write). IfSome p (λ w. last_or None (map change_by ws) ≡ Some (change_by w))) (sym e) (by (last_or None ws) refl)
   where
-    by : (p : Option Write) → last_or None ws ≡ p → IfSome p (λ w. last_or None (map change_of ws) ≡ Some (change_of w))
+    by : (p : Option Write) → last_or None ws ≡ p → IfSome p (λ w. last_or None (map change_by ws) ≡ Some (change_by w))
     by None h = tt
-    by (Some w) h = last-change ws ∙ ap (option_map change_of) h
+    by (Some w) h = last-change ws ∙ ap (option_map change_by) h
 
 -- writes with the same change are the same
-pub same_write : (v w : Write) → change_of v ≡ change_of w → v ≡ w
+pub same_write : (v w : Write) → change_by v ≡ change_by w → v ≡ w
 same_write v w h =
     let i : v.id ≡ w.id = ap (λ (c : Change). c.id) h in
     let p : v.place ≡ w.place = ap (λ (c : Change). c.place) h in

@@ -8,7 +8,7 @@ use Rattle.log_record.specs.declared.record.Record.{Record}
 use Rattle.log_record.specs.declared.record.Record.TheVariants.{OfCells}
 use Rattle.log_record.specs.Records.{record_of}
 use Rattle.log_record.specs.Spelling.{HasCellSpelling}
-use Rattle.log_replay.specs.Replays.{Replaying, FitsReplay, taken}
+use Rattle.log_replay.specs.Replays.{Replaying, FitsReplay, after_taking}
 use Rattle.log_replay.specs.declared.refusals.FinishRefusal.{FinishRefusal}
 use Rattle.log_replay.specs.declared.refusals.FinishRefusal.TheVariants.{Unsound}
 
@@ -29,7 +29,7 @@ CanUndoNext v = IfSome (change_to_undo v.unended) (CanBeUndone v.cells)
 abbrev pub FinishesBy : {slots : ℕ} → Replaying → Option (Record slots) → Replaying → Type 0
 FinishesBy v None w = (v.unended ≡ []) × (w ≡ v)
 FinishesBy {slots} v (Some (OfCells r)) w =
-    (next_undo v.cells v.unended ≡ Some (record_of r)) × CanUndoNext v × HasCellSpelling slots r × FitsReplay {slots = slots} v (OfCells r) × (w ≡ taken {slots = slots} (OfCells r) v) × (w.cells ≡ after_record slots v.cells (record_of r))
+    (next_undo v.cells v.unended ≡ Some (record_of r)) × CanUndoNext v × HasCellSpelling slots r × FitsReplay {slots = slots} v (OfCells r) × (w ≡ after_taking {slots = slots} (OfCells r) v) × (w.cells ≡ after_record slots v.cells (record_of r))
 FinishesBy v _ w = ⊥
 
 -- why the next one isn't done: the change of this object can't be undone

@@ -15,11 +15,11 @@ abbrev pub stored_at : {slots : ℕ} → List (List (Cell slots)) → ℕ → St
 stored_at pages id = if id == 0 then blank_cell false 0 else cell_of (held_at pages id)
 
 -- the cells of the pages, each at its id
-unfoldable pub cells_of : {slots : ℕ} → List (List (Cell slots)) → List StoredCell
-cells_of pages = map (stored_at pages) (range_with_len 0 (8 * length pages + 1))
+unfoldable pub cells_of_pages : {slots : ℕ} → List (List (Cell slots)) → List StoredCell
+cells_of_pages pages = map (stored_at pages) (range_with_len 0 (8 * length pages + 1))
 
 -- the pages of a store: each obeys the rules for its number
-pub record ArePages {slots : ℕ} (pages : List (List (Cell slots))) : Type 0 where
+pub record AreStorePages {slots : ℕ} (pages : List (List (Cell slots))) : Type 0 where
   pub slot_count : IsSlotCount slots
   pub some : 0 < length pages
   pub most : length pages ≤ 1024

@@ -12,7 +12,7 @@ use Rattle.log_record.specs.declared.cell_record.CellRecord.{CellRecord}
 use Rattle.log_record.specs.declared.cell_record.CellRecord.TheVariants.{Begin, Make, Store, Pay, Undo, Weaken, Strengthen, Flip, CutDead, Free}
 use Rattle.log_record.specs.declared.record.Record.{Record}
 use Rattle.log_record.specs.declared.record.Record.TheVariants.{OfCells, Image, Turn}
-use Rattle.log_replay.specs.Placed.{ArePlaced}
+use Rattle.log_replay.specs.Placed.{AreStoreEntries}
 use Rattle.log_record.specs.Records.{payload_place, record_of}
 
 -- what a replay has so far
@@ -32,7 +32,7 @@ pub record IsReplaying (slots : ℕ) (v : Replaying) : Type 0 where
   pub some : 0 < length v.skips
   pub most : length v.skips ≤ 1024
   -- what is left to undo is of the store's places
-  pub placed : ArePlaced slots (8 * length v.skips) v.unended
+  pub placed : AreStoreEntries slots (8 * length v.skips) v.unended
 
 -- ---- which record fits
 
@@ -61,12 +61,12 @@ NotesNothing (Pay pass id old_value new_value) = ⊥
 NotesNothing _ = Unit {0}
 
 -- the record fits each cell but those of whose pages images are still to come
-abbrev pub FitsCells : List ℕ → List StoredCell → StoredRecord → Type 0
-FitsCells skips cells r = (x : ℕ) → 1 ≤ x → x < length cells → is_skipped skips x ≡ false → FitsAt r x (cell_at cells x)
+abbrev pub FitsUnskippedCells : List ℕ → List StoredCell → StoredRecord → Type 0
+FitsUnskippedCells skips cells r = (x : ℕ) → 1 ≤ x → x < length cells → is_skipped skips x ≡ false → FitsAt r x (cell_at cells x)
 
 -- the record fits what the replay has
 abbrev pub FitsReplay : {slots : ℕ} → Replaying → Record slots → Type 0
-FitsReplay v (OfCells r) = IsWithin (8 * length v.skips) r × FitsUnended v.unended (record_of r) × FitsCells v.skips v.cells (record_of r)
+FitsReplay v (OfCells r) = IsWithin (8 * length v.skips) r × FitsUnended v.unended (record_of r) × FitsUnskippedCells v.skips v.cells (record_of r)
 FitsReplay v (Image page cells) = page < length v.skips
 FitsReplay v (Turn version pages) = Unit {0}
 
@@ -85,9 +85,9 @@ abbrev pub after_image : {slots : ℕ} → List ℕ → ℕ → List (Cell slots
 after_image skips page held x c = if is_in_page page x && nat_le (slice_index skips page) 1 then cell_in page (map cell_of held) x else c
 
 -- what the replay has after the record
-abbrev pub taken : {slots : ℕ} → Record slots → Replaying → Replaying
-taken {slots} (OfCells r) v =
+abbrev pub after_taking : {slots : ℕ} → Record slots → Replaying → Replaying
+after_taking {slots} (OfCells r) v =
     record { cells = each_after (after_cells slots v.skips (record_of r)) v.cells; unended = unended_after v.unended (record_of r); skips = v.skips }
-taken (Image page held) v =
+after_taking (Image page held) v =
     record { cells = each_after (after_image v.skips page held) v.cells; unended = v.unended; skips = slice_set v.skips page (slice_index v.skips page - 1) }
-taken (Turn version pages) v = v
+after_taking (Turn version pages) v = v

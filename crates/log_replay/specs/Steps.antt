@@ -23,8 +23,8 @@ abbrev pub place_of_byte : ℕ → Place
 place_of_byte place = if place == payload_place then Payload else Slot place
 
 -- the change that a write made
-abbrev pub change_of : Write → Change
-change_of w = record { id = w.id; place = w.place; old = w.old; new = w.new }
+abbrev pub change_by : Write → Change
+change_by w = record { id = w.id; place = w.place; old = w.old; new = w.new }
 
 -- ---- one cell
 
@@ -47,8 +47,8 @@ abbrev pub CanPay : ℕ → StoredCell → Type 0
 CanPay old c = (c.live ≡ true) × (c.payload ≡ old)
 
 -- the target bit of a live cell can be flipped
-abbrev pub CanFlip : ℕ → StoredCell → Type 0
-CanFlip id c = (c.live ≡ true) × (c.strong ≡ 0) × (self_pointers id c ≤ c.weak)
+abbrev pub CanBeFlipped : ℕ → StoredCell → Type 0
+CanBeFlipped id c = (c.live ≡ true) × (c.strong ≡ 0) × (self_pointers id c ≤ c.weak)
 
 -- the object of the id can be deleted
 abbrev pub CanFree : ℕ → StoredCell → Type 0
@@ -112,5 +112,5 @@ pub record IsFirst (us : List (ℕ × Unended)) (pass : ℕ) (last : Option Writ
   pub rest : List (ℕ × Unended)
   pub split : us ≡ entry ∷ rest
   pub client : entry.0 ≡ pass
-  pub some : IfSome last (λ w. last_or None entry.1.changes ≡ Some (change_of w))
+  pub some : IfSome last (λ w. last_or None entry.1.changes ≡ Some (change_by w))
   pub none : IfNone last (entry.1.changes ≡ [])

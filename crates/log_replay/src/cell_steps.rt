@@ -9,7 +9,7 @@ ghost use Rattle.cell_page.specs.Format.{IsSlotCount, IsCell};
 ghost use Rattle.cell_page.specs.Stored.{cell_of};
 ghost use Rattle.log_record.specs.Spelling.{HasCellSpelling};
 ghost use Rattle.log_record.specs.Records.{record_of};
-ghost use Rattle.log_replay.specs.Steps.{IsPart, IsStep, CanPay, CanFlip, CanFree, moving, shifting};
+ghost use Rattle.log_replay.specs.Steps.{IsPart, IsStep, CanPay, CanBeFlipped, CanFree, moving, shifting};
 
 use cell_page::{Cell, ROOT};
 use log_record::{CellRecord, PAYLOAD_PLACE};
@@ -83,7 +83,7 @@ fn can_free<const SLOTS: usize>(cell: &Cell<SLOTS>, id: u32) -> bool
 
 /// Whether the target bit of the id's cell can be flipped.
 fn can_flip<const SLOTS: usize>(cell: &Cell<SLOTS>, id: u32) -> bool
-    ensures { (result ≡ true) ↔ CanFlip id (cell_of cell.now) }
+    ensures { (result ≡ true) ↔ CanBeFlipped id (cell_of cell.now) }
 {
     let own = pointers_to(cell, id);
     cell.live && cell.strong == 0 && own <= cell.weak as usize
@@ -234,7 +234,7 @@ fn with_flip<const SLOTS: usize>(cell: &Cell<SLOTS>) -> Cell<SLOTS>
     requires count { IsSlotCount SLOTS }
     requires above { 0 < cell.now.id }
     requires rules { IsCell cell.now.id cell.now }
-    requires can { CanFlip cell.now.id (cell_of cell.now) }
+    requires can { CanBeFlipped cell.now.id (cell_of cell.now) }
     ensures model { cell_of result ≡ flipped cell.now.id (cell_of cell.now) }
     ensures same { result.id ≡ cell.now.id }
     ensures rules { IsCell cell.now.id result }
@@ -252,8 +252,8 @@ fn flip<const SLOTS: usize>(cell: &Cell<SLOTS>, id: u32) -> Option<Cell<SLOTS>>
     requires count { IsSlotCount SLOTS }
     requires above { 0 < cell.now.id }
     requires rules { IsCell cell.now.id cell.now }
-    ensures some { IfSome result (IsPart id (CanFlip id) (flipped id) cell.now) }
-    ensures none { IfNone result ((cell.now.id ≡ id → CanFlip id (cell_of cell.now)) → ⊥) }
+    ensures some { IfSome result (IsPart id (CanBeFlipped id) (flipped id) cell.now) }
+    ensures none { IfNone result ((cell.now.id ≡ id → CanBeFlipped id (cell_of cell.now)) → ⊥) }
 {
     if cell.id != id {
         return Some(*cell);

@@ -5,7 +5,7 @@ ghost use Rattle.cell_model.specs.Cells.{cell_at};
 ghost use Rattle.restart_laws.specs.Local.{is_in_page, cell_in};
 ghost use Rattle.cell_page.specs.Format.{IsSlotCount, IsCell, IsPage};
 ghost use Rattle.cell_page.specs.Stored.{cell_of, HoldsPage};
-ghost use Rattle.log_replay.specs.Inside.{cells_of, ArePages};
+ghost use Rattle.log_replay.specs.Inside.{cells_of_pages, AreStorePages};
 
 use cell_page::{Cell, Page, page_of};
 use std::marker::Model;
@@ -20,19 +20,19 @@ pub(crate) struct Pages<const SLOTS: usize> {
 impl<const SLOTS: usize> Model for Pages<SLOTS> {
     ghost use Rattle.std.specs.Prelude.{List};
     ghost use Rattle.cell_model.specs.Cells.{Cell as StoredCell};
-    ghost use Rattle.log_replay.specs.Inside.{cells_of, ArePages};
+    ghost use Rattle.log_replay.specs.Inside.{cells_of_pages, AreStorePages};
 
     ghost Value = { List StoredCell };
 
-    ghost view = { λ s. cells_of s.pages.items };
+    ghost view = { λ s. cells_of_pages s.pages.items };
 
-    ghost invariant = { λ s. ArePages s.pages.items };
+    ghost invariant = { λ s. AreStorePages s.pages.items };
 }
 
 impl<const SLOTS: usize> Pages<SLOTS> {
     pub(crate) fn new(pages: Vec<Page<SLOTS>>) -> Pages<SLOTS>
-        requires { ArePages pages.items }
-        ensures { result ≡ cells_of pages.entry.items }
+        requires { AreStorePages pages.items }
+        ensures { result ≡ cells_of_pages pages.entry.items }
     {
         Pages { pages }
     }

@@ -5,8 +5,8 @@ ghost use Rattle.cell_page.specs.Format.{IsSlotCount, IsPage};
 ghost use Rattle.cell_page.specs.Stored.{HoldsPage};
 ghost use Rattle.log_record.specs.Spelling.{HasSpelling, HasCellSpelling};
 ghost use Rattle.log_record.specs.Records.{record_of};
-ghost use Rattle.log_replay.specs.Inside.{cells_of, ArePages};
-ghost use Rattle.log_replay.specs.Replays.{IsReplaying, IsWithin, is_skipped, NotesNothing, FitsCells, FitsReplay, taken};
+ghost use Rattle.log_replay.specs.Inside.{cells_of_pages, AreStorePages};
+ghost use Rattle.log_replay.specs.Replays.{IsReplaying, IsWithin, is_skipped, NotesNothing, FitsUnskippedCells, FitsReplay, after_taking};
 ghost use Rattle.log_replay.specs.Steps.{FitsCell, changed_in, with_cells_after, taken_of_cells, taken_image};
 ghost use Rattle.log_replay.specs.declared.refusals.TakeRefusal.TheVariants.{Unfit, Memory};
 
@@ -46,9 +46,9 @@ impl<const SLOTS: usize> Replay<SLOTS> {
     /// A replay over the pages of a store, before the first record of its log. Of each page so many images are still to
     /// come.
     pub fn over(alloc: Global, pages: Vec<Page<SLOTS>>, skip: Vec<u32>) -> Replay<SLOTS>
-        requires pages { ArePages pages.items }
+        requires pages { AreStorePages pages.items }
         requires skip { length skip.items ≡ length pages.items }
-        ensures { result ≡ record { cells = cells_of pages.entry.items; unended = []; skips = skip.items } }
+        ensures { result ≡ record { cells = cells_of_pages pages.entry.items; unended = []; skips = skip.items } }
     {
         Replay {
             alloc,
@@ -61,7 +61,7 @@ impl<const SLOTS: usize> Replay<SLOTS> {
     /// Takes the next record of the log.
     pub fn take(&mut self, rec: &Record<SLOTS>) -> Result<(), TakeRefusal>
         requires { HasSpelling rec.now }
-        ensures ok { OnOk result (self.new ≡ taken rec.now self.old) }
+        ensures ok { OnOk result (self.new ≡ after_taking rec.now self.old) }
         ensures err { OnErr result (self.new ≡ self.old) }
 
         // `Unfit` is the answer exactly where the record doesn't fit.
@@ -130,7 +130,7 @@ impl<const SLOTS: usize> Replay<SLOTS> {
         requires sized { length self.now.cells ≡ 8 * length self.now.skips + 1 }
         requires within { IsWithin (8 * length self.now.skips) r.now }
         requires spelled { HasCellSpelling SLOTS r.now }
-        ensures { (result ≡ true) ↔ FitsCells self.now.skips self.now.cells (record_of r.now) }
+        ensures { (result ≡ true) ↔ FitsUnskippedCells self.now.skips self.now.cells (record_of r.now) }
     {
         let ids = concerned(r);
         self.fits_cell(r, ids.own) & self.fits_cell(r, ids.from) & self.fits_cell(r, ids.to)
@@ -141,7 +141,7 @@ impl<const SLOTS: usize> Replay<SLOTS> {
     fn take_of_cells(&mut self, r: &CellRecord) -> Result<(), TakeRefusal>
         requires spelled { HasCellSpelling SLOTS r.now }
         requires within { IsWithin (8 * length self.old.skips) r.now }
-        requires fits { FitsCells self.old.skips self.old.cells (record_of r.now) }
+        requires fits { FitsUnskippedCells self.old.skips self.old.cells (record_of r.now) }
         ensures ok { OnOk result (self.new ≡ taken_of_cells SLOTS (record_of r.now) self.old) }
         ensures err { OnErr result (self.new ≡ self.old) }
         ensures memory { IfErr result (λ e. e ≡ Memory) }
@@ -159,7 +159,7 @@ impl<const SLOTS: usize> Replay<SLOTS> {
         requires nothing { NotesNothing r.now }
         requires spelled { HasCellSpelling SLOTS r.now }
         requires within { IsWithin (8 * length self.old.skips) r.now }
-        requires fits { FitsCells self.old.skips self.old.cells (record_of r.now) }
+        requires fits { FitsUnskippedCells self.old.skips self.old.cells (record_of r.now) }
         ensures { self.new ≡ taken_of_cells SLOTS (record_of r.now) self.old }
     {
         unended::leave(&mut self.unended, r);
@@ -171,7 +171,7 @@ impl<const SLOTS: usize> Replay<SLOTS> {
         requires spelled { HasCellSpelling SLOTS r.now }
         requires sized { length self.old.cells ≡ 8 * length self.old.skips + 1 }
         requires within { IsWithin (8 * length self.old.skips) r.now }
-        requires fits { FitsCells self.old.skips self.old.cells (record_of r.now) }
+        requires fits { FitsUnskippedCells self.old.skips self.old.cells (record_of r.now) }
         ensures { self.new ≡ with_cells_after SLOTS (record_of r.now) self.old }
     {
         let ids = concerned(r);

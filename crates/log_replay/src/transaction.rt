@@ -3,7 +3,7 @@
 ghost use Rattle.std.specs.Prelude.{◌≡◌, ◌↔◌, true, Some, None, [], IfNone, IfSome, OnOk, OnErr};
 ghost use Rattle.std.specs.List.{last_or};
 ghost use Rattle.restart_laws.specs.Unended.{just_begun, with_change, without_change};
-ghost use Rattle.log_replay.specs.Steps.{change_of};
+ghost use Rattle.log_replay.specs.Steps.{change_by};
 
 use crate::Memory;
 use plain_model::Place;
@@ -30,11 +30,11 @@ pub(crate) struct Transaction {
 impl Model for Transaction {
     ghost use Rattle.std.specs.Prelude.{map};
     ghost use Rattle.restart_laws.specs.Unended.{Unended};
-    ghost use Rattle.log_replay.specs.Steps.{change_of};
+    ghost use Rattle.log_replay.specs.Steps.{change_by};
 
     ghost Value = { Unended };
 
-    ghost view = { λ t. record { changes = map change_of t.changes.items; aborting = t.aborting } };
+    ghost view = { λ t. record { changes = map change_by t.changes.items; aborting = t.aborting } };
 }
 
 impl Transaction {
@@ -64,7 +64,7 @@ impl Transaction {
 
     /// The last of its writes that isn't undone.
     pub(crate) fn last(&self) -> Option<Write>
-        ensures some { IfSome result (λ w. last_or None self.now.changes ≡ Some (change_of w)) }
+        ensures some { IfSome result (λ w. last_or None self.now.changes ≡ Some (change_by w)) }
         ensures none { IfNone result (self.now.changes ≡ []) }
     {
         self.changes.last().copied()
@@ -72,7 +72,7 @@ impl Transaction {
 
     /// Whether this is the last of its writes that isn't undone.
     pub(crate) fn is_last(&self, write: &Write) -> bool
-        ensures { (result ≡ true) ↔ (last_or None self.now.changes ≡ Some (change_of write.now)) }
+        ensures { (result ≡ true) ↔ (last_or None self.now.changes ≡ Some (change_by write.now)) }
     {
         match self.last() {
             Some(last) => last == *write,
@@ -82,7 +82,7 @@ impl Transaction {
 
     /// One write more. Out of memory is its only error.
     pub(crate) fn note(&mut self, write: Write) -> Result<(), Memory>
-        ensures ok { OnOk result (self.new ≡ with_change (change_of write) self.old) }
+        ensures ok { OnOk result (self.new ≡ with_change (change_by write) self.old) }
         ensures err { OnErr result (self.new ≡ self.old) }
     {
         self.changes.push(write)?;

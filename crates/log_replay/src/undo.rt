@@ -7,9 +7,9 @@ ghost use Rattle.cell_page.specs.Format.{IsSlotCount};
 ghost use Rattle.restart_laws.specs.Restored.{CanBeUndone, undo_of, is_counted_strong, weak_bit};
 ghost use Rattle.log_record.specs.Spelling.{HasCellSpelling, IsPass};
 ghost use Rattle.log_record.specs.Records.{record_of};
-ghost use Rattle.log_replay.specs.Placed.{IsPlaced};
+ghost use Rattle.log_replay.specs.Placed.{IsStoreChange};
 ghost use Rattle.log_replay.specs.Replays.{IsWithin, NotesNothing};
-ghost use Rattle.log_replay.specs.Steps.{change_of};
+ghost use Rattle.log_replay.specs.Steps.{change_by};
 
 use crate::cell_steps::target_in;
 use crate::pages::Pages;
@@ -62,8 +62,8 @@ fn can_undo_payload<const SLOTS: usize>(pages: &Pages<SLOTS>, id: u32, old: u64,
 pub(crate) fn can_undo<const SLOTS: usize>(pages: &Pages<SLOTS>, write: &Write) -> bool
     requires count { IsSlotCount SLOTS }
     requires few { length pages.now ≤ 8193 }
-    requires placed { IsPlaced SLOTS (length pages.now - 1) (change_of write.now) }
-    ensures { (result ≡ true) ↔ CanBeUndone pages.now (change_of write.now) }
+    requires placed { IsStoreChange SLOTS (length pages.now - 1) (change_by write.now) }
+    ensures { (result ≡ true) ↔ CanBeUndone pages.now (change_by write.now) }
 {
     match write.place {
         Place::Slot(slot) => can_undo_slot(
@@ -143,9 +143,9 @@ pub(crate) fn undo_record<const SLOTS: usize>(
     requires count { IsSlotCount SLOTS }
     requires few { length pages.now ≤ 8193 }
     requires client { IsPass pass }
-    requires placed { IsPlaced SLOTS (length pages.now - 1) (change_of write.now) }
-    requires can { CanBeUndone pages.now (change_of write.now) }
-    ensures undo { record_of result ≡ undo_of pages.now pass (change_of write.now) }
+    requires placed { IsStoreChange SLOTS (length pages.now - 1) (change_by write.now) }
+    requires can { CanBeUndone pages.now (change_by write.now) }
+    ensures undo { record_of result ≡ undo_of pages.now pass (change_by write.now) }
     ensures spelled { HasCellSpelling SLOTS result }
     ensures within { IsWithin (length pages.now - 1) result }
     ensures nothing { NotesNothing result }

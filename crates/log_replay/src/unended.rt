@@ -4,7 +4,7 @@ ghost use Rattle.std.specs.Prelude.{◌≡◌, ◌≢◌, ◌↔◌, [], true, I
 ghost use Rattle.restart_laws.specs.Unended.{unended_at, unended_after, changed_at, with_change, without_change, IsRunning, IsLastChange, IsAllUndone, FitsUnended};
 ghost use Rattle.log_record.specs.Records.{record_of};
 ghost use Rattle.log_replay.specs.Replays.{NotesNothing};
-ghost use Rattle.log_replay.specs.Steps.{change_of, place_of_byte, IsFirst};
+ghost use Rattle.log_replay.specs.Steps.{change_by, place_of_byte, IsFirst};
 
 use crate::Memory;
 use crate::transaction::{Transaction, Write};
@@ -39,7 +39,7 @@ fn is_running(unended: &UnendedMap, pass: u8) -> bool
 
 /// Whether the client has a transaction whose last write that isn't undone is this one.
 fn is_last(unended: &UnendedMap, pass: u8, write: &Write) -> bool
-    ensures { (result ≡ true) ↔ IsLastChange (unended_at unended.now.entries pass) (change_of write.now) }
+    ensures { (result ≡ true) ↔ IsLastChange (unended_at unended.now.entries pass) (change_by write.now) }
 {
     match unended.get(&pass) {
         Some(transaction) => transaction.is_last(write),
@@ -90,7 +90,7 @@ pub(crate) fn fits(unended: &UnendedMap, r: &CellRecord) -> bool
 
 /// The client's transaction wrote once more. Out of memory is its only error, and changes nothing.
 fn note(unended: &mut UnendedMap, pass: u8, write: Write) -> Result<(), Memory>
-    ensures ok { OnOk result (unended.new.entries ≡ changed_at unended.old.entries pass (with_change (change_of write))) }
+    ensures ok { OnOk result (unended.new.entries ≡ changed_at unended.old.entries pass (with_change (change_by write))) }
     ensures err { OnErr result (unended.new.entries ≡ unended.old.entries) }
 {
     match unended.get_mut(&pass) {

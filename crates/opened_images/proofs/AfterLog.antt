@@ -21,8 +21,8 @@ use Rattle.log_record.specs.declared.record.Record.TheVariants.{OfCells, Image, 
 use Rattle.log_record.specs.Records.{record_of}
 use Rattle.restart_laws.specs.Local.{Item, OfCells as CellsItem, Image as ImageItem, is_in_page, cell_in, after_item, has_image, replayed}
 use Rattle.restart_laws.specs.Rules.{AreOfPages}
-use Rattle.opened_images.specs.LogRecords.{AreSpelled}
-use Rattle.page_area.specs.Place.{page_in}
+use Rattle.opened_images.specs.LogRecords.{HaveSpellings}
+use Rattle.page_area.specs.Place.{bytes_of_page}
 use Rattle.opened_images.specs.Replayed.{items_of, cell_in_place, cell_after, cells_of_log, IsDamagedPage, AllFitCells}
 use Rattle.opened_images.proofs.SomeOutcome.{no_least}
 use Rattle.opened_images.proofs.FormedCells.{IsFormed, true_false, cell_formed, image_formed, effect_formed}
@@ -79,11 +79,11 @@ take_short zero l low = absurd (omega (arith, low))
 take_short (suc n) [] low = omega arith
 take_short (suc n) (x ∷ xs) low = omega (arith, take_short n xs (omega (arith, low)))
 
-whole_size : (slots page : ℕ) (area : List ℕ) → ((at : ℕ) → FailsAt slots page (page_in slots page area) at → ⊥) → length (page_in slots page area) ≡ page_size slots
+whole_size : (slots page : ℕ) (area : List ℕ) → ((at : ℕ) → FailsAt slots page (bytes_of_page slots page area) at → ⊥) → length (bytes_of_page slots page area) ≡ page_size slots
 whole_size slots page area whole = by (cases_lt (length (drop (page_size slots * page) area)) (page_size slots))
   where
-    by : (length (drop (page_size slots * page) area) < page_size slots) ⊎ (page_size slots ≤ length (drop (page_size slots * page) area)) → length (page_in slots page area) ≡ page_size slots
-    by (inl low) = absurd (whole (length (page_in slots page area)) (inl (take_short (page_size slots) (drop (page_size slots * page) area) low, refl)))
+    by : (length (drop (page_size slots * page) area) < page_size slots) ⊎ (page_size slots ≤ length (drop (page_size slots * page) area)) → length (bytes_of_page slots page area) ≡ page_size slots
+    by (inl low) = absurd (whole (length (bytes_of_page slots page area)) (inl (take_short (page_size slots) (drop (page_size slots * page) area) low, refl)))
     by (inr long) = length-take-le (page_size slots) (drop (page_size slots * page) area) long
 
 -- an id and the first one of its page
@@ -114,7 +114,7 @@ same_images x q r (ImageItem page cells ∷ items) low e = both (same_page_test 
 place_formed : {slots : ℕ} (pages : ℕ) (area : List ℕ) (rs : List (Record slots)) (id : ℕ) → ((page at : ℕ) → page < pages → IsDamagedPage area rs page at → ⊥) → 1 ≤ id → id ≤ 8 * pages
     → has_image id (items_of rs) ≡ false → IsFormed slots (cell_in_place slots area id)
 place_formed {slots} pages area rs id whole low high none =
-    read_formed slots (first_id page + place_of id) (bytes_at slots (page_in slots page area) (place_of id)) (unbroken slots page (page_in slots page area) (whole_size slots page area sound) sound (place_of id) within)
+    read_formed slots (first_id page + place_of id) (bytes_at slots (bytes_of_page slots page area) (place_of id)) (unbroken slots page (bytes_of_page slots page area) (whole_size slots page area sound) sound (place_of id) within)
   where
     page : ℕ
     page = page_of_id id
@@ -128,7 +128,7 @@ place_formed {slots} pages area rs id whole low high none =
     split : id ≡ 8 * page + place_of id + 1
     split = omega (arith, low, div-add-mod (id - 1) 8)
 
-    sound : (at : ℕ) → FailsAt slots page (page_in slots page area) at → ⊥
+    sound : (at : ℕ) → FailsAt slots page (bytes_of_page slots page area) at → ⊥
     sound at fails = whole page at below (record { no_image = sym (same_images id page (place_of id) (items_of rs) within split) ∙ none; fails = fails })
 
 -- ---- one record after another
@@ -143,7 +143,7 @@ after_more : {slots : ℕ} (area : List ℕ) (done : List (Record slots)) (r : R
 after_more {slots} area done r id =
     ap (λ (is : List Item). replayed slots id (cell_in_place slots area id) is) (items-append done (r ∷ [])) ∙ fold-append (after_item slots id) (cell_in_place slots area id) (items_of done) (items_of (r ∷ []))
 
-cells_formed : {slots : ℕ} (pages : ℕ) (area : List ℕ) (done rs : List (Record slots)) (id : ℕ) → 1 ≤ id → id ≤ 8 * pages → AreSpelled rs → AllFitCells pages area done rs []
+cells_formed : {slots : ℕ} (pages : ℕ) (area : List ℕ) (done rs : List (Record slots)) (id : ℕ) → 1 ≤ id → id ≤ 8 * pages → HaveSpellings rs → AllFitCells pages area done rs []
     → (has_image id (items_of rs) ≡ false → IsFormed slots (cell_after slots area done id)) → IsFormed slots (cell_after slots area (done ++ rs) id)
 cells_formed {slots} pages area done [] id low high spelled fit formed = subst (λ (l : List (Record slots)). IsFormed slots (cell_after slots area l id)) (sym (append-nil done)) (formed refl)
 cells_formed {slots} pages area done (OfCells r ∷ rs) id low high spelled fit formed =
@@ -172,7 +172,7 @@ cells_formed {slots} pages area done (Turn version count ∷ rs) id low high spe
 
 -- ---- all cells
 
-pub of_pages : {slots : ℕ} (pages : ℕ) (area : List ℕ) (rs : List (Record slots)) → ((page at : ℕ) → page < pages → IsDamagedPage area rs page at → ⊥) → AreSpelled rs → AllFitCells pages area [] rs []
+pub of_pages : {slots : ℕ} (pages : ℕ) (area : List ℕ) (rs : List (Record slots)) → ((page at : ℕ) → page < pages → IsDamagedPage area rs page at → ⊥) → HaveSpellings rs → AllFitCells pages area [] rs []
     → AreOfPages slots (8 * pages) (cells_of_log slots pages area rs)
 of_pages {slots} pages area rs whole spelled fit = record { none = refl; sized = omega (arith, length-map-range_with_len (cell_after slots area rs) 1 (8 * pages)); empty = empty; slotted = slotted }
   where

@@ -7,7 +7,7 @@ use Rattle.log_record.specs.declared.record.Record.TheVariants.{Turn}
 use Rattle.log_record.specs.Spelling.{record_bytes, HasSpelling, IsTypedRecord, BeginsWith}
 use Rattle.log_record.proofs.ReadLaws.{some_bytes}
 use Rattle.log_record.proofs.Apart.{one_record}
-use Rattle.opened_images.specs.LogRecords.{body_of, AreSpelled, first_of}
+use Rattle.opened_images.specs.LogRecords.{body_of, HaveSpellings, first_records}
 
 pub begins : {slots : ℕ} (r : Record slots) (rest bytes : List ℕ) → HasSpelling r → IsTypedRecord r → bytes ≡ record_bytes r ++ rest → BeginsWith bytes r (length (record_bytes r))
 begins r rest bytes rules typed are = record { rules = rules; typed = typed; rest = rest; are = are; takes = refl }
@@ -21,7 +21,7 @@ none_begins r len b = absurd (none (some_bytes [] r len b))
     none : 1 ≤ 0 → ⊥
     none e = omega arith
 
-pub same_records : {slots : ℕ} → IsSlotCount slots → (rs ss : List (Record slots)) → AreSpelled rs → AreSpelled ss → body_of rs ≡ body_of ss → rs ≡ ss
+pub same_records : {slots : ℕ} → IsSlotCount slots → (rs ss : List (Record slots)) → HaveSpellings rs → HaveSpellings ss → body_of rs ≡ body_of ss → rs ≡ ss
 same_records known [] [] a b e = refl
 same_records known [] (s ∷ ss) a b e = absurd (none_begins s _ (begins s (body_of ss) [] b.0 b.1 e))
 same_records known (r ∷ rs) [] a b e = absurd (none_begins r _ (begins r (body_of rs) [] a.0 a.1 (sym e)))
@@ -34,15 +34,15 @@ same_records known (r ∷ rs) (s ∷ ss) a b e =
 
 -- ---- records of some batches
 
-pub spelled_front : {slots : ℕ} (rs ss : List (Record slots)) → AreSpelled (rs ++ ss) → AreSpelled rs
+pub spelled_front : {slots : ℕ} (rs ss : List (Record slots)) → HaveSpellings (rs ++ ss) → HaveSpellings rs
 spelled_front [] ss a = tt
 spelled_front (r ∷ rs) ss a = (a.0, a.1, spelled_front rs ss a.2)
 
-pub spelled_back : {slots : ℕ} (rs ss : List (Record slots)) → AreSpelled (rs ++ ss) → AreSpelled ss
+pub spelled_back : {slots : ℕ} (rs ss : List (Record slots)) → HaveSpellings (rs ++ ss) → HaveSpellings ss
 spelled_back [] ss a = a
 spelled_back (r ∷ rs) ss a = spelled_back rs ss a.2
 
-pub turn_spelled : (slots n : ℕ) → 1 ≤ n → n ≤ 1024 → AreSpelled (first_of slots n)
+pub turn_spelled : (slots n : ℕ) → 1 ≤ n → n ≤ 1024 → HaveSpellings (first_records slots n)
 turn_spelled slots n some few = ((refl, some, few), omega arith, tt)
 
 pub turn_pages : {slots : ℕ} (version n k : ℕ) → ◌≡◌ {A = List (Record slots)} (Turn version n ∷ []) (Turn version k ∷ []) → n ≡ k

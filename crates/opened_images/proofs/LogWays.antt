@@ -8,7 +8,7 @@ use Rattle.gate_log.specs.Batches.{batch_bytes, batches_bytes, IsBody, AreBodies
 use Rattle.gate_log.specs.CommitBytes.{IsBatchAt, IsDamaged, too_long as long_area, no_commit_byte, no_batches, no_batch as no_batch_behind}
 use Rattle.gate_log.proofs.Logs.{length-sized}
 use Rattle.restart_laws.specs.Unended.{Unended}
-use Rattle.opened_images.specs.LogRecords.{body_of, bodies_of, AreSpelled, AllFitLog, unended_by, unended_by_all, unended_behind, all_of, first_of, AreBatches, log_bytes, BeginsWithBody, IsOfVersion, IsRecordLog, IsDamagedLog, no_first as no_first_batch, no_turn, not_alone, no_batch, no_record}
+use Rattle.opened_images.specs.LogRecords.{body_of, bodies_of, HaveSpellings, AllFitLog, unended_by, unended_by_all, unended_behind, all_of, first_records, AreBatches, log_bytes, BeginsWithBody, IsOfVersion, IsRecordLog, IsDamagedLog, no_first as no_first_batch, no_turn, not_alone, no_batch, no_record}
 use Rattle.opened_images.proofs.Bodies.{spelled_front, spelled_back}
 use Rattle.opened_images.proofs.Ways.{first_byte, Stops, shut_byte, no_byte, cut_batch, bad_record, CanBeRead, unended_through, Told, IsLogOf, IsDamagedAt, HasVersion, told_of, IsUnknown, by_version, by_no_turn, by_more, by_batches, Way, too_long, no_first, by_first, one_way}
 
@@ -48,7 +48,7 @@ through_same : {slots : ℕ} (us : List (ℕ × Unended)) (batches : List (List 
 through_same us [] = refl
 through_same us (b ∷ bs) = through_same (unended_by_all us b) bs ∙ sym (unended_append us b (all_of bs))
 
-can_be_read : {slots : ℕ} (pages : ℕ) (us : List (ℕ × Unended)) (batches : List (List (Record slots))) → AreBodies (bodies_of batches) → AreSpelled (all_of batches) → AllFitLog pages us (all_of batches)
+can_be_read : {slots : ℕ} (pages : ℕ) (us : List (ℕ × Unended)) (batches : List (List (Record slots))) → AreBodies (bodies_of batches) → HaveSpellings (all_of batches) → AllFitLog pages us (all_of batches)
     → CanBeRead pages us batches
 can_be_read pages us [] bodies spelled fit = tt
 can_be_read pages us (b ∷ bs) bodies spelled fit = (
@@ -62,12 +62,12 @@ can_be_read pages us (b ∷ bs) bodies spelled fit = (
 goes_on : {slots : ℕ} (pages : ℕ) (batches : List (List (Record slots))) (rest area : List ℕ) (stop : Option ℕ) → AreBatches pages batches → area ≡ log_bytes pages batches ++ rest → length area ≤ most_bytes
     → Stops slots pages (unended_behind batches) rest stop → Way slots area (told_of pages batches stop)
 goes_on {slots} pages batches rest area stop are e short stops =
-    by_first short (body_of (first_of slots pages)) (batches_bytes (bodies_of batches) ++ rest) (first_whole slots pages)
-    (e ∙ append_assoc (batch_bytes (body_of (first_of slots pages))) (batches_bytes (bodies_of batches)) rest) (told_of pages batches stop)
+    by_first short (body_of (first_records slots pages)) (batches_bytes (bodies_of batches) ++ rest) (first_whole slots pages)
+    (e ∙ append_assoc (batch_bytes (body_of (first_records slots pages))) (batches_bytes (bodies_of batches)) rest) (told_of pages batches stop)
     (by_batches pages (refl, are.some, are.few) refl batches rest stop (can_be_read pages [] batches are.bodies are.spelled are.fit) refl
     (subst (λ (us : List (ℕ × Unended)). Stops slots pages us rest stop) (sym (through_same [] batches)) stops))
   where
-    first_whole : (slots pages : ℕ) → IsBody (body_of (first_of slots pages))
+    first_whole : (slots pages : ℕ) → IsBody (body_of (first_records slots pages))
     first_whole slots pages = record { some = omega arith; fits = omega arith }
 
 -- ---- a log
@@ -109,7 +109,7 @@ behind_way pages batches rest area place are e (no_commit_byte short ends is) =
     at_place area (length (log_bytes pages batches) + 0) place (omega (arith, is))
     (goes_on pages batches rest area (Some 0) are e short (no_byte (no_bytes rest (omega (arith, ends, ap length e, length-append (log_bytes pages batches) rest)))))
 behind_way {slots} pages batches rest area place are e (no_batches short closed zero_is is) =
-    absurd (omega (arith, zero_is, length-append (batch_bytes (body_of (first_of slots pages))) (batches_bytes (bodies_of batches))))
+    absurd (omega (arith, zero_is, length-append (batch_bytes (body_of (first_records slots pages))) (batches_bytes (bodies_of batches))))
 behind_way pages batches rest area place are e (no_batch_behind short cut is) =
     at_place area (length (log_bytes pages batches) + 0) place (omega (arith, is))
     (goes_on pages batches rest area (Some 0) are e short (cut_batch (drop 1 rest) (with_first rest (sym (front_byte (log_bytes pages batches) rest area e) ∙ cut.is_open))
@@ -124,7 +124,7 @@ damage_way area place (no_first_batch d) = start_way area place d
 damage_way {slots} area place (no_turn body first no_version none is) =
     at_place area 5 place is (by_first first.short body first.rest first.whole first.are (IsDamagedAt 5) (by_no_turn (λ number u. no_version number (version_of slots number body area first u)) none))
 damage_way {slots} area place (not_alone pages left rules some first is) =
-    at_place area 9 place is (by_first first.short (body_of (first_of slots pages) ++ left) first.rest first.whole first.are (IsDamagedAt 9) (by_more pages left rules some refl))
+    at_place area 9 place is (by_first first.short (body_of (first_records slots pages) ++ left) first.rest first.whole first.are (IsDamagedAt 9) (by_more pages left rules some refl))
 damage_way area place (no_batch pages batches rest are e d) = behind_way pages batches rest area place are e d
 damage_way area place (no_record pages batches rs s is) =
     at_place area (length (log_bytes pages batches) + (5 + length (body_of rs))) place (omega (arith, is))

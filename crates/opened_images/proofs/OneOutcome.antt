@@ -15,7 +15,7 @@ use Rattle.restart_laws.specs.Unended.{Change, Unended}
 use Rattle.restart_laws.specs.Restored.{undo_of, undo_records, after_records, restored, CanAllBeUndone, CanRestart}
 use Rattle.restart_laws.specs.Rules.{BreaksRule, IsFirstBroken}
 use Rattle.opened_images.specs.LogRecords.{all_of, unended_behind, next_record_at, IsOfVersion, IsRecordLog, IsDamagedLog}
-use Rattle.page_area.specs.Place.{page_in}
+use Rattle.page_area.specs.Place.{bytes_of_page}
 use Rattle.opened_images.specs.Replayed.{cells_of_log, IsDamagedPage, FitsCellsOf, AllFitCells}
 use Rattle.opened_images.specs.Opened.{Outcome, NoStore, UnknownVersion, DamagedLog, DamagedPage, Unsound, OpensTo, KeepsRules, IsStuckAt, RestartsStuckAt, AreCellsRead, Opened, no_store, damaged_log, unknown_version, damaged_page, unfit, unsound, stuck, opens}
 use Rattle.opened_images.proofs.Bodies.{cons_same}
@@ -70,7 +70,7 @@ one_page : {slots : ℕ} (area : List ℕ) (rs : List (Record slots)) (page othe
     → DamagedPage page a ≡ DamagedPage other b
 one_page {slots} area rs page other a b d e least least_too =
     let same = least_same (λ (p : ℕ). (at : ℕ) × IsDamagedPage area rs p at) page other (a, d) (b, e) (λ k low has. least k has.0 low has.1) (λ k low has. least_too k has.0 low has.1) in
-    pages_same page other a b same (one_fail slots page (page_in slots page area) a b d.fails (subst (λ (p : ℕ). IsDamagedPage area rs p b) (sym same) e).fails)
+    pages_same page other a b same (one_fail slots page (bytes_of_page slots page area) a b d.fails (subst (λ (p : ℕ). IsDamagedPage area rs p b) (sym same) e).fails)
 
 -- ---- records that don't fit the cells
 

@@ -17,9 +17,9 @@ use Rattle.restart_laws.specs.Local.{is_in_page}
 use Rattle.restart_laws.proofs.RuleLaws.{consistent-rules}
 use Rattle.store_model.proofs.FreshSound.{fresh-sound}
 use Rattle.opened_images.specs.LogRecords.{AreBatches, HasNoNext, AllFitLog, log_bytes}
-use Rattle.page_area.specs.Place.{page_in}
+use Rattle.page_area.specs.Place.{bytes_of_page}
 use Rattle.opened_images.specs.Replayed.{cells_of_log, IsDamagedPage, FitsCellsOf, AllFitCells}
-use Rattle.opened_images.specs.Opened.{UnknownVersion, DamagedLog, DamagedPage, OpensTo, IsRead, ArePagesRead, Opened, unknown_version, damaged_log, damaged_page, unfit, opens}
+use Rattle.opened_images.specs.Opened.{UnknownVersion, DamagedLog, DamagedPage, OpensTo, IsLogRead, ArePagesRead, Opened, unknown_version, damaged_log, damaged_page, unfit, opens}
 use Rattle.opened_images.specs.LogRecords.{no_record}
 
 -- the pages of a fresh store, and a log of this version
@@ -74,7 +74,7 @@ log_a_at_14 = damaged_log LogA 14 refl (no_record 1 [] [] (record {
 }) refl)
 
 -- a log without records
-fresh_log : (pages : List ℕ) → IsRead {slots = 6} (image pages (first_batch 1 ++ 0 ∷ [])) LogA 1 []
+fresh_log : (pages : List ℕ) → IsLogRead {slots = 6} (image pages (first_batch 1 ++ 0 ∷ [])) LogA 1 []
 unfolding image first_batch
 fresh_log pages = record {
   named = refl;
@@ -108,7 +108,7 @@ fresh_cells_read = refl
 none_is_some : (n : ℕ) → None ≡ Some n → ⊥
 none_is_some n e = cc
 
-none_broken : (place offset : ℕ) → place < 8 → broken_in_cell 6 (first_id 0 + place) (bytes_at 6 (page_in 6 0 fresh_pages) place) ≡ Some offset → ⊥
+none_broken : (place offset : ℕ) → place < 8 → broken_in_cell 6 (first_id 0 + place) (bytes_at 6 (bytes_of_page 6 0 fresh_pages) place) ≡ Some offset → ⊥
 unfolding fresh_pages cell_bytes field_bytes broken_in_cell bits_break cell_in number_at
 none_broken zero offset low e = none_is_some offset e
 none_broken (suc zero) offset low e = none_is_some offset e
@@ -122,12 +122,12 @@ none_broken (suc (suc (suc (suc (suc (suc (suc (suc k)))))))) offset low e = abs
 
 whole : (rs : List (Record 6)) (page at : ℕ) → page < 1 → IsDamagedPage fresh_pages rs page at → ⊥
 unfolding fresh_pages cell_bytes field_bytes
-whole rs page at low damaged = at_zero (subst (λ (p : ℕ). FailsAt 6 p (page_in 6 p fresh_pages) at) none damaged.fails)
+whole rs page at low damaged = at_zero (subst (λ (p : ℕ). FailsAt 6 p (bytes_of_page 6 p fresh_pages) at) none damaged.fails)
   where
     none : page ≡ 0
     none = omega arith
 
-    at_zero : FailsAt 6 0 (page_in 6 0 fresh_pages) at → ⊥
+    at_zero : FailsAt 6 0 (bytes_of_page 6 0 fresh_pages) at → ⊥
     at_zero (inl short) = absurd (omega (arith, short.0))
     at_zero (inr broken) = none_broken broken.1.place broken.1.offset broken.1.within broken.1.here
 
@@ -165,7 +165,7 @@ made_fit = ((tt, refl), ((lit≤ tt, refl), (((lit≤ tt, lit≤ tt, lit≤ tt),
 root_made : List (Record 6)
 root_made = OfCells (Begin 1) ∷ OfCells (Make 1 1) ∷ []
 
-root_log : IsRead {slots = 6} (image fresh_pages (log_bytes 1 (root_made ∷ []) ++ 0 ∷ [])) LogA 1 (root_made ∷ [])
+root_log : IsLogRead {slots = 6} (image fresh_pages (log_bytes 1 (root_made ∷ []) ++ 0 ∷ [])) LogA 1 (root_made ∷ [])
 unfolding image root_made cell_record_bytes
 root_log = record {
   named = refl;
@@ -219,7 +219,7 @@ image_later = ((λ id low high none. tt), ((λ id low high none. absurd (in_firs
 wide_pages : List ℕ
 wide_pages = page_bytes (fresh_page 14 0)
 
-wide_log : IsRead {slots = 14} (image wide_pages (first_batch 2 ++ 0 ∷ [])) LogA 1 []
+wide_log : IsLogRead {slots = 14} (image wide_pages (first_batch 2 ++ 0 ∷ [])) LogA 1 []
 unfolding image first_batch
 wide_log = record {
   named = refl;

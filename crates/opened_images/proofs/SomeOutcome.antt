@@ -17,9 +17,9 @@ use Rattle.log_record.proofs.ReadLaws.{some_bytes}
 use Rattle.restart_laws.specs.Unended.{Change, Unended}
 use Rattle.restart_laws.specs.Restored.{undo_of, undo_records, after_records, restored, CanAllBeUndone, CanRestart}
 use Rattle.restart_laws.specs.Rules.{BreaksRule, IsFirstBroken}
-use Rattle.opened_images.specs.LogRecords.{body_of, bodies_of, AreSpelled, AllFitLog, unended_by, unended_by_all, unended_behind, all_of, first_of, AreBatches, log_bytes, BeginsWithBody, IsOfVersion, IsRecordLog, IsDamagedLog, no_first, no_turn, not_alone, no_batch, no_record}
+use Rattle.opened_images.specs.LogRecords.{body_of, bodies_of, HaveSpellings, AllFitLog, unended_by, unended_by_all, unended_behind, all_of, first_records, AreBatches, log_bytes, BeginsWithBody, IsOfVersion, IsRecordLog, IsDamagedLog, no_first, no_turn, not_alone, no_batch, no_record}
 use Rattle.opened_images.specs.Replayed.{cells_of_log, IsDamagedPage, FitsCellsOf, AllFitCells}
-use Rattle.opened_images.specs.Opened.{Outcome, NoStore, UnknownVersion, DamagedLog, DamagedPage, Unsound, OpensTo, KeepsRules, IsStuckAt, RestartsStuckAt, IsRead, ArePagesRead, AreCellsRead, Opened, no_store, damaged_log, unknown_version, damaged_page, unfit, unsound, stuck, opens}
+use Rattle.opened_images.specs.Opened.{Outcome, NoStore, UnknownVersion, DamagedLog, DamagedPage, Unsound, OpensTo, KeepsRules, IsStuckAt, RestartsStuckAt, IsLogRead, ArePagesRead, AreCellsRead, Opened, no_store, damaged_log, unknown_version, damaged_page, unfit, unsound, stuck, opens}
 use Rattle.opened_images.proofs.Bodies.{cons_same}
 use Rattle.opened_images.proofs.LogWays.{front_byte}
 use Rattle.opened_images.proofs.OneOutcome.{heads, tails, fits_same}
@@ -157,7 +157,7 @@ pages_go {slots} image area pages batches none read =
     λ fit. cells_go image area pages batches (cells_of_log slots pages image.pages (all_of batches)) none (record { pages_read = read; fit = fit; are = refl })
     )
 
-log_goes : {slots : ℕ} (image : Bytes) (area : Area) (pages : ℕ) (batches : List (List (Record slots))) → OpensNowhere slots image → IsRead image area pages batches → ⊥
+log_goes : {slots : ℕ} (image : Bytes) (area : Area) (pages : ℕ) (batches : List (List (Record slots))) → OpensNowhere slots image → IsLogRead image area pages batches → ⊥
 log_goes {slots} image area pages batches none read = pages_go image area pages batches none (record { read = read; whole = whole })
   where
     whole : (page at : ℕ) → page < pages → IsDamagedPage image.pages (all_of batches) page at → ⊥
@@ -168,11 +168,11 @@ log_goes {slots} image area pages batches none read = pages_go image area pages 
 
 -- ---- the log
 
-spelled_more : {slots : ℕ} (rs : List (Record slots)) (r : Record slots) → AreSpelled rs → HasSpelling r → IsTypedRecord r → AreSpelled (rs ++ r ∷ [])
+spelled_more : {slots : ℕ} (rs : List (Record slots)) (r : Record slots) → HaveSpellings rs → HasSpelling r → IsTypedRecord r → HaveSpellings (rs ++ r ∷ [])
 spelled_more [] r a rules typed = (rules, typed, tt)
 spelled_more (q ∷ rs) r a rules typed = (a.0, a.1, spelled_more rs r a.2 rules typed)
 
-spelled_both : {slots : ℕ} (rs ss : List (Record slots)) → AreSpelled rs → AreSpelled ss → AreSpelled (rs ++ ss)
+spelled_both : {slots : ℕ} (rs ss : List (Record slots)) → HaveSpellings rs → HaveSpellings ss → HaveSpellings (rs ++ ss)
 spelled_both [] ss a b = b
 spelled_both (r ∷ rs) ss a b = (a.0, a.1, spelled_both rs ss a.2 b)
 
@@ -180,7 +180,7 @@ fit_more : {slots : ℕ} (pages : ℕ) (us : List (ℕ × Unended)) (rs ss : Lis
 fit_more pages us [] ss f g = g
 fit_more pages us (r ∷ rs) ss f g = (f.0, fit_more pages (unended_by us r) rs ss f.1 g)
 
-batch_whole : (slots pages : ℕ) → IsBody (body_of (first_of slots pages))
+batch_whole : (slots pages : ℕ) → IsBody (body_of (first_records slots pages))
 batch_whole slots pages = record { some = omega arith; fits = omega arith }
 
 body_more : {slots : ℕ} (rs : List (Record slots)) (r : Record slots) → body_of (rs ++ r ∷ []) ≡ body_of rs ++ record_bytes r
@@ -197,16 +197,16 @@ all_more {slots} (b ∷ bs) rs = ap (λ (l : List (Record slots)). b ++ l) (all_
 
 log_more : {slots : ℕ} (pages : ℕ) (batches : List (List (Record slots))) (rs : List (Record slots)) → log_bytes pages (batches ++ rs ∷ []) ≡ log_bytes pages batches ++ batch_bytes (body_of rs)
 log_more {slots} pages batches rs =
-    ap (λ (bs : List (List ℕ)). batches_bytes (body_of (first_of slots pages) ∷ bs)) (bodies_more batches rs) ∙ bytes-push (body_of (first_of slots pages) ∷ bodies_of batches) (body_of rs)
+    ap (λ (bs : List (List ℕ)). batches_bytes (body_of (first_records slots pages) ∷ bs)) (bodies_more batches rs) ∙ bytes-push (body_of (first_records slots pages) ∷ bodies_of batches) (body_of rs)
 
-batches_more : {slots : ℕ} (pages : ℕ) (batches : List (List (Record slots))) (rs : List (Record slots)) → AreBatches pages batches → IsBody (body_of rs) → AreSpelled rs → AllFitLog pages (unended_behind batches) rs
+batches_more : {slots : ℕ} (pages : ℕ) (batches : List (List (Record slots))) (rs : List (Record slots)) → AreBatches pages batches → IsBody (body_of rs) → HaveSpellings rs → AllFitLog pages (unended_behind batches) rs
     → AreBatches pages (batches ++ rs ∷ [])
 batches_more {slots} pages batches rs are whole spelled fit =
     record {
       some = are.some;
       few = are.few;
       bodies = subst AreBodies (sym (bodies_more batches rs)) (bodies-push (bodies_of batches) (body_of rs) are.bodies whole);
-      spelled = subst (λ (l : List (Record slots)). AreSpelled l) (sym (all_more batches rs)) (spelled_both (all_of batches) rs are.spelled spelled);
+      spelled = subst (λ (l : List (Record slots)). HaveSpellings l) (sym (all_more batches rs)) (spelled_both (all_of batches) rs are.spelled spelled);
       fit = subst (λ (l : List (Record slots)). AllFitLog pages [] l) (sym (all_more batches rs)) (fit_more pages [] (all_of batches) rs are.fit fit);
     }
 
@@ -226,8 +226,8 @@ record_some bytes r len n b low =
 module _ {slots : ℕ} (area : List ℕ) (pages : ℕ) (whole_area : (place : ℕ) → IsDamagedLog slots area place → ⊥) (no_log : (batches : List (List (Record slots))) → IsRecordLog pages batches area → ⊥) (short : length area ≤ most_bytes) where
   -- the records of a body, of which fewer than so many bytes are left
   body_goes : (batches : List (List (Record slots))) → AreBatches pages batches → (body rest : List ℕ) → IsBody body → area ≡ log_bytes pages batches ++ (batch_bytes body ++ rest)
-      → ((rs : List (Record slots)) → AreSpelled rs → AllFitLog pages (unended_behind batches) rs → body ≡ body_of rs → ⊥)
-      → (n : ℕ) (rs : List (Record slots)) (left : List ℕ) → length left < n → AreSpelled rs → AllFitLog pages (unended_behind batches) rs → body ≡ body_of rs ++ left → ⊥
+      → ((rs : List (Record slots)) → HaveSpellings rs → AllFitLog pages (unended_behind batches) rs → body ≡ body_of rs → ⊥)
+      → (n : ℕ) (rs : List (Record slots)) (left : List ℕ) → length left < n → HaveSpellings rs → AllFitLog pages (unended_behind batches) rs → body ≡ body_of rs ++ left → ⊥
   body_goes batches are body rest is e done zero rs left low spelled fit split = absurd (omega (arith, low))
   body_goes batches are body rest is e done (suc n) rs [] low spelled fit split = done rs spelled fit (split ∙ append-nil (body_of rs))
   body_goes batches are body rest is e done (suc n) rs (x ∷ xs) low spelled fit split =
@@ -288,11 +288,11 @@ module _ {slots : ℕ} (area : List ℕ) (pages : ℕ) (whole_area : (place : �
 module _ {slots : ℕ} (area : List ℕ) (whole_area : (place : ℕ) → IsDamagedLog slots area place → ⊥) (no_version : (number : ℕ) → IsOfVersion slots number area → ⊥)
     (no_log : (pages : ℕ) (batches : List (List (Record slots))) → IsRecordLog pages batches area → ⊥) (short : length area ≤ most_bytes) where
   -- behind the first batch's `Turn`
-  turn_goes : (pages : ℕ) (body : List ℕ) → BeginsWithBody body area → HasSpelling {slots = slots} (Turn (known_version slots) pages) → (left : List ℕ) → body ≡ body_of (first_of slots pages) ++ left → ⊥
+  turn_goes : (pages : ℕ) (body : List ℕ) → BeginsWithBody body area → HasSpelling {slots = slots} (Turn (known_version slots) pages) → (left : List ℕ) → body ≡ body_of (first_records slots pages) ++ left → ⊥
   turn_goes pages body first rules [] e =
       batches_go {slots = slots} area pages whole_area (no_log pages) short (suc (length first.rest)) [] first.rest (omega arith)
       (record { some = rules.1; few = rules.2; bodies = tt; spelled = tt; fit = tt })
-      (first.are ∙ ap (λ (b : List ℕ). batch_bytes b ++ first.rest) (e ∙ append-nil (body_of (first_of slots pages))) ∙ ap (λ (l : List ℕ). l ++ first.rest) (sym (append-nil (batch_bytes (body_of (first_of slots pages))))))
+      (first.are ∙ ap (λ (b : List ℕ). batch_bytes b ++ first.rest) (e ∙ append-nil (body_of (first_records slots pages))) ∙ ap (λ (l : List ℕ). l ++ first.rest) (sym (append-nil (batch_bytes (body_of (first_records slots pages))))))
   turn_goes pages body first rules (x ∷ xs) e =
       whole_area 9 (not_alone pages (x ∷ xs) rules (omega arith) (subst (λ (b : List ℕ). BeginsWithBody b area) e first) refl)
 

@@ -29,7 +29,7 @@ use Rattle.restart_laws.specs.Rules.{AreOfPages}
 use Rattle.restart_laws.proofs.PlaceLaws.{places-found}
 use Rattle.restart_laws.proofs.RestartSteps.{after_records-append}
 use Rattle.restart_laws.proofs.RuleLaws.{rules-consistent}
-use Rattle.opened_images.specs.LogRecords.{AreSpelled, unended_by_all, unended_behind, all_of}
+use Rattle.opened_images.specs.LogRecords.{HaveSpellings, unended_by_all, unended_behind, all_of}
 use Rattle.opened_images.specs.Opened.{Outcome, OpensTo, Opened, no_store, damaged_log, unknown_version, damaged_page, unfit, unsound, stuck, opens}
 use Rattle.opened_images.proofs.AfterLog.{of_pages}
 
@@ -104,7 +104,7 @@ places_after slots us (FlipRecord id) rules h = h
 places_after slots us (CutDeadRecord id slot target was_strong) rules h = h
 places_after slots us (FreeRecord id) rules h = h
 
-places_after_all : {slots : ℕ} (us : List (ℕ × Unended)) (rs : List (Record slots)) → AreSpelled rs → HavePlaces slots us → HavePlaces slots (unended_by_all us rs)
+places_after_all : {slots : ℕ} (us : List (ℕ × Unended)) (rs : List (Record slots)) → HaveSpellings rs → HavePlaces slots us → HavePlaces slots (unended_by_all us rs)
 places_after_all us [] spelled h = h
 places_after_all {slots} us (OfCells r ∷ rs) spelled h = places_after_all (unended_after us (record_of r)) rs spelled.2 (places_after slots us r spelled.0 h)
 places_after_all us (Image page held ∷ rs) spelled h = places_after_all us rs spelled.2 h

@@ -11,7 +11,7 @@ use Rattle.log_record.specs.Spelling.{record_bytes, known_version, HasSpelling, 
 use Rattle.log_record.proofs.Apart.{one_record}
 use Rattle.gate_log.specs.Batches.{sized, batch_bytes, batches_bytes, IsBody, most_bytes}
 use Rattle.restart_laws.specs.Unended.{Unended}
-use Rattle.opened_images.specs.LogRecords.{body_of, bodies_of, AreSpelled, AllFitLog, unended_by, unended_by_all, first_of, log_bytes, HasNoNext}
+use Rattle.opened_images.specs.LogRecords.{body_of, bodies_of, HaveSpellings, AllFitLog, unended_by, unended_by_all, first_records, log_bytes, HasNoNext}
 use Rattle.opened_images.proofs.Bodies.{begins, none_begins, cons_same, same_records, turn_spelled, turn_pages}
 
 -- ---- one batch
@@ -34,7 +34,7 @@ first_same a b r s is_a is_b same =
 
 -- records that fit, as far as they go
 pub same_ways : {slots : ℕ} → IsSlotCount slots → (pages : ℕ) (us : List (ℕ × Unended)) (rs ss : List (Record slots)) (left more : List ℕ)
-    → AreSpelled rs → AreSpelled ss → AllFitLog pages us rs → AllFitLog pages us ss
+    → HaveSpellings rs → HaveSpellings ss → AllFitLog pages us rs → AllFitLog pages us ss
     → HasNoNext slots pages (unended_by_all us rs) left → HasNoNext slots pages (unended_by_all us ss) more
     → body_of rs ++ left ≡ body_of ss ++ more → (rs ≡ ss) × (left ≡ more)
 same_ways known pages us [] [] left more a b f g none nope e = (refl, e)
@@ -58,14 +58,14 @@ pub data Stops (slots pages : ℕ) (us : List (ℕ × Unended)) (rest : List ℕ
   shut_byte : (byte : ℕ) (more : List ℕ) → byte ≢ 1 → rest ≡ byte ∷ more → Stops slots pages us rest None
   no_byte : rest ≡ [] → Stops slots pages us rest (Some 0)
   cut_batch : (more : List ℕ) → rest ≡ 1 ∷ more → ((body later : List ℕ) → IsBody body → rest ≡ batch_bytes body ++ later → ⊥) → Stops slots pages us rest (Some 0)
-  bad_record : (rs : List (Record slots)) (left more : List ℕ) → AreSpelled rs → AllFitLog pages us rs → 1 ≤ length left → HasNoNext slots pages (unended_by_all us rs) left
+  bad_record : (rs : List (Record slots)) (left more : List ℕ) → HaveSpellings rs → AllFitLog pages us rs → 1 ≤ length left → HasNoNext slots pages (unended_by_all us rs) left
       → IsBody (body_of rs ++ left) → rest ≡ batch_bytes (body_of rs ++ left) ++ more → Stops slots pages us rest (Some (5 + length (body_of rs)))
 
 none_is : (x : ℕ) (xs : List ℕ) → [] ≡ x ∷ xs → ⊥
 none_is x xs e = cc
 
 no_batch_goes : {slots : ℕ} → IsSlotCount slots → (pages : ℕ) (us : List (ℕ × Unended)) (rest : List ℕ) (stop : Option ℕ) → Stops slots pages us rest stop
-    → (rs : List (Record slots)) (more : List ℕ) → AreSpelled rs → AllFitLog pages us rs → IsBody (body_of rs) → rest ≡ batch_bytes (body_of rs) ++ more → ⊥
+    → (rs : List (Record slots)) (more : List ℕ) → HaveSpellings rs → AllFitLog pages us rs → IsBody (body_of rs) → rest ≡ batch_bytes (body_of rs) ++ more → ⊥
 no_batch_goes known pages us rest stop (shut_byte byte later shut are) rs more spelled fit whole e = shut (ap first_byte (sym are ∙ e))
 no_batch_goes known pages us rest stop (no_byte are) rs more spelled fit whole e = none_is _ _ (sym are ∙ e)
 no_batch_goes known pages us rest stop (cut_batch later are none) rs more spelled fit whole e = none (body_of rs) more whole e
@@ -103,7 +103,7 @@ one_stop {slots} known pages us rest stop other (bad_record rs over m ok fits so
 -- these batches can be read, where these transactions haven't ended
 abbrev pub CanBeRead : {slots : ℕ} → ℕ → List (ℕ × Unended) → List (List (Record slots)) → Type 0
 CanBeRead pages us [] = Unit {0}
-CanBeRead pages us (b ∷ bs) = IsBody (body_of b) × AreSpelled b × AllFitLog pages us b × CanBeRead pages (unended_by_all us b) bs
+CanBeRead pages us (b ∷ bs) = IsBody (body_of b) × HaveSpellings b × AllFitLog pages us b × CanBeRead pages (unended_by_all us b) bs
 
 abbrev pub unended_through : {slots : ℕ} → List (ℕ × Unended) → List (List (Record slots)) → List (ℕ × Unended)
 unended_through us [] = us
@@ -152,15 +152,15 @@ pub record IsUnknown (slots number : ℕ) (body : List ℕ) : Type 0 where
 pub data ByBody (slots : ℕ) (body rest : List ℕ) : Told slots → Type 0 where
   by_version : (number : ℕ) → IsUnknown slots number body → ByBody slots body rest (HasVersion number)
   by_no_turn : ((number : ℕ) → IsUnknown slots number body → ⊥) → ((pages len : ℕ) → BeginsWith {slots = slots} body (Turn (known_version slots) pages) len → ⊥) → ByBody slots body rest (IsDamagedAt 5)
-  by_more : (pages : ℕ) (left : List ℕ) → HasSpelling {slots = slots} (Turn (known_version slots) pages) → 1 ≤ length left → body ≡ body_of (first_of slots pages) ++ left → ByBody slots body rest (IsDamagedAt 9)
-  by_batches : (pages : ℕ) → HasSpelling {slots = slots} (Turn (known_version slots) pages) → body ≡ body_of (first_of slots pages)
+  by_more : (pages : ℕ) (left : List ℕ) → HasSpelling {slots = slots} (Turn (known_version slots) pages) → 1 ≤ length left → body ≡ body_of (first_records slots pages) ++ left → ByBody slots body rest (IsDamagedAt 9)
+  by_batches : (pages : ℕ) → HasSpelling {slots = slots} (Turn (known_version slots) pages) → body ≡ body_of (first_records slots pages)
       → (batches : List (List (Record slots))) (later : List ℕ) (stop : Option ℕ) → CanBeRead pages [] batches → rest ≡ batches_bytes (bodies_of batches) ++ later
       → Stops slots pages (unended_through [] batches) later stop → ByBody slots body rest (told_of pages batches stop)
 
 abbrev second_byte : List ℕ → ℕ
 second_byte bytes = slice_index bytes 1
 
-turn_begins : (slots pages : ℕ) (left body : List ℕ) → HasSpelling {slots = slots} (Turn (known_version slots) pages) → body ≡ body_of (first_of slots pages) ++ left
+turn_begins : (slots pages : ℕ) (left body : List ℕ) → HasSpelling {slots = slots} (Turn (known_version slots) pages) → body ≡ body_of (first_records slots pages) ++ left
     → BeginsWith {slots = slots} body (Turn (known_version slots) pages) 4
 turn_begins slots pages left body rules e = record { rules = rules; typed = omega (arith, rules.2); rest = left; are = e; takes = refl }
 
@@ -187,7 +187,7 @@ one_by_body known body rest a b (by_batches pages rules e bs later stop can are 
 one_by_body {slots} known body rest a b (by_batches pages rules e bs later stop can are stops) (by_no_turn denied none) = absurd (none pages 4 (turn_begins slots pages [] body rules e))
 one_by_body known body rest a b (by_batches pages rules e bs later stop can are stops) (by_more count more rules_too any f) = absurd (omega (arith, any, ap length (sym f ∙ e)))
 one_by_body {slots} known body rest a b (by_batches pages rules e bs later stop can are stops) (by_batches count rules_too f cs more other may is ends) =
-    let turns = same_records known (first_of slots pages) (first_of slots count) (turn_spelled slots pages rules.1 rules.2) (turn_spelled slots count rules_too.1 rules_too.2) (sym e ∙ f) in
+    let turns = same_records known (first_records slots pages) (first_records slots count) (turn_spelled slots pages rules.1 rules.2) (turn_spelled slots count rules_too.1 rules_too.2) (sym e ∙ f) in
     let same = turn_pages _ _ _ turns in
     told_same pages count bs cs stop other same (
     one_run known pages [] bs cs later more stop other can (subst (λ (n : ℕ). CanBeRead n [] cs) (sym same) may) (sym are ∙ is) stops

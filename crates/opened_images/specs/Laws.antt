@@ -5,14 +5,14 @@ use Rattle.cell_model.specs.Consistent.{AreConsistent}
 use Rattle.cell_page.specs.Format.{IsSlotCount}
 use Rattle.disk_model.specs.Areas.{Bytes}
 use Rattle.log_record.specs.declared.record.Record.{Record}
-use Rattle.opened_images.specs.LogRecords.{body_of, AreSpelled, IsRecordLog, IsDamagedLog}
+use Rattle.opened_images.specs.LogRecords.{body_of, HaveSpellings, IsRecordLog, IsDamagedLog}
 use Rattle.opened_images.specs.Opened.{Outcome, OpensTo, Opened}
 
 -- ---- log areas
 
 -- a body has one list of records
 abbrev pub OneBodyLaw : Type 0
-OneBodyLaw = (slots : ℕ) (rs ss : List (Record slots)) → IsSlotCount slots → AreSpelled rs → AreSpelled ss → body_of rs ≡ body_of ss → rs ≡ ss
+OneBodyLaw = (slots : ℕ) (rs ss : List (Record slots)) → IsSlotCount slots → HaveSpellings rs → HaveSpellings ss → body_of rs ≡ body_of ss → rs ≡ ss
 
 -- a log area tells one number of pages and one list of batches of records
 abbrev pub OneLogLaw : Type 0

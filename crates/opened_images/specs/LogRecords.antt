@@ -21,9 +21,9 @@ abbrev pub bodies_of : {slots : ℕ} → List (List (Record slots)) → List (Li
 bodies_of batches = map body_of batches
 
 -- each of these records has a spelling
-abbrev pub AreSpelled : {slots : ℕ} → List (Record slots) → Type 0
-AreSpelled [] = ⊤
-AreSpelled (r ∷ rs) = HasSpelling r × IsTypedRecord r × AreSpelled rs
+abbrev pub HaveSpellings : {slots : ℕ} → List (Record slots) → Type 0
+HaveSpellings [] = ⊤
+HaveSpellings (r ∷ rs) = HasSpelling r × IsTypedRecord r × HaveSpellings rs
 
 -- ---- which record fits
 
@@ -59,20 +59,20 @@ abbrev pub unended_behind : {slots : ℕ} → List (List (Record slots)) → Lis
 unended_behind batches = unended_by_all [] (all_of batches)
 
 -- the records of a log's first batch
-abbrev pub first_of : (slots pages : ℕ) → List (Record slots)
-first_of slots pages = Turn (known_version slots) pages ∷ []
+abbrev pub first_records : (slots pages : ℕ) → List (Record slots)
+first_records slots pages = Turn (known_version slots) pages ∷ []
 
 -- These batches follow the log's first one, which tells that the store has so many pages, and their records fit.
 pub record AreBatches {slots : ℕ} (pages : ℕ) (batches : List (List (Record slots))) : Type 0 where
   pub some : 1 ≤ pages
   pub few : pages ≤ 1024
   pub bodies : AreBodies (bodies_of batches)
-  pub spelled : AreSpelled (all_of batches)
+  pub spelled : HaveSpellings (all_of batches)
   pub fit : AllFitLog pages [] (all_of batches)
 
 -- the bytes of the batches, the first one too
 abbrev pub log_bytes : {slots : ℕ} → ℕ → List (List (Record slots)) → List ℕ
-log_bytes {slots} pages batches = batches_bytes (body_of (first_of slots pages) ∷ bodies_of batches)
+log_bytes {slots} pages batches = batches_bytes (body_of (first_records slots pages) ∷ bodies_of batches)
 
 -- where the next record stands, behind these batches and these records of the batch behind them
 abbrev pub next_record_at : {slots : ℕ} → ℕ → List (List (Record slots)) → List (Record slots) → ℕ
@@ -81,7 +81,7 @@ next_record_at pages batches rs = length (log_bytes pages batches) + 5 + length 
 -- The area is the log of a store of so many pages, with these batches of records behind its first one.
 pub record IsRecordLog {slots : ℕ} (pages : ℕ) (batches : List (List (Record slots))) (area : List ℕ) : Type 0 where
   pub batches_are : AreBatches pages batches
-  pub log : IsLog most_bytes (body_of (first_of slots pages) ∷ bodies_of batches) area
+  pub log : IsLog most_bytes (body_of (first_records slots pages) ∷ bodies_of batches) area
 
 -- ---- a damaged log
 
@@ -107,7 +107,7 @@ pub record IsOfVersion (slots version : ℕ) (area : List ℕ) : Type 0 where
 -- begins what is left of it.
 pub record StopsBehind {slots : ℕ} (pages : ℕ) (batches : List (List (Record slots))) (rs : List (Record slots)) (area : List ℕ) : Type 0 where
   pub read : AreBatches pages batches
-  pub spelled : AreSpelled rs
+  pub spelled : HaveSpellings rs
   pub fit : AllFitLog pages (unended_behind batches) rs
   pub left : List ℕ
   pub some : 1 ≤ length left
@@ -126,7 +126,7 @@ pub data IsDamagedLog (slots : ℕ) (area : List ℕ) (place : ℕ) : Type 0 whe
       → ((pages len : ℕ) → BeginsWith {slots = slots} body (Turn (known_version slots) pages) len → ⊥) → place ≡ 5 → IsDamagedLog slots area place
   -- something follows the `Turn`
   not_alone : (pages : ℕ) (left : List ℕ) → HasSpelling {slots = slots} (Turn (known_version slots) pages) → 1 ≤ length left
-      → BeginsWithBody (body_of (first_of slots pages) ++ left) area → place ≡ 9 → IsDamagedLog slots area place
+      → BeginsWithBody (body_of (first_records slots pages) ++ left) area → place ≡ 9 → IsDamagedLog slots area place
   -- behind these batches the commit byte is missing, or the batch behind it is cut off
   no_batch : (pages : ℕ) (batches : List (List (Record slots))) (rest : List ℕ) → AreBatches pages batches → area ≡ log_bytes pages batches ++ rest
       → IsDamaged (length (log_bytes pages batches)) place area → IsDamagedLog slots area place

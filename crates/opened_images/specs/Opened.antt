@@ -43,13 +43,13 @@ RestartsStuckAt slots cells (e ∷ es) id =
 -- ---- the tests in order, each with what passed before it
 
 -- the super area names this area, which is the log of a store of so many pages, with these batches of records
-pub record IsRead {slots : ℕ} (image : Bytes) (area : Area) (pages : ℕ) (batches : List (List (Record slots))) : Type 0 where
+pub record IsLogRead {slots : ℕ} (image : Bytes) (area : Area) (pages : ℕ) (batches : List (List (Record slots))) : Type 0 where
   pub named : named_by image.super_area ≡ Some area
   pub log : IsRecordLog pages batches (in_area image area)
 
 -- and each page without an image is whole
 pub record ArePagesRead {slots : ℕ} (image : Bytes) (area : Area) (pages : ℕ) (batches : List (List (Record slots))) : Type 0 where
-  pub read : IsRead image area pages batches
+  pub read : IsLogRead image area pages batches
   pub whole : (page at : ℕ) → page < pages → IsDamagedPage image.pages (all_of batches) page at → ⊥
 
 -- and each record fits the cells, so that these are the cells after the log
@@ -64,7 +64,7 @@ pub data Opened (slots : ℕ) (image : Bytes) : Outcome → Type 0 where
   damaged_log : (area : Area) (at : ℕ) → named_by image.super_area ≡ Some area → IsDamagedLog slots (in_area image area) at → Opened slots image (DamagedLog area at)
   unknown_version : (area : Area) (byte : ℕ) → named_by image.super_area ≡ Some area → IsOfVersion slots byte (in_area image area) → Opened slots image (UnknownVersion byte)
   -- the first page without an image that isn't whole
-  damaged_page : (area : Area) (pages : ℕ) (batches : List (List (Record slots))) (page at : ℕ) → IsRead image area pages batches → page < pages
+  damaged_page : (area : Area) (pages : ℕ) (batches : List (List (Record slots))) (page at : ℕ) → IsLogRead image area pages batches → page < pages
       → IsDamagedPage image.pages (all_of batches) page at
       → ((lower place : ℕ) → lower < page → IsDamagedPage image.pages (all_of batches) lower place → ⊥) → Opened slots image (DamagedPage page at)
   -- the first record that doesn't fit the cells: it stands in the batch behind `front`, behind the records `before`

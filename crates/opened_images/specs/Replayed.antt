@@ -3,7 +3,7 @@ use Rattle.std.specs.Prelude.{◌≡◌, ℕ, ◌+◌, ◌*◌, ◌≤◌, false
 use Rattle.std.specs.List.{range_with_len}
 use Rattle.cell_model.specs.Cells.{Cell, blank_cell}
 use Rattle.cell_page.specs.Format.{page_of_id, place_of}
-use Rattle.page_area.specs.Place.{page_in}
+use Rattle.page_area.specs.Place.{bytes_of_page}
 use Rattle.cell_page.specs.Fields.{cell_in, bytes_at, FailsAt}
 use Rattle.cell_page.specs.Stored.{cell_of}
 use Rattle.log_record.specs.declared.record.Record.{Record}
@@ -20,7 +20,7 @@ items_of (Turn version pages ∷ rs) = items_of rs
 
 -- the cell of an id in place
 abbrev pub cell_in_place : (slots : ℕ) → List ℕ → ℕ → Cell
-cell_in_place slots area id = cell_of (cell_in slots (bytes_at slots (page_in slots (page_of_id id) area) (place_of id)))
+cell_in_place slots area id = cell_of (cell_in slots (bytes_at slots (bytes_of_page slots (page_of_id id) area) (place_of id)))
 
 -- the cell of an id after these records
 abbrev pub cell_after : (slots : ℕ) → List ℕ → List (Record slots) → ℕ → Cell
@@ -35,7 +35,7 @@ cells_of_log slots pages area rs = blank_cell false slots ∷ map (cell_after sl
 -- The page has no image among the records, and its bytes in place are damaged at this place.
 pub record IsDamagedPage {slots : ℕ} (area : List ℕ) (rs : List (Record slots)) (page at : ℕ) : Type 0 where
   pub no_image : has_image (8 * page + 1) (items_of rs) ≡ false
-  pub fails : FailsAt slots page (page_in slots page area) at
+  pub fails : FailsAt slots page (bytes_of_page slots page area) at
 
 -- ---- cells
 

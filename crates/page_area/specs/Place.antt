@@ -7,14 +7,14 @@ use Rattle.page_area.specs.declared.refusal.PageRefusal.{PageRefusal}
 use Rattle.page_area.specs.declared.refusal.PageRefusal.TheVariants.{Disk}
 
 -- the bytes of this page, as many as the area has
-abbrev pub page_in : (slots page : ℕ) → List ℕ → List ℕ
-page_in slots page area = take (page_size slots) (drop (page_size slots * page) area)
+abbrev pub bytes_of_page : (slots page : ℕ) → List ℕ → List ℕ
+bytes_of_page slots page area = take (page_size slots) (drop (page_size slots * page) area)
 
 -- these bytes spell no page of this number
 abbrev pub IsNoPage : (slots page : ℕ) → List ℕ → Type 0
 IsNoPage slots page bytes = (cells : List (Cell slots)) → AreTyped cells → Spells page cells bytes → ⊥
 
 -- a refusal `Disk` comes only where the disk's count of faults rose, and that never falls
-pub record IsCaused {T : Type 0} (before now : ℕ) (result : Result T PageRefusal) : Type 0 where
+pub record HasDiskCause {T : Type 0} (before now : ℕ) (result : Result T PageRefusal) : Type 0 where
   pub later : before ≤ now
   pub failed : IsErrOf result Disk → Rose before now

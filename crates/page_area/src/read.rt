@@ -7,7 +7,7 @@ ghost use Rattle.disk_model.specs.declared.area.Area.TheVariants.{Pages};
 ghost use Rattle.cell_page.specs.Format.{IsSlotCount, AreTyped, Spells, page_size};
 ghost use Rattle.cell_page.specs.Fields.{FailsAt};
 ghost use Rattle.page_area.specs.declared.refusal.PageRefusal.TheVariants.{Damaged};
-ghost use Rattle.page_area.specs.Place.{page_in, IsNoPage, IsCaused};
+ghost use Rattle.page_area.specs.Place.{bytes_of_page, IsNoPage, HasDiskCause};
 
 use crate::refusal::PageRefusal;
 use cell_page::Page;
@@ -26,7 +26,7 @@ fn read_page<D: Disk, const SLOTS: usize>(
     requires room { page_size SLOTS ≤ length into.old }
     ensures within { IfOk result (λ n. n ≤ page_size SLOTS) }
     ensures same_len { length into.new ≡ length into.old }
-    ensures bytes { IfOk result (λ n. IfSome (D.content disk.old Pages) (λ area. take n into.new ≡ page_in SLOTS page area)) }
+    ensures bytes { IfOk result (λ n. IfSome (D.content disk.old Pages) (λ area. take n into.new ≡ bytes_of_page SLOTS page area)) }
     ensures keeps { KeepsAll D.content D.may_leave disk.old disk.new }
     ensures moments { LeavesOnlyImages D.moment D.left_since disk.old disk.new (IsImage D.may_leave disk.old) }
     ensures cause { HasCause (D.faults disk.old) (D.faults disk.new) result }
@@ -52,13 +52,13 @@ pub fn load<D: Disk, const SLOTS: usize>(
     page: u16,
 ) -> Result<Page<SLOTS>, PageRefusal>
     requires count { IsSlotCount SLOTS }
-    ensures page { IfOk result (λ cells. IfSome (D.content disk.old Pages) (λ area. Spells page cells (page_in SLOTS page area))) }
+    ensures page { IfOk result (λ cells. IfSome (D.content disk.old Pages) (λ area. Spells page cells (bytes_of_page SLOTS page area))) }
     ensures typed { IfOk result AreTyped }
-    ensures no_page { (at : ℕ) → IsErrOf result (Damaged at) → IfSome (D.content disk.old Pages) (λ area. IsNoPage SLOTS page (page_in SLOTS page area)) }
-    ensures place { (at : ℕ) → IsErrOf result (Damaged at) → IfSome (D.content disk.old Pages) (λ area. FailsAt SLOTS page (page_in SLOTS page area) at) }
+    ensures no_page { (at : ℕ) → IsErrOf result (Damaged at) → IfSome (D.content disk.old Pages) (λ area. IsNoPage SLOTS page (bytes_of_page SLOTS page area)) }
+    ensures place { (at : ℕ) → IsErrOf result (Damaged at) → IfSome (D.content disk.old Pages) (λ area. FailsAt SLOTS page (bytes_of_page SLOTS page area) at) }
     ensures keeps { KeepsAll D.content D.may_leave disk.old disk.new }
     ensures moments { LeavesOnlyImages D.moment D.left_since disk.old disk.new (IsImage D.may_leave disk.old) }
-    ensures cause { IsCaused (D.faults disk.old) (D.faults disk.new) result }
+    ensures cause { HasDiskCause (D.faults disk.old) (D.faults disk.new) result }
 {
     let mut buffer = [0; MOST];
     let there = read_page::<D, SLOTS>(disk, page, &mut buffer)?;

@@ -4,7 +4,7 @@ use Rattle.disk_model.specs.declared.area.Area.{Area}
 use Rattle.disk_model.specs.declared.area.Area.TheVariants.{Pages, LogA, LogB, Super}
 use Rattle.disk_model.specs.Areas.{Bytes, in_area, with_area}
 use Rattle.disk_model.specs.Told.{IsImage, IsImageBut, Leaves}
-use Rattle.restart_store.specs.Fresh.{fresh_store, IsCutSuper, IsNaming, IsMaking, no_store, fresh, as_before}
+use Rattle.restart_store.specs.Fresh.{fresh_store, IsCutSuper, IsFirstNaming, IsMaking, no_store, fresh, as_before}
 
 -- an image is what its areas are
 pub image_is : (image other : Bytes) → image.pages ≡ other.pages → image.log_a ≡ other.log_a → image.log_b ≡ other.log_b → image.super_area ≡ other.super_area
@@ -27,7 +27,7 @@ module _ {D : Type 0} (may_leave : D → Area → List ℕ → Type 0) where
 
   -- while its byte is written
   pub while_named : (old mid : D) (pages : ℕ) → ((area : Area) → area ≢ Super → Leaves may_leave mid area (λ c. c ≡ in_area (fresh_store pages 0) area))
-      → (image : Bytes) → IsImageBut may_leave mid Super IsNaming image → IsMaking may_leave old pages image
+      → (image : Bytes) → IsImageBut may_leave mid Super IsFirstNaming image → IsMaking may_leave old pages image
   while_named old mid pages made image is =
       ⊎_elim (λ none. no_store none)
       (λ (byte, named). fresh byte

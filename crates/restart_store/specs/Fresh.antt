@@ -52,5 +52,5 @@ module _ {D : Type 0} (may_leave : D → Area → List ℕ → Type 0) where
     fresh : (byte : ℕ) → image ≡ fresh_store pages byte → IsMaking disk pages image
 
 -- the super area while its first byte is written: empty, or a byte
-abbrev pub IsNaming : List ℕ → Type 0
-IsNaming bytes = (bytes ≡ []) ⊎ ((byte : ℕ) × (bytes ≡ byte ∷ []))
+abbrev pub IsFirstNaming : List ℕ → Type 0
+IsFirstNaming bytes = (bytes ≡ []) ⊎ ((byte : ℕ) × (bytes ≡ byte ∷ []))

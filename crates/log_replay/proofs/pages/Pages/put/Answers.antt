@@ -2,7 +2,7 @@ use Rattle.std.proofs.Common.{◌<◌, List, length, set, sym, ap, ◌∙◌, su
 use Rattle.cell_model.specs.Cells.{Cell as StoredCell}
 use Rattle.cell_page.specs.declared.cell.Cell.{Cell}
 use Rattle.cell_page.specs.Stored.{cell_of}
-use Rattle.log_replay.specs.Inside.{cells_of}
+use Rattle.log_replay.specs.Inside.{cells_of_pages}
 use Rattle.log_replay.proofs.PageLists.{id_few, page_there, held_page, has_id, are_set, put_cell}
 use Rattle.log_replay.proofs.pages.Pages.put.Goals as goal
 
@@ -31,7 +31,7 @@ pub returns : goal.returns
 returns g c =
     let items = c.self.inside.pages.items in
     let cell = c.args.cell.now in
-    let below : cell.id < length (cells_of items) = subst (λ (cs : List StoredCell). cell.id < length cs) (sym c.self.view_is) c.requires.within in
-    ap (λ (held : List (Cell _)). cells_of (set items c.page_of.result held)) c.put_cell.ensures.placed
+    let below : cell.id < length (cells_of_pages items) = subst (λ (cs : List StoredCell). cell.id < length cs) (sym c.self.view_is) c.requires.within in
+    ap (λ (held : List (Cell _)). cells_of_pages (set items c.page_of.result held)) c.put_cell.ensures.placed
     ∙ (put_cell items cell.id c.page_of.result c.index_mut.result.now cell c.self.invariant c.requires.above below c.page_of.ensures.page c.index_mut.ensures.value
     ∙ ap (λ (cs : List StoredCell). set cs cell.id (cell_of cell)) c.self.view_is)

@@ -2,8 +2,8 @@ use Rattle.std.proofs.Common.{◌≡◌, ℕ, ◌-◌, ◌*◌, List, length, re
 use Rattle.cell_model.specs.Cells.{Cell as StoredCell}
 use Rattle.restart_laws.specs.Restored.{CanBeUndone}
 use Rattle.log_replay.specs.Replays.{Replaying}
-use Rattle.log_replay.specs.Placed.{IsPlaced}
-use Rattle.log_replay.specs.Steps.{change_of}
+use Rattle.log_replay.specs.Placed.{IsStoreChange}
+use Rattle.log_replay.specs.Steps.{change_by}
 use Rattle.log_replay.specs.Finishes.{change_to_undo}
 use Rattle.log_replay.proofs.FinishLaws.{change-is}
 use Rattle.log_replay.proofs.PlacedLaws.{first_last, first_client, first_placed}
@@ -19,7 +19,7 @@ can_undo-requires g c =
     let s = i.sized in
     let placed = first_placed g.row.SLOTS (8 * length c.self.inside.skip.items) c.self.inside.unended.entries c.in-Some.pass c.in-Some.last c.in-Some-last.write c.in-Some.ensures.some c.in-Some-last.is i.placed in
     let e : 8 * length c.self.inside.skip.items ≡ length c.self.inside.pages - 1 = omega (arith, s) in
-    (omega arith, (i.slot_count, (omega (arith, m, s), subst (λ (n : ℕ). IsPlaced g.row.SLOTS n (change_of c.in-Some-last.write)) e placed)))
+    (omega arith, (i.slot_count, (omega (arith, m, s), subst (λ (n : ℕ). IsStoreChange g.row.SLOTS n (change_by c.in-Some-last.write)) e placed)))
 
 pub returns-then-not-can_undo-clause-refused : goal.returns-then-not-can_undo-clause-refused
 returns-then-not-can_undo-clause-refused g c =
@@ -28,11 +28,11 @@ returns-then-not-can_undo-clause-refused g c =
     let us = ap (λ (u : Replaying). u.unended) c.self.view_is in
     let cells = ap (λ (u : Replaying). u.cells) c.self.view_is in
     let last = first_last c.self.inside.unended.entries c.in-Some.pass c.in-Some.last w f c.in-Some-last.is in (
-      change_of w,
-      ap change_to_undo (sym us) ∙ change-is c.self.inside.unended.entries f.rest f.entry (Some (change_of w)) f.split last,
+      change_by w,
+      ap change_to_undo (sym us) ∙ change-is c.self.inside.unended.entries f.rest f.entry (Some (change_by w)) f.split last,
       refl,
-      λ (h : CanBeUndone c.args.self.now.cells (change_of w)).
-          let t = c.can_undo.ensures.1 (subst (λ (cs : List StoredCell). CanBeUndone cs (change_of w)) (sym cells) h) in
+      λ (h : CanBeUndone c.args.self.now.cells (change_by w)).
+          let t = c.can_undo.ensures.1 (subst (λ (cs : List StoredCell). CanBeUndone cs (change_by w)) (sym cells) h) in
           let n = c.if-not-can_undo.true in
           absurd (cc),
     )
@@ -48,4 +48,4 @@ undo_record-r-requires g c =
     let client = first_client g.row.SLOTS ids c.self.inside.unended.entries c.in-Some.pass c.in-Some.last f i.placed in
     let placed = first_placed g.row.SLOTS ids c.self.inside.unended.entries c.in-Some.pass c.in-Some.last w f c.in-Some-last.is i.placed in
     let e : ids ≡ length c.self.inside.pages - 1 = omega (arith, s) in
-    (omega arith, (i.slot_count, (omega (arith, m, s), (client, (subst (λ (n : ℕ). IsPlaced g.row.SLOTS n (change_of w)) e placed, c.can_undo.ensures.0 c.if-not-can_undo.false)))))
+    (omega arith, (i.slot_count, (omega (arith, m, s), (client, (subst (λ (n : ℕ). IsStoreChange g.row.SLOTS n (change_by w)) e placed, c.can_undo.ensures.0 c.if-not-can_undo.false)))))

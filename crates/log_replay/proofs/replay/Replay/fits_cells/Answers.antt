@@ -1,6 +1,6 @@
 use Rattle.std.proofs.Common.{◌*◌, length, arith}
 use Rattle.log_record.specs.Records.{record_of}
-use Rattle.log_replay.specs.Replays.{FitsCells}
+use Rattle.log_replay.specs.Replays.{FitsUnskippedCells}
 use Rattle.log_replay.specs.Steps.{FitsCell}
 use Rattle.log_replay.proofs.TakenLaws.{one-fits, fits-all, all-three}
 use Rattle.log_replay.proofs.replay.Replay.fits_cells.Goals as goal
@@ -33,7 +33,7 @@ returns g c =
     let w0 = w.0 in
     let w1 = w.1 in
     let w2 = w.2 in
-    all-three c.fits_cell.result c.fits_cell-2.result c.fits_cell-3.result (FitsCell v.skips v.cells r ids.own) (FitsCell v.skips v.cells r ids.«from») (FitsCell v.skips v.cells r ids.to) (FitsCells v.skips v.cells r)
+    all-three c.fits_cell.result c.fits_cell-2.result c.fits_cell-3.result (FitsCell v.skips v.cells r ids.own) (FitsCell v.skips v.cells r ids.«from») (FitsCell v.skips v.cells r ids.to) (FitsUnskippedCells v.skips v.cells r)
     c.fits_cell.ensures c.fits_cell-2.ensures c.fits_cell-3.ensures
     (fits-all g.row.SLOTS v.skips r ids v.cells (c.concerned-ids.ensures.all g.row.SLOTS))
     (one-fits v.skips v.cells r ids.own (omega (arith, w0, s)))
