@@ -1,4 +1,4 @@
-//! Runs of lower crates by public calls that the program does not make, with the answers that were meant.
+//! Runs of lower crates by their public calls, above all by those no example reaches, with the answers that were meant.
 //!
 //! They stand apart from those crates, so that each of these is proved once, without its runs.
 #![tactic(auto)]
