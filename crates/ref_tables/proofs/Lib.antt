@@ -1,3 +1,4 @@
+pub mod CountsLaws
 pub mod Forgetting
 pub mod MemberLaws
 pub mod QueueLaws

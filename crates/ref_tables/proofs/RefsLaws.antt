@@ -32,8 +32,8 @@ entries-seen lists room_for room p = ap (λ o. unwrap_or o []) (lookup-map_value
 pub seen-same : (old new : Lists) (f r g s : ℕ) → AreSame old new → (p : ℕ) → entries_of (record { clients = seen new; room_for = g; room = s }) p ≡ entries_of (record { clients = seen old; room_for = f; room = r }) p
 seen-same old new f r g s same p = entries-seen new g s p ∙ same p ∙ sym (entries-seen old f r p)
 
-pub seen-adds : (old same new : Lists) (f r s pass : ℕ) (entry : TempRef) → AreSame old same → AddsEntry same new pass entry → (p : ℕ) → entries_of (record { clients = seen new; room_for = f; room = s }) p ≡ cond (p == pass) (entries_of (record { clients = seen old; room_for = f; room = r }) p ++ entry ∷ []) (entries_of (record { clients = seen old; room_for = f; room = r }) p)
-seen-adds old same new f r s pass entry kept adds p = entries-seen new f s p ∙ adds p ∙ ap (λ xs. cond (p == pass) (xs ++ entry ∷ []) xs) (kept p ∙ sym (entries-seen old f r p))
+pub seen-adds : (old new : Lists) (f r s pass : ℕ) (entry : TempRef) → AddsEntry old new pass entry → (p : ℕ) → entries_of (record { clients = seen new; room_for = f; room = s }) p ≡ cond (p == pass) (entries_of (record { clients = seen old; room_for = f; room = r }) p ++ entry ∷ []) (entries_of (record { clients = seen old; room_for = f; room = r }) p)
+seen-adds old new f r s pass entry adds p = entries-seen new f s p ∙ adds p ∙ ap (λ xs. cond (p == pass) (xs ++ entry ∷ []) xs) (sym (entries-seen old f r p))
 
 pub seen-ends : (old new : Lists) (f r pass : ℕ) → EndsClient old new pass → (p : ℕ) → entries_of (record { clients = seen new; room_for = f; room = r }) p ≡ cond (p == pass) [] (entries_of (record { clients = seen old; room_for = f; room = r }) p)
 seen-ends old new f r pass ends p = entries-seen new f r p ∙ ends p ∙ ap (λ xs. cond (p == pass) [] xs) (sym (entries-seen old f r p))
@@ -139,6 +139,15 @@ AreRefsInside-same old new counts kept room_for room same keeps counted left sou
   clients = λ p beyond. same p ∙ sound.clients p beyond;
   room_of_list = λ some. keeps room_for room (sound.room_of_list some);
   room_of_counts = left;
+}
+
+-- the counts have more room
+pub AreRefsInside-reserved : {S : Type 0} (lists : Lists) (counts kept : IndexMap ℕ ℕ S) (room_for room : ℕ) → kept.entries ≡ counts.entries → spare counts ≤ spare kept → AreRefsInside lists counts room_for room → AreRefsInside lists kept room_for room
+AreRefsInside-reserved lists counts kept room_for room same more sound = record {
+  counted = λ t. ap (λ entries. unwrap_or (lookup (nat_eq t) entries) 0) same ∙ sound.counted t;
+  clients = sound.clients;
+  room_of_list = sound.room_of_list;
+  room_of_counts = omega (arith, more, sound.room_of_counts);
 }
 
 -- with room for another client

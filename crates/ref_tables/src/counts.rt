@@ -1,9 +1,8 @@
 //! How many entries each object is the target of.
-ghost use Rattle.std.specs.Prelude.{◌≡◌, ◌<◌, ◌≤◌, ◌+◌, ◌^◌, ◌==◌, ℕ, OnOk, OnErr, IsOk, if◌then◌else◌};
+ghost use Rattle.std.specs.Prelude.{◌≡◌, ◌<◌, ◌≤◌, ◌+◌, ◌^◌, ◌==◌, ℕ, if◌then◌else◌};
 ghost use Rattle.indexmap.specs.IndexMap.{spare};
 ghost use Rattle.ref_tables.specs.Counts.{count_of, count_in};
 
-use crate::Memory;
 use crate::kind::TempRef;
 use indexmap::IndexMap;
 
@@ -17,17 +16,16 @@ pub(crate) fn get(counts: &IndexMap<u32, u128>, target: u32) -> u128
     }
 }
 
-/// Counts an entry more with the target. Out of memory leaves the counts as they were.
-pub(crate) fn add(counts: &mut IndexMap<u32, u128>, target: u32) -> Result<(), Memory>
-    requires { count_of counts.old target + 1 < 2 ^ 128 }
-    ensures ok { OnOk result ((t : ℕ) → count_of counts.new t ≡ count_of counts.old t + (if t == target then 1 else 0)) }
-    ensures err { OnErr result ((t : ℕ) → count_of counts.new t ≡ count_of counts.old t) }
-    ensures succeeds { 0 < spare counts.old → IsOk result }
+/// Counts an entry more with the target, for which there is room. It takes no memory.
+pub(crate) fn add(counts: &mut IndexMap<u32, u128>, target: u32)
+    requires small { count_of counts.old target + 1 < 2 ^ 128 }
+    requires spare { 0 < spare counts.old }
+    ensures counts { (t : ℕ) → count_of counts.new t ≡ count_of counts.old t + (if t == target then 1 else 0) }
     ensures room { spare counts.old ≤ spare counts.new + 1 }
 {
-    let count = get(counts, target);
-    counts.insert(target, count + 1)?;
-    Ok(())
+    if let Ok(entry) = counts.entry(target) {
+        *entry.or_insert(0) += 1;
+    }
 }
 
 /// Counts an entry less with the target, which has one. It takes no memory.
@@ -36,11 +34,14 @@ fn forget(counts: &mut IndexMap<u32, u128>, target: u32)
     ensures counts { (t : ℕ) → count_of counts.new t + (if t == target then 1 else 0) ≡ count_of counts.old t }
     ensures room { spare counts.old ≤ spare counts.new }
 {
-    let count = get(counts, target);
-    if count == 1 {
-        counts.swap_remove(&target);
-    } else if let Some(kept) = counts.get_mut(&target) {
-        *kept = count - 1;
+    let Some((place, _, count)) = counts.get_full(&target) else {
+        return;
+    };
+    if *count > 1 {
+        let (_, left) = counts.pair_mut(place);
+        *left -= 1;
+    } else {
+        counts.swap_remove_index(place);
     }
 }
 

@@ -1,21 +1,11 @@
 //! The entries of each client.
-ghost use Rattle.std.specs.Prelude.{◌≡◌, ◌<◌, ◌≤◌, ◌+◌, ℕ, ◌++◌, ◌∷◌, [], OnOk, IsOk, option_map, slice_get, vec_len, vec_capacity};
+ghost use Rattle.std.specs.Prelude.{◌≡◌, ◌+◌, ℕ, OnOk, OnErr, IsOk, option_map, slice_get};
 ghost use Rattle.ref_tables.specs.Lists.{list_of, HasRoom, KeepsRoom, AreSame, AddsEntry, EndsClient};
 
 use crate::Memory;
 use crate::kind::TempRef;
 use std::alloc::Global;
 use std::collections::BTreeMap;
-
-/// Appends the entry, for which there is room.
-fn push_into_room(list: &mut Vec<TempRef>, entry: TempRef)
-    requires { vec_len list.old < vec_capacity list.old }
-    ensures items { list.new.items ≡ list.old.items ++ entry ∷ [] }
-    ensures len { vec_len list.new ≡ vec_len list.old + 1 }
-    ensures capacity { vec_capacity list.old ≤ vec_capacity list.new }
-{
-    let _ = list.push(entry);
-}
 
 /// Takes room for so many more entries of the client.
 pub(crate) fn reserve(
@@ -39,14 +29,30 @@ pub(crate) fn reserve(
     }
 }
 
-/// Appends the entry to the client's, for which there is room.
-pub(crate) fn add(lists: &mut BTreeMap<u8, Vec<TempRef>>, pass: u8, entry: TempRef)
-    requires { HasRoom lists.old.entries pass 1 }
-    ensures adds { AddsEntry lists.old.entries lists.new.entries pass entry }
-    ensures room { (p n : ℕ) → HasRoom lists.old.entries p (n + 1) → HasRoom lists.new.entries p n }
+/// Appends the entry to the client's, and takes memory only where there is no room for it.
+pub(crate) fn add(
+    lists: &mut BTreeMap<u8, Vec<TempRef>>,
+    alloc: Global,
+    pass: u8,
+    entry: TempRef,
+) -> Result<(), Memory>
+    ensures adds { OnOk result (AddsEntry lists.old.entries lists.new.entries pass entry) }
+    ensures room { OnOk result ((p n : ℕ) → HasRoom lists.old.entries p (n + 1) → HasRoom lists.new.entries p n) }
+    ensures same { OnErr result (AreSame lists.old.entries lists.new.entries) }
+    ensures keeps { OnErr result (KeepsRoom lists.old.entries lists.new.entries) }
+    ensures succeeds { HasRoom lists.old.entries pass 1 → IsOk result }
 {
-    if let Some(list) = lists.get_mut(&pass) {
-        push_into_room(list, entry);
+    match lists.get_mut(&pass) {
+        Some(list) => {
+            list.push(entry)?;
+            Ok(())
+        }
+        None => {
+            let mut list = Vec::new(alloc);
+            list.push(entry)?;
+            lists.insert(pass, list)?;
+            Ok(())
+        }
     }
 }
 

@@ -60,9 +60,10 @@ impl TempRefs {
         ensures succeeds { 0 < room_of self.old pass → IsOk result }
         ensures room { (p : ℕ) → room_of self.new p ≡ (if is_ok result then room_of self.old p - 1 else room_of self.old p) }
     {
-        lists::reserve(&mut self.lists, self.alloc, pass, 1)?;
-        counts::add(&mut self.counts, target)?;
-        lists::add(&mut self.lists, pass, TempRef { target, kind });
+        // With room for a count, only the append can fail, and nothing has to be undone.
+        self.counts.reserve(1)?;
+        lists::add(&mut self.lists, self.alloc, pass, TempRef { target, kind })?;
+        counts::add(&mut self.counts, target);
         self.room = self.room.saturating_sub(1);
         Ok(())
     }
