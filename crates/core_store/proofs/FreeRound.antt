@@ -13,7 +13,6 @@ use Rattle.plain_model.specs.Graphs.{without as without_object}
 use Rattle.plain_model.specs.ActiveTransaction.{ActiveTransaction}
 use Rattle.plain_model.specs.Machine.{transaction_of, is_stored}
 use Rattle.plain_model.specs.History.{holds, next, after_delete}
-use Rattle.plain_laws.proofs.Ids.{at_eq}
 use Rattle.plain_laws.proofs.Locks.{stored-remove}
 use Rattle.cell_model.specs.Cells.{Cell, blank_cell, cell_at, pointer_in, pointer_at, is_live, edit, pointers_to, own_strong}
 use Rattle.cell_model.specs.Records.{Free, Fits, HasNoPointer}
@@ -41,6 +40,7 @@ use Rattle.cell_page.specs.Format.{page_of_id}
 use Rattle.core_store.specs.declared.three.HeldFrame.{HeldFrame}
 use Rattle.core_store.specs.declared.act.Act.TheVariants as act
 use Rattle.core_store.specs.Frames.{Agree, is_held}
+use Rattle.core_store.specs.FreeIds.{Frees}
 use Rattle.core_store.specs.RoundView.{RoundView, Sweeping, round_of, IsSweeping, IsInStep, Proceeds, free}
 use Rattle.core_store.specs.Replaced.{replaced}
 use Rattle.core_store.specs.Transactions.{Running, running_at}
@@ -108,14 +108,6 @@ free-joined k id n old stored above most was =
     (λ (e : k ≡ id). rw (eq-eqb k id e, lt-ltb 0 k (subst (λ x. 0 < x) (sym e) above), le-leb k n (subst (λ x. x ≤ n) (sym e) most)) refl)
     (λ (d : k ≢ id). rw (ne_eqb k id d) was)
     (cases_eq k id)
-
--- what std says of a key that joins
-pub joined-updates : (id : ℕ) (old new : List ℕ) → ((k : ℕ) → list_any (is_at (nat_cmp k)) new ≡ cond (is_at (nat_cmp id) k) true (list_any (is_at (nat_cmp k)) old)) → (k : ℕ) → list_any (is_at (nat_cmp k)) new ≡ ((k == id) || list_any (is_at (nat_cmp k)) old)
-joined-updates id old new h k = h k ∙ (ap (λ b. cond b true (list_any (is_at (nat_cmp k)) old)) (at_eq id k) ∙ by (k == id) (list_any (is_at (nat_cmp k)) old))
-  where
-    by : (a b : Bool) → cond a true b ≡ (a || b)
-    by true b = refl
-    by false b = refl
 
 -- ---- the round
 
@@ -205,7 +197,7 @@ module _ (slots : ℕ) (v : TablesView) (c : Core) (h : Stands slots v c) (w : W
 
   -- ---- the tables after it
 
-  module _ (ids : List ℕ) (joined : (k : ℕ) → list_any (is_at (nat_cmp k)) ids ≡ ((k == id) || list_any (is_at (nat_cmp k)) v.free)) (step : IsInStep slots v.ids (Sweeping (removed w id) (found s (Made id)) slot g)) where
+  module _ (ids : List ℕ) (joined : Frees v.free ids id) (step : IsInStep slots v.ids (Sweeping (removed w id) (found s (Made id)) slot g)) where
     round-listed : IsOnce w.left
     round-listed = subst IsOnce (list-is c h.sound (swept w (unfreed s)) there) h.sound.round_once
 

@@ -1,9 +1,6 @@
 -- What a plan does, from the tables and the held pages alone.
 use Rattle.std.proofs.Common.{◌≡◌, ℕ, ◌<◌, List, Bool, true, refl, sym, ap, ◌∙◌, subst, Option, Some, None, map, arith, ◌+◌}
-use Rattle.std.specs.Prelude.{slice_index_or, ◌==◌, ◌&&◌, ◌||◌, not}
-use Rattle.std.specs.List.{list_any}
-use Rattle.std.specs.Ordering.{nat_cmp}
-use Rattle.std.specs.BTreeMap.{is_at}
+use Rattle.std.specs.Prelude.{slice_index_or, ◌||◌}
 use Rattle.plain_model.specs.declared.calls.Call.{Call as TransactionCall}
 use Rattle.plain_model.specs.declared.calls.Call.TheVariants as call
 use Rattle.plain_model.specs.declared.calls.Reply.TheVariants as reply
@@ -24,6 +21,7 @@ use Rattle.strength_counts.proofs.Slots.{target_in-pointers}
 use Rattle.core_store.specs.declared.three.HeldFrame.{HeldFrame}
 use Rattle.core_store.specs.declared.plan.Plan.TheVariants as plan
 use Rattle.core_store.specs.Changes.{has_no_strong}
+use Rattle.core_store.specs.FreeIds.{Takes}
 use Rattle.core_store.specs.Frames.{is_held, Agree, IsSameElsewhere}
 use Rattle.core_store.specs.RoundView.{RoundView}
 use Rattle.core_store.specs.Slots.{CanChange, IsReadyToChange, IsReadyToEdit}
@@ -138,7 +136,7 @@ module _ {slots : ℕ} (v : TablesView) (held : List (HeldFrame slots)) (pass : 
       let at_noted = subst (λ k. P (call.SetPay w.0 value) id k old) (sym (noted_was cells agree)) at_old in
       subst (λ (c : TransactionCall). P c id noted old) (sym w.1) at_noted
 
-  pub does-make : (new : List (HeldFrame slots)) (locks : Table) (free : List ℕ) (references : ℕ → List ℕ) (id into : ℕ) → AddsOwner v.locks locks pass id → Nobody (StandsInWayOfOwn (holders_of v.locks id) pass) → ((k : ℕ) → list_any (is_at (nat_cmp k)) free ≡ (not (k == id) && list_any (is_at (nat_cmp k)) v.free))
+  pub does-make : (new : List (HeldFrame slots)) (locks : Table) (free : List ℕ) (references : ℕ → List ℕ) (id into : ℕ) → AddsOwner v.locks locks pass id → Nobody (StandsInWayOfOwn (holders_of v.locks id) pass) → Takes v.free free id
       → ((p : ℕ) → references p ≡ named_more v.references pass id p) → is_held held (page_of_id id) ≡ true → ((cells : List StoredCell) → Agree cells held → Agree (edit cells id (λ _. blank_cell true slots)) new)
       → Does v (record v { free = free; locks = locks; transactions = changed_at pass (loaded into (Some id)) v.transactions; references = references }) held new pass (plan.Make id into) (record { reply = reply.Id id; logged = Some (logs.Make pass id) })
   does-make new locks free references id into adds nobody removed noted page stored c w core h agree =

@@ -1,9 +1,6 @@
 -- A transaction makes an object.
 use Rattle.std.proofs.Common.{◌≡◌, ◌≢◌, ℕ, ◌+◌, ◌<◌, List, [], ◌∷◌, ◌++◌, Bool, true, false, cond, refl, sym, ap, ◌∙◌, subst, Option, Some, arith, ⊎_elim, length, map}
 use Rattle.std.specs.Prelude.{◌==◌, ◌&&◌, ◌||◌, not, nat_lt, nat_le, count_by, slice_set, unwrap_or}
-use Rattle.std.specs.List.{list_any}
-use Rattle.std.specs.Ordering.{nat_cmp}
-use Rattle.std.specs.BTreeMap.{is_at}
 use Rattle.plain_model.specs.declared.write.Place.TheVariants.{Whole}
 use Rattle.plain_model.specs.declared.write.Write.{Write}
 use Rattle.plain_model.specs.declared.calls.Call.TheVariants.{Make}
@@ -14,7 +11,6 @@ use Rattle.plain_model.specs.ActiveTransaction.{ActiveTransaction}
 use Rattle.plain_model.specs.Machine.{State, with_register, with_owned, with_write, made, free_id, is_stored}
 use Rattle.plain_model.specs.History.{next, can_be_undone}
 use Rattle.plain_laws.proofs.Entries.{same_or_apart}
-use Rattle.plain_laws.proofs.Ids.{at_eq}
 use Rattle.cell_model.proofs.EditLaws.{there, edit-here, edit-none, edit-other}
 use Rattle.core_store.proofs.LayLaws.{CanLay-later}
 use Rattle.plain_laws.proofs.Locks.{transaction_of-with_same, transaction_of-with_other, stored-insert}
@@ -27,6 +23,7 @@ use Rattle.store_model.proofs.CallLaws.{call-granted}
 use Rattle.store_model.proofs.CallSound.{make-call}
 use Rattle.core_store.specs.declared.three.HeldFrame.{HeldFrame}
 use Rattle.core_store.specs.Changes.{has_no_strong}
+use Rattle.core_store.specs.FreeIds.{Takes}
 use Rattle.core_store.specs.Events.{after_event}
 use Rattle.core_store.specs.Frames.{Agree, IsSameElsewhere}
 use Rattle.core_store.specs.References.{named_by}
@@ -94,7 +91,7 @@ links-made cells id slots some within free = record {
 
 pub answers-make : (slots : ℕ) (v : TablesView) (c : Core) (held new : List (HeldFrame slots)) (h : Stands slots v c) (locks : Table) (free : List ℕ) (references : ℕ → List ℕ) (pass into id : ℕ) (kept : Running) (t : ActiveTransaction)
     → AddsOwner v.locks locks pass id → Nobody (StandsInWayOfOwn (holders_of v.locks id) pass) → Serves slots v c.moment pass (Make into) kept t → unwrap_or (free_id c.moment.state) 0 ≡ id → id ≢ 0
-    → ((k : ℕ) → list_any (is_at (nat_cmp k)) free ≡ (not (k == id) && list_any (is_at (nat_cmp k)) v.free)) → ((p : ℕ) → references p ≡ named_more v.references pass id p)
+    → Takes v.free free id → ((p : ℕ) → references p ≡ named_more v.references pass id p)
     → Agree (edit c.cells id (λ _. blank_cell true slots)) new → IsSameElsewhere c.cells (edit c.cells id (λ _. blank_cell true slots)) held → v.zeros ≡ map has_no_strong (edit c.cells id (λ _. blank_cell true slots))
     → Answers slots v (record v { free = free; locks = locks; transactions = changed_at pass (loaded into (Some id)) v.transactions; references = references }) c held new pass (Make into) (Id id) (Some (logs.Make pass id))
 answers-make slots v c held new h locks free references pass into id kept t adds nobody s is some removed noted agree elsewhere marked =
@@ -149,11 +146,3 @@ answers-make slots v c held new h locks free references pass into id kept t adds
           (links-made c.cells id slots some fits.1 (subst (λ (n : ℕ). cell_at c.cells id ≡ blank_cell false n) h.slots_are (h.sound.consistent.empty id fits.1 fits.2))));
       round = refl;
     }
-
--- what std says of a key that is removed
-pub removed-updates : (id : ℕ) (old new : List ℕ) → ((k : ℕ) → list_any (is_at (nat_cmp k)) new ≡ cond (is_at (nat_cmp id) k) false (list_any (is_at (nat_cmp k)) old)) → (k : ℕ) → list_any (is_at (nat_cmp k)) new ≡ (not (k == id) && list_any (is_at (nat_cmp k)) old)
-removed-updates id old new h k = h k ∙ (ap (λ b. cond b false (list_any (is_at (nat_cmp k)) old)) (at_eq id k) ∙ by (k == id) (list_any (is_at (nat_cmp k)) old))
-  where
-    by : (a b : Bool) → cond a false b ≡ (not a && b)
-    by true b = refl
-    by false b = refl

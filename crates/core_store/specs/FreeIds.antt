@@ -1,8 +1,13 @@
--- Ids that are free in a fresh store.
-use Rattle.std.specs.Prelude.{◌≡◌, ℕ, zero, suc, ◌≤◌, ◌&&◌, true, nat_lt, nat_le, if◌then◌else◌, List, [], ◌∷◌, ◌++◌}
-use Rattle.std.specs.List.{list_any}
+-- The ids that are free: those of a store that aren't stored.
+use Rattle.std.specs.Prelude.{◌≡◌, ℕ, zero, suc, ◌+◌, ◌-◌, ◌≤◌, ◌==◌, ◌&&◌, ◌||◌, not, true, nat_lt, nat_le, if◌then◌else◌, List, [], ◌∷◌, ◌++◌}
+use Rattle.std.specs.List.{list_any, range_with_len}
 use Rattle.std.specs.Ordering.{nat_cmp}
 use Rattle.std.specs.BTreeMap.{is_at}
+
+-- the free ids, ascending, of a store with the ids from 1 to `limit`
+pub record FreeView : Type 0 where
+  pub ids : List ℕ
+  pub limit : ℕ
 
 -- the list has the ids from 2 to `ids`, and no others
 abbrev pub AreFrom2 : ℕ → List ℕ → Type 0
@@ -13,7 +18,26 @@ pub record IsLeastOf (free : List ℕ) (id : ℕ) : Type 0 where
   pub among : list_any (is_at (nat_cmp id)) free ≡ true
   pub least : (k : ℕ) → list_any (is_at (nat_cmp k)) free ≡ true → id ≤ k
 
+-- the id is among the new ones, and of all others those that were
+abbrev pub Frees : List ℕ → List ℕ → ℕ → Type 0
+Frees old new id = (k : ℕ) → list_any (is_at (nat_cmp k)) new ≡ ((k == id) || list_any (is_at (nat_cmp k)) old)
+
+-- the id isn't among the new ones, and of all others those are that were
+abbrev pub Takes : List ℕ → List ℕ → ℕ → Type 0
+Takes old new id = (k : ℕ) → list_any (is_at (nat_cmp k)) new ≡ (not (k == id) && list_any (is_at (nat_cmp k)) old)
+
 -- the ids from 1 to n that aren't free, ascending
 abbrev pub taken : List ℕ → ℕ → List ℕ
 taken free zero = []
 taken free (suc n) = taken free n ++ (if list_any (is_at (nat_cmp (suc n))) free then [] else suc n ∷ [])
+
+-- ---- how they are kept
+
+-- those that were freed, and those behind the greatest that was ever stored
+unfoldable pub all_free : List ℕ → ℕ → ℕ → List ℕ
+all_free freed reached limit = freed ++ range_with_len (reached + 1) (limit - reached)
+
+-- what was freed was stored before
+pub record IsFreeInside (freed : List ℕ) (reached limit : ℕ) : Type 0 where
+  pub within : reached ≤ limit
+  pub stored : (k : ℕ) → list_any (is_at (nat_cmp k)) freed ≡ true → k ≤ reached

@@ -9,7 +9,7 @@ abbrev pub view_of : {slots : ℕ} → Tables slots → TablesView
 view_of a =
     record {
       ids = a.ids;
-      free = a.free.keys;
+      free = a.free.ids;
       zeros = a.zeros.items;
       locks = a.locks;
       transactions = a.transactions.entries;

@@ -194,7 +194,7 @@ impl<const SLOTS: usize> Tables<SLOTS> {
         self.references.reserve(pass, 1)?;
         locks::own(&mut self.locks, pass, id)?;
         references::note(&mut self.references, pass, id, Kind::Made);
-        self.free.remove(&id);
+        self.free.remove(id);
         held.put_cell(Cell::new_object(id));
         transactions::load(&mut self.transactions, pass, into, Some(id));
         Ok(Performed {

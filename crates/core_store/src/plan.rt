@@ -7,7 +7,7 @@ ghost use Rattle.core_store.specs.Plans.{IsGranted, IsRefused, IsShareable, IsOw
 ghost use Rattle.core_store.specs.Views.{view_of};
 
 use crate::tables::Tables;
-use crate::{free_ids, transactions};
+use crate::transactions;
 use plain_model::{Call, Reply};
 
 /// What a call does that isn't refused: the object on which it works, and what it does there.
@@ -81,7 +81,7 @@ impl<const SLOTS: usize> Tables<SLOTS> {
         if let Some(reply) = transactions::not_running(&self.transactions, pass) {
             return Err(reply);
         }
-        match free_ids::least(&self.free) {
+        match self.free.least() {
             Some(id) => Ok(Plan::Make { id, into }),
             None => Err(Reply::Full),
         }

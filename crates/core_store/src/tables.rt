@@ -5,14 +5,14 @@ ghost use Rattle.core_store.specs.Tables.{owed_by};
 ghost use Rattle.core_store.specs.RoundView.{touched_in};
 ghost use Rattle.core_store.specs.Transactions.{running_at};
 
-use crate::free_ids;
+use crate::free_ids::FreeIds;
 use crate::round::Round;
 use crate::transactions::Transactions;
 use plain_model::Memory;
 use red_walk::IdList;
 use ref_tables::{TempRefs, ZeroQueue};
 use std::alloc::Global;
-use std::collections::{BTreeMap, BTreeSet};
+use std::collections::BTreeMap;
 use strict_locks::LockTable;
 
 /// The free ids, the marks, the locks and the transactions.
@@ -20,7 +20,7 @@ use strict_locks::LockTable;
 pub(crate) struct Tables<const SLOTS: usize> {
     pub(crate) alloc: Global,
     pub(crate) ids: u32,
-    pub(crate) free: BTreeSet<u32>,
+    pub(crate) free: FreeIds,
     /// For each id, at its index, whether no strong pointer leads to its cell.
     pub(crate) zeros: Vec<bool>,
     pub(crate) locks: LockTable,
@@ -33,6 +33,7 @@ pub(crate) struct Tables<const SLOTS: usize> {
     pub(crate) round: Round<SLOTS>,
     /// What a transaction named that ends. It is made anew for each, in room that is kept.
     pub(crate) named: IdList,
+    ghost free_sized: { free.limit ≡ ids },
     ghost owes: { owed ≡ owed_by transactions.entries },
     ghost queue_sized: { queue.limit ≡ ids },
     ghost named_sized: { named.limit ≡ ids },
@@ -50,13 +51,12 @@ impl<const SLOTS: usize> Tables<SLOTS> {
         requires few { (0 < ids) × (ids ≤ 8192) }
         ensures { IfOk result (λ t. IsFreshOf (view_of t) ids) }
     {
-        let free = free_ids::fresh(alloc, ids)?;
         let mut zeros = vec![in alloc; true; ids as usize + 1]?;
         zeros[1] = false;
         Ok(Tables {
             alloc,
             ids,
-            free,
+            free: FreeIds::fresh(alloc, ids),
             zeros,
             locks: LockTable::new(alloc),
             transactions: BTreeMap::new(alloc),
@@ -84,9 +84,9 @@ impl<const SLOTS: usize> Tables<SLOTS> {
 
     /// The stored ids, ascending.
     pub(crate) fn stored(&self, alloc: Global) -> Result<Vec<u32>, Memory>
-        ensures { IfOk result (λ v. v.items ≡ taken self.now.free.keys self.now.ids) }
+        ensures { IfOk result (λ v. v.items ≡ taken self.now.free.ids self.now.ids) }
     {
-        free_ids::taken(alloc, &self.free, self.ids)
+        self.free.stored(alloc)
     }
 
     /// Touches the objects of a changed slot: its own, what it held and what it holds.

@@ -73,7 +73,7 @@ impl<const SLOTS: usize> Tables<SLOTS> {
         if !self.zeros[id as usize] || id == ROOT {
             return false;
         }
-        if self.free.contains(&id) || self.round.holds(id) {
+        if self.free.contains(id) || self.round.holds(id) {
             return false;
         }
         !self.references.names(id)

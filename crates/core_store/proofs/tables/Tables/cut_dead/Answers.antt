@@ -26,7 +26,7 @@ cut-requires g c = (search rules, (c.args.id, c.args.slot, ap (λ (w : TablesVie
 pub invariant_of-self-2 : goal.invariant_of-self-2
 invariant_of-self-2 g c =
     let t = c.queue_cut.new.self in
-    record { owes = t.owes; queue_sized = t.queue_sized; named_sized = t.named_sized; round_sized = ap (λ (r : Rounds). r.limit) (c.cut.ensures.moved c.requires.ready.core.cells) ∙ t.round_sized }
+    record { free_sized = t.free_sized; owes = t.owes; queue_sized = t.queue_sized; named_sized = t.named_sized; round_sized = ap (λ (r : Rounds). r.limit) (c.cut.ensures.moved c.requires.ready.core.cells) ∙ t.round_sized }
 
 pub returns-clause-collects : goal.returns-clause-collects
 returns-clause-collects g c d h agree ready =

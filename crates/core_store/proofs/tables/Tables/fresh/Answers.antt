@@ -13,7 +13,7 @@ marks ids more e zs is = ap (λ (xs : List Bool). slice_set xs 1 false) (is ∙ 
 pub returns : goal.returns
 returns g c = record {
   same_ids = refl;
-  free = c.in_ok-free.ensures;
+  free = c.fresh.ensures.free;
   zeros = λ more e. marks c.args.ids more e c.in_ok-zeros.zeros.items (c.in_ok-zeros.ensures.items_if_clones_equal (λ y k. k));
   locks = c.new.ensures;
   transactions = c.new-2.ensures.empty;

@@ -8,14 +8,14 @@ use Rattle.core_store.proofs.tables.Tables.look_past.Goals as goal
 pub invariant_of-self : goal.invariant_of-self
 invariant_of-self g c =
     let t = c.args.self.now in
-    record { owes = t.owes; queue_sized = t.queue_sized; named_sized = t.named_sized; round_sized = ap (λ (r : Rounds). r.limit) (c.look_past.ensures.looked c.requires.ready.core.cells) ∙ t.round_sized }
+    record { free_sized = t.free_sized; owes = t.owes; queue_sized = t.queue_sized; named_sized = t.named_sized; round_sized = ap (λ (r : Rounds). r.limit) (c.look_past.ensures.looked c.requires.ready.core.cells) ∙ t.round_sized }
 
 pub invariant_of-self-in-Into : goal.invariant_of-self-in-Into
 invariant_of-self-in-Into g c =
     let t = c.args.self.now in
     let i = c.in-Into in
     let x = green-of t.round.view (at.Into i.from i.slot i.to) tt (sym c.requires.at ∙ i.is) in
-    record { owes = t.owes; queue_sized = t.queue_sized; named_sized = t.named_sized; round_sized = ap (λ (r : Rounds). r.limit) (c.found.ensures.found x.walk x.swept x.slot x.of x.is) ∙ t.round_sized }
+    record { free_sized = t.free_sized; owes = t.owes; queue_sized = t.queue_sized; named_sized = t.named_sized; round_sized = ap (λ (r : Rounds). r.limit) (c.found.ensures.found x.walk x.swept x.slot x.of x.is) ∙ t.round_sized }
 
 pub returns-in-Look-clause-stands : goal.returns-in-Look-clause-stands
 returns-in-Look-clause-stands g c = λ core h agree. (

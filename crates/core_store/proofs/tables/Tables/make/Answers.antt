@@ -1,7 +1,6 @@
 use Rattle.std.proofs.Common.{◌≡◌, ℕ, ◌<◌, List, Some, refl, sym, ap, ◌∙◌, subst, rules, true}
 use Rattle.core_store.specs.Views.{view_of}
 use Rattle.core_store.proofs.PlanActive.{running-alive}
-use Rattle.core_store.proofs.MakeLaws.{removed-updates}
 use Rattle.core_store.proofs.MapLaws.{owed-loaded, on_err}
 use Rattle.core_store.proofs.HandlerLaws.{small-make, nobody-free, does-make}
 use Rattle.cell_page.specs.declared.cell.Cell.{Cell}
@@ -55,9 +54,9 @@ returns-clause-ok g c =
     let v = view_of c.args.self.now in
     let id = c.args.id in
     rw c.load.ensures
-    (does-make v c.args.held.now c.args.pass c.put_cell.new.self c.own.new.locks c.remove.new.self.keys (λ p. targets_of (entries_of c.note.new.references p)) id c.args.into c.in_ok-own.ensures.ok
+    (does-make v c.args.held.now c.args.pass c.put_cell.new.self c.own.new.locks c.remove.new.self.ids (λ p. targets_of (entries_of c.note.new.references p)) id c.args.into c.in_ok-own.ensures.ok
     (nobody-free v c.args.held.now c.args.pass id c.args.into c.requires.ready)
-    (removed-updates id v.free c.remove.new.self.keys c.remove.ensures.updates.0) noted c.requires.ready.pages.0
+    c.remove.ensures.takes noted c.requires.ready.pages.0
     (λ cells agree. made cells agree))
   where
     noted : (p : ℕ) → targets_of (entries_of c.note.new.references p) ≡ named_more (view_of c.args.self.now).references c.args.pass c.args.id p

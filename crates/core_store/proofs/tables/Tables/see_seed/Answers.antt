@@ -13,7 +13,7 @@ pub invariant_of-self : goal.invariant_of-self
 invariant_of-self g c =
     let t = c.args.self.now in
     let x = green-of t.round.view (at.Seed c.args.id) tt c.requires.at in
-    record { owes = t.owes; queue_sized = t.queue_sized; named_sized = t.named_sized; round_sized = ap (λ (r : Rounds). r.limit) (c.found.ensures.found x.walk x.swept x.slot x.of x.is) ∙ t.round_sized }
+    record { free_sized = t.free_sized; owes = t.owes; queue_sized = t.queue_sized; named_sized = t.named_sized; round_sized = ap (λ (r : Rounds). r.limit) (c.found.ensures.found x.walk x.swept x.slot x.of x.is) ∙ t.round_sized }
 
 pub index-requires : goal.index-requires
 index-requires g c = let h = c.requires.standing.1 in let l = marked h c.args.id (there-at h (at.Seed c.args.id) c.requires.at) in search (rules, l)
@@ -27,7 +27,7 @@ pub invariant_of-self-then-index : goal.invariant_of-self-then-index
 invariant_of-self-then-index g c =
     let t = c.args.self.now in
     let x = green-of t.round.view (at.Seed c.args.id) tt c.requires.at in
-    record { owes = t.owes; queue_sized = t.queue_sized; named_sized = t.named_sized; round_sized = ap (λ (r : Rounds). r.limit) (c.begin_test.ensures.begun x.walk x.swept x.slot x.of x.is) ∙ t.round_sized }
+    record { free_sized = t.free_sized; owes = t.owes; queue_sized = t.queue_sized; named_sized = t.named_sized; round_sized = ap (λ (r : Rounds). r.limit) (c.begin_test.ensures.begun x.walk x.swept x.slot x.of x.is) ∙ t.round_sized }
 
 pub found-requires-else-index : goal.found-requires-else-index
 found-requires-else-index g c =
@@ -38,7 +38,7 @@ pub invariant_of-self-else-index : goal.invariant_of-self-else-index
 invariant_of-self-else-index g c =
     let t = c.args.self.now in
     let x = green-of t.round.view (at.Seed c.args.id) tt c.requires.at in
-    record { owes = t.owes; queue_sized = t.queue_sized; named_sized = t.named_sized; round_sized = ap (λ (r : Rounds). r.limit) (c.found-else-index.ensures.found x.walk x.swept x.slot x.of x.is) ∙ t.round_sized }
+    record { free_sized = t.free_sized; owes = t.owes; queue_sized = t.queue_sized; named_sized = t.named_sized; round_sized = ap (λ (r : Rounds). r.limit) (c.found-else-index.ensures.found x.walk x.swept x.slot x.of x.is) ∙ t.round_sized }
 
 pub returns-then-not-waits : goal.returns-then-not-waits
 returns-then-not-waits g c = record {

@@ -42,13 +42,13 @@ pub invariant_of-self : goal.invariant_of-self
 invariant_of-self g c =
     let t = c.args.self.now in
     let x = green-of t.round.view (at.Out c.args.from c.args.slot) tt c.requires.at in
-    record { owes = t.owes; queue_sized = t.queue_sized; named_sized = t.named_sized; round_sized = ap (λ (r : Rounds). r.limit) (c.begin_test.ensures.begun x.walk x.swept x.slot x.of x.is) ∙ t.round_sized }
+    record { free_sized = t.free_sized; owes = t.owes; queue_sized = t.queue_sized; named_sized = t.named_sized; round_sized = ap (λ (r : Rounds). r.limit) (c.begin_test.ensures.begun x.walk x.swept x.slot x.of x.is) ∙ t.round_sized }
 
 pub invariant_of-self-else-waits : goal.invariant_of-self-else-waits
 invariant_of-self-else-waits g c =
     let t = c.args.self.now in
     let x = green-of t.round.view (at.Out c.args.from c.args.slot) tt c.requires.at in
-    record { owes = t.owes; queue_sized = t.queue_sized; named_sized = t.named_sized; round_sized = ap (λ (r : Rounds). r.limit) (c.found.ensures.found x.walk x.swept x.slot x.of x.is) ∙ t.round_sized }
+    record { free_sized = t.free_sized; owes = t.owes; queue_sized = t.queue_sized; named_sized = t.named_sized; round_sized = ap (λ (r : Rounds). r.limit) (c.found.ensures.found x.walk x.swept x.slot x.of x.is) ∙ t.round_sized }
 
 pub returns-then-index : goal.returns-then-index
 returns-then-index g c = record {

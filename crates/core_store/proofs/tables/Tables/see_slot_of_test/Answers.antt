@@ -27,13 +27,13 @@ pub invariant_of-self : goal.invariant_of-self
 invariant_of-self g c =
     let t = c.args.self.now in
     let x = green-of t.round.view (at.Test c.args.id c.args.slot) tt c.requires.at in
-    record { owes = t.owes; queue_sized = t.queue_sized; named_sized = t.named_sized; round_sized = ap (λ (r : Rounds). r.limit) (c.found.ensures.found x.walk x.swept x.slot x.of x.is) ∙ t.round_sized }
+    record { free_sized = t.free_sized; owes = t.owes; queue_sized = t.queue_sized; named_sized = t.named_sized; round_sized = ap (λ (r : Rounds). r.limit) (c.found.ensures.found x.walk x.swept x.slot x.of x.is) ∙ t.round_sized }
 
 pub invariant_of-self-else-is_strong : goal.invariant_of-self-else-is_strong
 invariant_of-self-else-is_strong g c =
     let t = c.args.self.now in
     let x = green-of t.round.view (at.Test c.args.id c.args.slot) tt c.requires.at in
-    record { owes = t.owes; queue_sized = t.queue_sized; named_sized = t.named_sized; round_sized = ap (λ (r : Rounds). r.limit) (c.tested.ensures.tested x.walk x.swept x.slot x.of x.is) ∙ t.round_sized }
+    record { free_sized = t.free_sized; owes = t.owes; queue_sized = t.queue_sized; named_sized = t.named_sized; round_sized = ap (λ (r : Rounds). r.limit) (c.tested.ensures.tested x.walk x.swept x.slot x.of x.is) ∙ t.round_sized }
 
 pub returns-then-is_strong : goal.returns-then-is_strong
 returns-then-is_strong g c = record {

@@ -23,7 +23,7 @@ pub invariant_of-self : goal.invariant_of-self
 invariant_of-self g c =
     let t = c.args.self.now in
     let b = asks-green (view_of t) (at.Strengthen c.args.«from» c.args.slot c.args.to) tt c.requires.at in
-    record { owes = t.owes; queue_sized = t.queue_sized; named_sized = t.named_sized; round_sized = ap (λ (r : Rounds). r.limit) (c.found.ensures.found b.walk b.swept b.slot b.greening b.is) ∙ t.round_sized }
+    record { free_sized = t.free_sized; owes = t.owes; queue_sized = t.queue_sized; named_sized = t.named_sized; round_sized = ap (λ (r : Rounds). r.limit) (c.found.ensures.found b.walk b.swept b.slot b.greening b.is) ∙ t.round_sized }
 
 pub returns-clause-collects : goal.returns-clause-collects
 returns-clause-collects g c d h agree ready =

@@ -37,13 +37,13 @@ pub invariant_of-self-then-is_let_go : goal.invariant_of-self-then-is_let_go
 invariant_of-self-then-is_let_go g c =
     let t = c.args.self.now in
     let w = asked-look t.round.view c.args.id c.args.slot c.requires.at in
-    record { owes = t.owes; queue_sized = ap (λ (q : Queue). q.limit) c.drop_id.ensures ∙ t.queue_sized; named_sized = t.named_sized; round_sized = ap (λ (r : Rounds). r.limit) (c.weakened.ensures.walks w.0 w.1) ∙ t.round_sized }
+    record { free_sized = t.free_sized; owes = t.owes; queue_sized = ap (λ (q : Queue). q.limit) c.drop_id.ensures ∙ t.queue_sized; named_sized = t.named_sized; round_sized = ap (λ (r : Rounds). r.limit) (c.weakened.ensures.walks w.0 w.1) ∙ t.round_sized }
 
 pub invariant_of-self-else-is_let_go : goal.invariant_of-self-else-is_let_go
 invariant_of-self-else-is_let_go g c =
     let t = c.args.self.now in
     let w = asked-look t.round.view c.args.id c.args.slot c.requires.at in
-    record { owes = t.owes; queue_sized = t.queue_sized; named_sized = t.named_sized; round_sized = ap (λ (r : Rounds). r.limit) (c.weakened-else-is_let_go.ensures.walks w.0 w.1) ∙ t.round_sized }
+    record { free_sized = t.free_sized; owes = t.owes; queue_sized = t.queue_sized; named_sized = t.named_sized; round_sized = ap (λ (r : Rounds). r.limit) (c.weakened-else-is_let_go.ensures.walks w.0 w.1) ∙ t.round_sized }
 
 pub returns-then-is_let_go-clause-collects : goal.returns-then-is_let_go-clause-collects
 returns-then-is_let_go-clause-collects g c d h agree ready =
