@@ -60,6 +60,16 @@ pub granted-pages : {slots : ℕ} {v : TablesView} {m : Moment} {pass : ℕ} {c 
 granted-pages {slots} {v} {m} {pass} {c} cells g = allowed-pages m.state cells pass c (Some g.transaction) g.allowed g.found
 
 module _ {slots : ℕ} {v : TablesView} {core : Core} (h : Stands slots v core) where
+  -- the machine doesn't refuse a call that is granted
+  pub unrefused-plan : (pass : ℕ) (c : TransactionCall) (p : Plan) → IsGranted v pass c p → refusal_of core.moment.state pass c ≡ None
+  unrefused-plan pass c plan.Begin w = ap (refusal_of core.moment.state pass) w.0 ∙ (granted-begin h pass w.1).1
+  unrefused-plan pass c (plan.Read id slot into) w = ap (refusal_of core.moment.state pass) w.1 ∙ (granted-read h pass w.0 slot into id w.2).grants.allowed
+  unrefused-plan pass c (plan.Make id into) w = ap (refusal_of core.moment.state pass) w.0 ∙ (granted-make h pass into id w.1 w.2).grants.allowed
+  unrefused-plan pass c (plan.Store id slot target) w = ap (refusal_of core.moment.state pass) w.2 ∙ (granted-store h pass w.0 slot w.1 id target w.3 w.4).grants.allowed
+  unrefused-plan pass c (plan.Get id) w = ap (refusal_of core.moment.state pass) w.1 ∙ (granted-get h pass w.0 id w.2).grants.allowed
+  unrefused-plan pass c (plan.Set id value) w = ap (refusal_of core.moment.state pass) w.1 ∙ (granted-set h pass w.0 value id w.2).grants.allowed
+  unrefused-plan pass c plan.Commit w = ap (refusal_of core.moment.state pass) w.0 ∙ (granted-commit h pass w.1).allowed
+
   -- ---- the record
 
   -- what is logged is what the plan says

@@ -1,21 +1,25 @@
 -- What was planned for a call.
-use Rattle.std.proofs.Common.{◌≡◌, ℕ, List, true, subst, None}
-use Rattle.std.specs.Prelude.{Result, Ok, Err, IfOk, IfErr}
+use Rattle.std.proofs.Common.{◌≡◌, ℕ, ◌+◌, ◌≤◌, List, true, arith, refl, sym, ap, ◌∙◌, subst, None}
+use Rattle.std.specs.Prelude.{Result, Ok, Err, IfOk, IfErr, is_ok, is_none}
 use Rattle.std.specs.List.{AllByRecursion}
 use Rattle.plain_model.specs.declared.calls.Call.{Call as TransactionCall}
 use Rattle.plain_model.specs.declared.calls.Reply.{Reply}
-use Rattle.plain_model.specs.Machine.{IsInRange}
+use Rattle.plain_model.specs.declared.calls.Call.TheVariants as call
+use Rattle.plain_model.specs.Machine.{refusal_of, IsInRange}
+use Rattle.store_model.specs.Core.{Core}
 use Rattle.cell_page.specs.Format.{page_of_id}
 use Rattle.core_store.specs.declared.handlers.Performed.{Performed}
 use Rattle.core_store.specs.declared.plan.Plan.{Plan}
+use Rattle.core_store.specs.declared.plan.Plan.TheVariants as plan
+use Rattle.core_store.specs.Stands.{Stands}
 use Rattle.core_store.specs.declared.three.HeldFrame.{HeldFrame}
 use Rattle.core_store.specs.Frames.{is_held}
 use Rattle.core_store.specs.Owed.{entries_needed}
-use Rattle.core_store.specs.Plans.{IsGranted, IsRefused, IsPlanned, entries_needed_by}
+use Rattle.core_store.specs.Plans.{IsGranted, IsRefused, IsPlanned, entries_needed_by, room_needed}
 use Rattle.core_store.specs.Ready.{Does, DoesPlanned, IsReady, IsReadyToCall, objects_of_plan}
 use Rattle.core_store.specs.Tables.{TablesView}
-use Rattle.core_store.proofs.NeededLaws.{needed-granted}
-use Rattle.core_store.proofs.PlanRecords.{pages-plan, plan-in_range}
+use Rattle.core_store.proofs.NeededLaws.{needed-granted, needed-few}
+use Rattle.core_store.proofs.PlanRecords.{pages-plan, plan-in_range, unrefused-plan}
 use Rattle.core_store.proofs.RefusalLaws.{performs-refused}
 use Rattle.core_store.proofs.ReplyLaws.{each-map}
 
@@ -48,3 +52,32 @@ ready-planned {slots} v held pass c (Ok p) in_range ready granted =
       pages = each-map (λ n. is_held held n ≡ true) page_of_id (objects_of_plan s.core.cells p) (subst (AllByRecursion (λ n. is_held held n ≡ true)) (pages-plan s.stands pass c p granted) ready.pages);
     }
 ready-planned v held pass c (Err reply) in_range ready granted = granted
+
+-- a call has a plan exactly where the machine doesn't refuse it
+pub planned-allowed : {slots : ℕ} (v : TablesView) (core : Core) → Stands slots v core → (pass : ℕ) (c : TransactionCall) (r : Result Plan Reply) → IfOk r (IsGranted v pass c) → IfErr r (λ reply. IsRefused slots v pass c reply)
+    → is_ok r ≡ is_none (refusal_of core.moment.state pass c)
+planned-allowed v core h pass c (Ok p) granted refused = sym (ap is_none (unrefused-plan h pass c p granted))
+planned-allowed v core h pass c (Err reply) granted refused = sym (ap is_none (refused core h))
+
+-- a commit that the machine doesn't refuse is planned
+pub planned-commit : {slots : ℕ} (v : TablesView) (core : Core) → Stands slots v core → (pass : ℕ) (r : Result Plan Reply) → IfOk r (IsGranted v pass call.Commit) → IfErr r (λ reply. IsRefused slots v pass call.Commit reply)
+    → refusal_of core.moment.state pass call.Commit ≡ None → r ≡ Ok plan.Commit
+planned-commit v core h pass (Err reply) granted refused none = let e = sym (refused core h) ∙ none in absurd (cc)
+planned-commit v core h pass (Ok plan.Commit) granted refused none = refl
+planned-commit v core h pass (Ok plan.Begin) granted refused none = let e = granted.0 in absurd (cc)
+planned-commit v core h pass (Ok (plan.Read id slot into)) granted refused none = let e = granted.1 in absurd (cc)
+planned-commit v core h pass (Ok (plan.Make id into)) granted refused none = let e = granted.0 in absurd (cc)
+planned-commit v core h pass (Ok (plan.Store id slot target)) granted refused none = let e = granted.2 in absurd (cc)
+planned-commit v core h pass (Ok (plan.Get id)) granted refused none = let e = granted.1 in absurd (cc)
+planned-commit v core h pass (Ok (plan.Set id value)) granted refused none = let e = granted.1 in absurd (cc)
+
+-- the room that is taken before is enough for the entry, and for all that is owed behind it
+pub room-enough : (c : TransactionCall) (r : Result Plan Reply) (owed len room left : ℕ) → len + room_needed r owed ≤ room → left + 1 ≤ owed + entries_needed c → (r ≡ Ok plan.Commit → left + 1 ≤ owed) → len + 1 + left ≤ room
+room-enough c (Ok plan.Commit) owed len room left h more commit = let k = commit refl in omega (arith, h, k)
+room-enough c (Ok plan.Begin) owed len room left h more commit = let k = needed-few c in omega (arith, h, more, k)
+room-enough c (Ok (plan.Read id slot into)) owed len room left h more commit = let k = needed-few c in omega (arith, h, more, k)
+room-enough c (Ok (plan.Make id into)) owed len room left h more commit = let k = needed-few c in omega (arith, h, more, k)
+room-enough c (Ok (plan.Store id slot target)) owed len room left h more commit = let k = needed-few c in omega (arith, h, more, k)
+room-enough c (Ok (plan.Get id)) owed len room left h more commit = let k = needed-few c in omega (arith, h, more, k)
+room-enough c (Ok (plan.Set id value)) owed len room left h more commit = let k = needed-few c in omega (arith, h, more, k)
+room-enough c (Err reply) owed len room left h more commit = let k = needed-few c in omega (arith, h, more, k)

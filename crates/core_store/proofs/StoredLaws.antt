@@ -31,20 +31,20 @@ up_to-none : (n : ℕ) (xs : List ℕ) → AllByRecursion (λ y. n < y) xs → u
 up_to-none n [] h = refl
 up_to-none n (x ∷ xs) h = up_to-out n x xs h.0 ∙ up_to-none n xs h.1
 
-above-more : (n m : ℕ) (xs : List ℕ) → n ≤ m → AllByRecursion (λ y. m < y) xs → AllByRecursion (λ y. n < y) xs
+pub above-more : (n m : ℕ) (xs : List ℕ) → n ≤ m → AllByRecursion (λ y. m < y) xs → AllByRecursion (λ y. n < y) xs
 above-more n m [] l h = tt
 above-more n m (x ∷ xs) l h = let k = h.0 in (omega (arith, k, l), above-more n m xs l h.1)
 
-stored-here : (x k : ℕ) (xs : List ℕ) → k ≡ x → is_stored (x ∷ xs) k ≡ true
+pub stored-here : (x k : ℕ) (xs : List ℕ) → k ≡ x → is_stored (x ∷ xs) k ≡ true
 stored-here x k xs e = grind (arith, nat_tests)
 
 stored-later : (x k : ℕ) (xs : List ℕ) → is_stored xs k ≡ true → is_stored (x ∷ xs) k ≡ true
 stored-later x k xs e = or_right (is_at (nat_cmp k) x) (is_stored xs k) e
 
-stored-apart : (x k : ℕ) (xs : List ℕ) → (k ≡ x → ⊥) → is_stored (x ∷ xs) k ≡ is_stored xs k
+pub stored-apart : (x k : ℕ) (xs : List ℕ) → (k ≡ x → ⊥) → is_stored (x ∷ xs) k ≡ is_stored xs k
 stored-apart x k xs n = grind (arith, nat_tests)
 
-unstored : (n : ℕ) (xs : List ℕ) → AllByRecursion (λ y. n < y) xs → is_stored xs n ≡ false
+pub unstored : (n : ℕ) (xs : List ℕ) → AllByRecursion (λ y. n < y) xs → is_stored xs n ≡ false
 unstored n [] h = refl
 unstored n (x ∷ xs) h = let l = h.0 in stored-apart x n xs (λ e. absurd (omega (arith, l, e))) ∙ unstored n xs h.1
 

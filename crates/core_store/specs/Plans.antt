@@ -1,5 +1,5 @@
 -- What is known of a call that isn't refused, in the words of the tables.
-use Rattle.std.specs.Prelude.{◌≡◌, ℕ, Bool, true, false, Option, Some, None, Result, Ok, Err}
+use Rattle.std.specs.Prelude.{◌≡◌, ℕ, ◌+◌, Bool, true, false, Option, Some, None, Result, Ok, Err}
 use Rattle.plain_model.specs.declared.calls.Call.{Call as TransactionCall}
 use Rattle.plain_model.specs.declared.calls.Call.TheVariants as call
 use Rattle.plain_model.specs.declared.calls.Reply.{Reply}
@@ -51,6 +51,11 @@ entries_needed_by plan.Begin = 2
 entries_needed_by (plan.Store id slot target) = 2
 entries_needed_by (plan.Set id value) = 2
 entries_needed_by _ = 1
+
+-- for how many entries there is to be room before what was planned is done, where so many are owed: the entry of a commit is one of these
+abbrev pub room_needed : Result Plan Reply → ℕ → ℕ
+room_needed (Ok plan.Commit) owed = owed
+room_needed _ owed = owed + 2
 
 -- whatever the tables stand for, the reference machine refuses the call so
 abbrev pub IsRefused : ℕ → TablesView → ℕ → TransactionCall → Reply → Type 0

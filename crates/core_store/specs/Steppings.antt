@@ -14,7 +14,9 @@ use Rattle.core_store.specs.Frames.{pages_held}
 use Rattle.core_store.specs.Logged.{want_of}
 use Rattle.core_store.specs.JournalView.{JournalView, cells_of, core_of, with_note}
 use Rattle.core_store.specs.Limited.{is_past_limit, pages_for_collector}
-use Rattle.core_store.specs.RoundView.{asked, is_event, left_of, Passes, Proceeds}
+use Rattle.core_store.specs.declared.round_at.RoundAt.{RoundAt}
+use Rattle.core_store.specs.declared.round_at.RoundAt.TheVariants as at
+use Rattle.core_store.specs.RoundView.{RoundView, asked, is_event, left_of, Passes, Proceeds}
 use Rattle.core_store.specs.Events.{core_after}
 use Rattle.core_store.specs.Collects.{Collects, BeginsGreen, entry_of}
 use Rattle.core_store.specs.Collecting.{answer_of}
@@ -34,6 +36,19 @@ abbrev pub left_told : Collect → Option ℕ
 left_told (Did popped left) = Some left
 left_told (Deleted id left) = Some left
 left_told _ = None
+
+-- how many bytes the record of what the collector does next has: what makes a pointer weak or strong, removes one, flips or frees an object has one
+abbrev pub bytes_at : RoundAt → ℕ
+bytes_at (at.Look id slot) = 10
+bytes_at (at.Into «from» slot to) = 10
+bytes_at (at.Strengthen «from» slot to) = 10
+bytes_at (at.Cut id slot) = 11
+bytes_at (at.Free id) = 5
+bytes_at (at.Flip id) = 5
+bytes_at _ = 0
+
+abbrev pub bytes_to_collect : RoundView → ℕ
+bytes_to_collect round = bytes_at (asked round)
 
 -- the event took the first id out of the queue
 abbrev pub pops : Collect → Bool

@@ -1,5 +1,5 @@
 //! What each call does that isn't refused.
-ghost use Rattle.std.specs.Prelude.{◌≡◌, ◌+◌, ◌^◌, ◌<◌, ◌≤◌, List, IfOk, OnErr, OnOk, IsSome, Some, None, if◌then◌else◌, ◌==◌};
+ghost use Rattle.std.specs.Prelude.{◌≡◌, ◌+◌, ◌^◌, ◌<◌, ◌≤◌, List, Ok, IfOk, IsOk, OnErr, OnOk, IsSome, Some, None, if◌then◌else◌, ◌==◌};
 ghost use Rattle.strict_locks.specs.Locks.{holders_of, StandsInWayOfOwn, Nobody};
 ghost use Rattle.store_model.specs.Core.{Core};
 ghost use Rattle.core_store.specs.declared.three.HeldFrame.{HeldFrame};
@@ -207,6 +207,7 @@ impl<const SLOTS: usize> Tables<SLOTS> {
         requires standing { (c : Core) × Stands SLOTS (view_of self.old) c }
         ensures does { (held : List (HeldFrame SLOTS)) → Does (view_of self.old) (view_of self.new) held held pass Plan.Commit result }
         ensures owed { self.new.owed ≤ self.old.owed }
+        ensures spare { IsSome (running_at self.old.transactions.entries pass) → self.new.owed + 1 ≤ self.old.owed }
     {
         self.end(pass);
         Performed {
@@ -221,6 +222,7 @@ impl<const SLOTS: usize> Tables<SLOTS> {
         requires room { self.old.owed + 1 < 2 ^ 64 }
         ensures ok { IfOk result (Does (view_of self.old) (view_of self.new) held.old held.new pass plan) }
         ensures owed { self.new.owed + 1 ≤ self.old.owed + entries_needed_by plan }
+        ensures commit { plan ≡ Plan.Commit → IsOk result × (self.new.owed + 1 ≤ self.old.owed) }
         ensures err { OnErr result ((view_of self.new ≡ view_of self.old) × (held.new ≡ held.old)) }
         ensures pages { pages_held held.new ≡ pages_held held.old }
     {
@@ -247,6 +249,7 @@ impl<const SLOTS: usize> Tables<SLOTS> {
         requires room { self.old.owed + 1 < 2 ^ 64 }
         ensures ok { IfOk result (DoesPlanned (view_of self.old) (view_of self.new) held.old held.new pass planned) }
         ensures owed { (call : Call) → IsPlanned SLOTS (view_of self.old) pass call planned → self.new.owed + 1 ≤ self.old.owed + entries_needed call }
+        ensures commit { planned ≡ Ok Plan.Commit → IsOk result × (self.new.owed + 1 ≤ self.old.owed) }
         ensures err { OnErr result ((view_of self.new ≡ view_of self.old) × (held.new ≡ held.old)) }
         ensures pages { pages_held held.new ≡ pages_held held.old }
     {

@@ -1,9 +1,9 @@
 //! What a call does that isn't refused, and why a call is refused.
 
-ghost use Rattle.std.specs.Prelude.{◌≡◌, ℕ, ◌<◌, IfOk, IfErr, IfSome, None};
+ghost use Rattle.std.specs.Prelude.{◌≡◌, ℕ, ◌+◌, ◌<◌, ◌^◌, IfOk, IfErr, IfSome, None};
 ghost use Rattle.plain_model.specs.Machine.{IsInRange};
 ghost use Rattle.core_store.specs.Transactions.{running_at};
-ghost use Rattle.core_store.specs.Plans.{IsGranted, IsRefused, IsShareable, IsOwnable, IsBlockedBy};
+ghost use Rattle.core_store.specs.Plans.{IsGranted, room_needed, IsRefused, IsShareable, IsOwnable, IsBlockedBy};
 ghost use Rattle.core_store.specs.Views.{view_of};
 
 use crate::tables::Tables;
@@ -27,6 +27,18 @@ pub(crate) enum Plan {
 enum Lock {
     Shared,
     Owned,
+}
+
+/// For how many entries there is to be room before what was planned is done, where so many are owed: one is added, and
+/// the transaction may come to owe one more. The entry of a commit is one that its transaction owes.
+pub(crate) fn room_needed(planned: Result<Plan, Reply>, owed: usize) -> usize
+    requires { owed + 2 < 2 ^ 64 }
+    ensures { result ≡ room_needed planned owed }
+{
+    match planned {
+        Ok(Plan::Commit) => owed,
+        _ => owed + 2,
+    }
 }
 
 impl<const SLOTS: usize> Tables<SLOTS> {

@@ -1,5 +1,8 @@
 //! What a journal keeps beside its history: the free ids, the marks, the locks, the transactions, what they name, the queue and the round.
-ghost use Rattle.std.specs.Prelude.{◌≡◌, ◌<◌, ◌≤◌, IfOk, is_some};
+ghost use Rattle.std.specs.Prelude.{◌≡◌, ◌<◌, ◌≤◌, ◌^◌, IfOk, is_some};
+ghost use Rattle.store_model.specs.Core.{Core};
+ghost use Rattle.core_store.specs.Owed.{bytes_owed};
+ghost use Rattle.core_store.specs.Stands.{Stands};
 ghost use Rattle.cell_page.specs.Format.{IsSlotCount};
 ghost use Rattle.core_store.specs.Tables.{owed_by};
 ghost use Rattle.core_store.specs.RoundView.{touched_in};
@@ -14,6 +17,12 @@ use ref_tables::{TempRefs, ZeroQueue};
 use std::alloc::Global;
 use std::collections::BTreeMap;
 use strict_locks::LockTable;
+
+/// How many bytes of a log the undo of a write owes: those of its record.
+const UNDO_BYTES: u64 = 25;
+
+/// How many the end of a transaction owes: two of its record, and five more that a batch takes beside its records.
+const END_BYTES: u64 = 7;
 
 /// The free ids, the marks, the locks and the transactions.
 #[derive(Debug, Drop)]
@@ -73,6 +82,17 @@ impl<const SLOTS: usize> Tables<SLOTS> {
         ensures { result ≡ self.now.owed }
     {
         self.owed
+    }
+
+    /// How many bytes of a log the active transactions owe.
+    pub(crate) fn bytes_owed(&self) -> u64
+        requires standing { (c : Core) × Stands SLOTS (view_of self.now) c }
+        requires few { self.now.owed < 2 ^ 32 }
+        ensures { (c : Core) → Stands SLOTS (view_of self.now) c → result ≡ bytes_owed c.moment }
+    {
+        let ends = self.transactions.len() as u64;
+        let undos = self.owed as u64 - ends;
+        UNDO_BYTES * undos + END_BYTES * ends
     }
 
     /// Whether the client has a transaction.

@@ -1,5 +1,5 @@
 //! The trace of a journal: its notes, how many it may have, and which answers were given.
-ghost use Rattle.std.specs.Prelude.{◌≡◌, ◌+◌, ◌^◌, ◌<◌, ◌≤◌, ◌++◌, ◌∷◌, [], nat_lt, length, true, false, vec_len, vec_capacity, OnOk};
+ghost use Rattle.std.specs.Prelude.{◌≡◌, ◌+◌, ◌^◌, ◌<◌, ◌≤◌, ◌++◌, ◌∷◌, [], nat_lt, length, true, false, vec_len, vec_capacity, OnOk, IsOk};
 
 use crate::limits::Limits;
 use crate::marks::Marks;
@@ -44,6 +44,7 @@ impl Trace {
     /// Takes room for so many notes more. Out of memory is its only error.
     pub(crate) fn take_room(&mut self, more: usize) -> Result<(), Memory>
         ensures room { OnOk result (vec_len self.new.notes + more ≤ vec_capacity self.new.notes) }
+        ensures succeeds { vec_len self.old.notes + more ≤ vec_capacity self.old.notes → IsOk result }
         ensures notes { (self.new.notes.items ≡ self.old.notes.items) × (vec_len self.new.notes ≡ vec_len self.old.notes) }
         ensures more { vec_capacity self.old.notes ≤ vec_capacity self.new.notes }
         ensures rest { (self.new.limits ≡ self.old.limits) × (self.new.marks ≡ self.old.marks) }

@@ -15,6 +15,7 @@ impl<const SLOTS: usize> Tables<SLOTS> {
         requires within { (id : ℕ) → has ((view_of self.old).references pass) id ≡ true → (1 ≤ id) × (id ≤ self.old.ids) }
         requires marks { length (view_of self.old).zeros ≡ self.old.ids + 1 }
         ensures ends { Ends (view_of self.old) (view_of self.new) pass }
+        ensures least { (t : Running) → running_at self.old.transactions.entries pass ≡ Some t → self.new.owed + (length t.replaced + 1) ≡ self.old.owed }
         ensures owed { self.new.owed ≤ self.old.owed }
     {
         self.locks.drop_all(pass);
