@@ -89,10 +89,10 @@ pub as-many-active : (slots : ℕ) (v : TablesView) (c : Core) → Stands slots 
 as-many-active slots v c h sorted =
     let active = c.moment.state.active in
     let keys : keys_of v.transactions ≡ keys_of active =
-        same-ids (keys_of v.transactions) (keys_of active) (ordered-keys (keys_of v.transactions) sorted) (passes-keys active h.sound.state.passes)
-        (λ k.
-        is-client v.transactions k
-        ∙ (same-some slots c.moment.state.committed (running_at v.transactions k) (transaction_of c.moment.state k) (c.moment.undone k) (h.running k) ∙ sym (is-client active k))) in
+    same-ids (keys_of v.transactions) (keys_of active) (ordered-keys (keys_of v.transactions) sorted) (passes-keys active h.sound.state.passes)
+    (λ k.
+    is-client v.transactions k
+    ∙ (same-some slots c.moment.state.committed (running_at v.transactions k) (transaction_of c.moment.state k) (c.moment.undone k) (h.running k) ∙ sym (is-client active k))) in
     sym (length-keys_of v.transactions) ∙ (ap (λ (ks : List ℕ). length ks) keys ∙ length-keys_of active)
 
 -- ---- what they owe

@@ -29,7 +29,7 @@ success-other s pass t (Make into) q n = transaction_of-with_other s pass q _ n
 success-other s pass t Commit q n = transaction_of-without_other s pass q n
 success-other s pass t Abort q n = transaction_of-without_other s pass q n
 
-step-other : (s : State) (pass : ℕ) (call : TransactionCall) (q : ℕ) → q ≢ pass → transaction_of (step s pass call).1 q ≡ transaction_of s q
+pub step-other : (s : State) (pass : ℕ) (call : TransactionCall) (q : ℕ) → q ≢ pass → transaction_of (step s pass call).1 q ≡ transaction_of s q
 unfolding step
 step-other s pass call q n = by (refusal_of s pass call)
   where

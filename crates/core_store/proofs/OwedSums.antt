@@ -13,15 +13,18 @@ use Rattle.plain_model.specs.Machine.{transaction_of}
 use Rattle.plain_model.specs.History.{Moment, can_be_undone, left_to_undo}
 use Rattle.plain_laws.specs.Sound.{PassesAscend}
 use Rattle.plain_laws.proofs.Entries.{at, at_here, at_next, at_none, none_some, same_or_apart, some_same, at-remove_same, at-remove_other, ascend-remove}
-use Rattle.core_store.specs.Owed.{entries_owed}
+
+-- what the active clients owe together, each this much for the number of its writes that are left to undo
+abbrev pub owed_in : (ℕ → ℕ) → Moment → ℕ
+owed_in weight m = sum_by (λ e. weight (left_to_undo m e.0)) m.state.active
 
 -- what an active client owes, with these counts of undone writes
-abbrev pub owes : (ℕ → ℕ) → ℕ × ActiveTransaction → ℕ
-owes undone e = count_by can_be_undone e.1.writes - undone e.0 + 1
+abbrev pub owes : (ℕ → ℕ) → (ℕ → ℕ) → ℕ × ActiveTransaction → ℕ
+owes weight undone e = weight (count_by can_be_undone e.1.writes - undone e.0)
 
 -- what is owed by the client of this transaction, or of none
-abbrev pub owed_at : (ℕ → ℕ) → ℕ → Option ActiveTransaction → ℕ
-owed_at undone pass o = option_map_or (λ t. owes undone (pass, t)) o 0
+abbrev pub owed_at : (ℕ → ℕ) → (ℕ → ℕ) → ℕ → Option ActiveTransaction → ℕ
+owed_at weight undone pass o = option_map_or (λ t. owes weight undone (pass, t)) o 0
 
 -- a client behind the others is another one
 behind : (n p : ℕ) (t : ActiveTransaction) (es : List (ℕ × ActiveTransaction)) → AllByRecursion (λ e. n < e.0) es → at p es ≡ Some t → p ≢ n
@@ -36,18 +39,18 @@ above n p t (e ∷ es) a h =
 -- ---- the sum over the entries of the list
 
 -- each client once, so what it owes is told by its own entry
-pub owed-entries : (m : Moment) → PassesAscend m.state.active → entries_owed m ≡ sum_by (owes m.undone) m.state.active
-owed-entries m a = by m.state.active a (λ q u h. h)
+pub owed-entries : (weight : ℕ → ℕ) (m : Moment) → PassesAscend m.state.active → owed_in weight m ≡ sum_by (owes weight m.undone) m.state.active
+owed-entries weight m a = by m.state.active a (λ q u h. h)
   where
-    by : (es : List (ℕ × ActiveTransaction)) → PassesAscend es → ((q : ℕ) (u : ActiveTransaction) → at q es ≡ Some u → transaction_of m.state q ≡ Some u) → sum_by (λ e. left_to_undo m e.0 + 1) es ≡ sum_by (owes m.undone) es
+    by : (es : List (ℕ × ActiveTransaction)) → PassesAscend es → ((q : ℕ) (u : ActiveTransaction) → at q es ≡ Some u → transaction_of m.state q ≡ Some u) → sum_by (λ e. weight (left_to_undo m e.0)) es ≡ sum_by (owes weight m.undone) es
     by [] s h = refl
     by (e ∷ es) s h =
-        let here : left_to_undo m e.0 + 1 ≡ owes m.undone e =
-        ap (λ (o : Option ActiveTransaction). option_map_or (λ t. count_by can_be_undone t.writes) o 0 - m.undone e.0 + 1) (h e.0 e.1 (at_here e.0 e es refl)) in
+        let here : weight (left_to_undo m e.0) ≡ owes weight m.undone e =
+        ap (λ (o : Option ActiveTransaction). weight (option_map_or (λ t. count_by can_be_undone t.writes) o 0 - m.undone e.0)) (h e.0 e.1 (at_here e.0 e es refl)) in
         let later = by es s.1 (λ q u k. h q u (at_next q e es (behind e.0 q u es s.0 k) ∙ k)) in
-        sum_by-cons (λ (x : ℕ × ActiveTransaction). left_to_undo m x.0 + 1) e es
-        ∙ (ap (λ n. n + sum_by (λ (x : ℕ × ActiveTransaction). left_to_undo m x.0 + 1) es) here
-        ∙ (ap (λ n. owes m.undone e + n) later ∙ sym (sum_by-cons (owes m.undone) e es)))
+        sum_by-cons (λ (x : ℕ × ActiveTransaction). weight (left_to_undo m x.0)) e es
+        ∙ (ap (λ n. n + sum_by (λ (x : ℕ × ActiveTransaction). weight (left_to_undo m x.0)) es) here
+        ∙ (ap (λ n. owes weight m.undone e + n) later ∙ sym (sum_by-cons (owes weight m.undone) e es)))
 
 -- ---- the entries of the others
 
@@ -58,32 +61,32 @@ remove_next : (p : ℕ) (e : ℕ × ActiveTransaction) (es : List (ℕ × Active
 remove_next p e es h = grind (arith, nat_tests)
 
 -- all that is owed is what the others owe and what this one owes
-pub sum-without : (undone : ℕ → ℕ) (p : ℕ) (es : List (ℕ × ActiveTransaction)) → sum_by (owes undone) es ≡ sum_by (owes undone) (remove_entry (is_at (nat_cmp p)) es) + owed_at undone p (at p es)
-sum-without undone p [] = refl
-sum-without undone p (e ∷ es) =
+pub sum-without : (weight undone : ℕ → ℕ) (p : ℕ) (es : List (ℕ × ActiveTransaction)) → sum_by (owes weight undone) es ≡ sum_by (owes weight undone) (remove_entry (is_at (nat_cmp p)) es) + owed_at weight undone p (at p es)
+sum-without weight undone p [] = refl
+sum-without weight undone p (e ∷ es) =
     ⊎_elim
     (λ (b : p ≡ e.0).
-    let own : owed_at undone p (at p (e ∷ es)) ≡ owes undone e = ap (owed_at undone p) (at_here p e es b) ∙ ap (λ k. owes undone (k, e.1)) b in
-    let rest = ap (sum_by (owes undone)) (remove_here p e es b) in
-    let all = sum_by-cons (owes undone) e es in
+    let own : owed_at weight undone p (at p (e ∷ es)) ≡ owes weight undone e = ap (owed_at weight undone p) (at_here p e es b) ∙ ap (λ k. owes weight undone (k, e.1)) b in
+    let rest = ap (sum_by (owes weight undone)) (remove_here p e es b) in
+    let all = sum_by-cons (owes weight undone) e es in
     omega (arith, own, rest, all))
     (λ (b : p ≢ e.0).
-    let own : owed_at undone p (at p (e ∷ es)) ≡ owed_at undone p (at p es) = ap (owed_at undone p) (at_next p e es b) in
-    let rest = ap (sum_by (owes undone)) (remove_next p e es b) ∙ sum_by-cons (owes undone) e (remove_entry (is_at (nat_cmp p)) es) in
-    let all = sum_by-cons (owes undone) e es in
-    let less = sum-without undone p es in
+    let own : owed_at weight undone p (at p (e ∷ es)) ≡ owed_at weight undone p (at p es) = ap (owed_at weight undone p) (at_next p e es b) in
+    let rest = ap (sum_by (owes weight undone)) (remove_next p e es b) ∙ sum_by-cons (owes weight undone) e (remove_entry (is_at (nat_cmp p)) es) in
+    let all = sum_by-cons (owes weight undone) e es in
+    let less = sum-without weight undone p es in
     omega (arith, own, rest, all, less))
     (same_or_apart p e.0)
 
 -- counts of undone writes matter for the clients that are there alone
-pub sum-counts : (f g : ℕ → ℕ) (p : ℕ) (es : List (ℕ × ActiveTransaction)) → ((q : ℕ) → q ≢ p → g q ≡ f q) → PassesAscend es → at p es ≡ None → sum_by (owes g) es ≡ sum_by (owes f) es
-sum-counts f g p [] h a n = refl
-sum-counts f g p (e ∷ es) h a n =
+pub sum-counts : (weight f g : ℕ → ℕ) (p : ℕ) (es : List (ℕ × ActiveTransaction)) → ((q : ℕ) → q ≢ p → g q ≡ f q) → PassesAscend es → at p es ≡ None → sum_by (owes weight g) es ≡ sum_by (owes weight f) es
+sum-counts weight f g p [] h a n = refl
+sum-counts weight f g p (e ∷ es) h a n =
     let d : e.0 ≢ p = λ k. none_some (at p (e ∷ es)) e.1 n (at_here p e es (sym k)) in
-    let own : owes g e ≡ owes f e = ap (λ k. count_by can_be_undone e.1.writes - k + 1) (h e.0 d) in
-    let later = sum-counts f g p es h a.1 (sym (at_next p e es (λ k. d (sym k))) ∙ n) in
-    let x = sum_by-cons (owes g) e es in
-    let y = sum_by-cons (owes f) e es in
+    let own : owes weight g e ≡ owes weight f e = ap (λ k. weight (count_by can_be_undone e.1.writes - k)) (h e.0 d) in
+    let later = sum-counts weight f g p es h a.1 (sym (at_next p e es (λ k. d (sym k))) ∙ n) in
+    let x = sum_by-cons (owes weight g) e es in
+    let y = sum_by-cons (owes weight f) e es in
     omega (arith, own, later, x, y)
 
 -- ascending entries are told by their look-ups
@@ -116,20 +119,20 @@ same-entries (e ∷ es) (f ∷ fs) a b h =
 -- ---- one client's transaction changes
 
 -- what all others owe
-abbrev pub owed_by_others : Moment → ℕ → ℕ
-owed_by_others m pass = sum_by (owes m.undone) (remove_entry (is_at (nat_cmp pass)) m.state.active)
+abbrev pub owed_by_others : (ℕ → ℕ) → Moment → ℕ → ℕ
+owed_by_others weight m pass = sum_by (owes weight m.undone) (remove_entry (is_at (nat_cmp pass)) m.state.active)
 
-pub owed-split : (m : Moment) (pass : ℕ) → PassesAscend m.state.active → entries_owed m ≡ owed_by_others m pass + owed_at m.undone pass (transaction_of m.state pass)
-owed-split m pass a = owed-entries m a ∙ sum-without m.undone pass m.state.active
+pub owed-split : (weight : ℕ → ℕ) (m : Moment) (pass : ℕ) → PassesAscend m.state.active → owed_in weight m ≡ owed_by_others weight m pass + owed_at weight m.undone pass (transaction_of m.state pass)
+owed-split weight m pass a = owed-entries weight m a ∙ sum-without weight m.undone pass m.state.active
 
 -- the others owe what they did
-pub others-owe : (m n : Moment) (pass : ℕ) → PassesAscend m.state.active → PassesAscend n.state.active → ((q : ℕ) → q ≢ pass → transaction_of n.state q ≡ transaction_of m.state q) → ((q : ℕ) → q ≢ pass → n.undone q ≡ m.undone q)
-    → owed_by_others n pass ≡ owed_by_others m pass
-others-owe m n pass a b others counts =
+pub others-owe : (weight : ℕ → ℕ) (m n : Moment) (pass : ℕ) → PassesAscend m.state.active → PassesAscend n.state.active → ((q : ℕ) → q ≢ pass → transaction_of n.state q ≡ transaction_of m.state q) → ((q : ℕ) → q ≢ pass → n.undone q ≡ m.undone q)
+    → owed_by_others weight n pass ≡ owed_by_others weight m pass
+others-owe weight m n pass a b others counts =
     let A = remove_entry (is_at (nat_cmp pass)) m.state.active in
     let B = remove_entry (is_at (nat_cmp pass)) n.state.active in
     let same : B ≡ A = same-entries A B (ascend-remove pass m.state.active a) (ascend-remove pass n.state.active b) look in
-    ap (sum_by (owes n.undone)) same ∙ sum-counts m.undone n.undone pass A counts (ascend-remove pass m.state.active a) (at-remove_same pass m.state.active a)
+    ap (sum_by (owes weight n.undone)) same ∙ sum-counts weight m.undone n.undone pass A counts (ascend-remove pass m.state.active a) (at-remove_same pass m.state.active a)
   where
     look : (q : ℕ) → at q (remove_entry (is_at (nat_cmp pass)) n.state.active) ≡ at q (remove_entry (is_at (nat_cmp pass)) m.state.active)
     look q =

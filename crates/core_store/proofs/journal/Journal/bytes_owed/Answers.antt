@@ -1,5 +1,6 @@
-use Rattle.std.proofs.Common.{ap, ◌∙◌, rules, arith}
+use Rattle.std.proofs.Common.{ap, ◌∙◌, subst, rules, arith}
 use Rattle.plain_model.specs.History.{end_of}
+use Rattle.plain_laws.specs.Sound.{PassesAscend}
 use Rattle.core_store.specs.Journal.{view_of}
 use Rattle.core_store.specs.JournalView.{JournalView, core_of}
 use Rattle.core_store.specs.Owed.{bytes_owed}
@@ -13,7 +14,10 @@ bytes_owed-requires g c =
     let few = owed-few (view_of a) (tables_of a.tables) c.self.invariant.keeps in
     (search rules, ((core_of (view_of a), c.self.invariant.keeps.stands), omega (arith, few)))
 
-pub returns : goal.returns
-returns g c =
+pub returns-clause-value : goal.returns-clause-value
+returns-clause-value g c =
     let a = c.self.inside in
     c.bytes_owed.ensures (core_of (view_of a)) c.self.invariant.keeps.stands ∙ ap (λ (j : JournalView). bytes_owed (end_of j.history)) c.self.view_is
+
+pub returns-clause-ascend : goal.returns-clause-ascend
+returns-clause-ascend g c = subst (λ (j : JournalView). PassesAscend (end_of j.history).state.active) c.self.view_is c.self.invariant.keeps.stands.sound.state.passes
