@@ -17,7 +17,7 @@ use Rattle.plain_laws.proofs.Ids.{test_same}
 use Rattle.plain_laws.proofs.Entries.{ascend-insert, ascend-remove}
 use Rattle.plain_laws.proofs.Locks.{transaction_of-with_same, transaction_of-without_same, transaction_of-undo_same, transaction_of-undo_other, marked_aborting, ascend-undo}
 use Rattle.core_store.proofs.PlanLaws.{refusal-in, refusal-out}
-use Rattle.core_store.specs.Owed.{bytes_owed, bytes_needed, bytes_logged, CallOwesLaw, RefusedOwesLaw, UndoOwesLaw, EndOwesLaw}
+use Rattle.core_store.specs.Owed.{bytes_owed, bytes_needed, bytes_logged, CallOwesLaw, CommitOwesLaw, RefusedOwesLaw, UndoOwesLaw, EndOwesLaw}
 use Rattle.core_store.proofs.ClientNumbers.{step-other}
 use Rattle.core_store.proofs.OwedSums.{owed_in}
 use Rattle.core_store.proofs.OwedLaws.{owed-change, owed-begun, owed-ended}
@@ -151,6 +151,12 @@ none-begins : (m : Moment) (pass : ℕ) (o : Option ActiveTransaction) → trans
 none-begins m pass None is none = is
 none-begins m pass (Some t) is none = let e = sym (refusal-in m.state pass t Begin is) ∙ none in absurd (cc)
 
+pub commit-owes : CommitOwesLaw
+commit-owes m pass a none =
+    let f = found-in m pass Commit (transaction_of m.state pass) refl (λ e. absurd (cc)) none in
+    let state = ap (λ (x : Reply × State). x.1.active) (step-done m.state pass f.0 Commit f.1 f.2) in
+    call-ends m pass f.0 Commit (step m.state pass Commit).0 a (λ e. absurd (cc)) f.1 state
+
 pub call-owes : CallOwesLaw
 call-owes m pass Begin a other none = let k = call-begins m pass a (none-begins m pass (transaction_of m.state pass) refl none) in omega (arith, k)
 call-owes m pass (Read r slot into) a other none = let k = call-runs m pass (Read r slot into) a tt (λ e. absurd (cc)) none in omega (arith, k)
@@ -158,11 +164,7 @@ call-owes m pass (Make into) a other none = let k = call-runs m pass (Make into)
 call-owes m pass (Store r slot source) a other none = let k = call-runs m pass (Store r slot source) a tt (λ e. absurd (cc)) none in omega (arith, k)
 call-owes m pass (GetPay r) a other none = let k = call-runs m pass (GetPay r) a tt (λ e. absurd (cc)) none in omega (arith, k)
 call-owes m pass (SetPay r value) a other none = let k = call-runs m pass (SetPay r value) a tt (λ e. absurd (cc)) none in omega (arith, k)
-call-owes m pass Commit a other none =
-    let f = found-in m pass Commit (transaction_of m.state pass) refl (λ e. absurd (cc)) none in
-    let state = ap (λ (x : Reply × State). x.1.active) (step-done m.state pass f.0 Commit f.1 f.2) in
-    let k = call-ends m pass f.0 Commit (step m.state pass Commit).0 a (λ e. absurd (cc)) f.1 state in
-    omega (arith, k)
+call-owes m pass Commit a other none = let k = commit-owes m pass a none in omega (arith, k)
 call-owes m pass Abort a other none = absurd (other refl)
 
 same-owed : (m n : Moment) → n.state ≡ m.state → n.undone ≡ m.undone → bytes_owed n ≡ bytes_owed m
@@ -213,9 +215,8 @@ undo-owes m pass a some = by (transaction_of m.state pass) refl
 pub end-owes : EndOwesLaw
 end-owes m pass a active = by (transaction_of m.state pass) refl active
   where
-    by : (o : Option ActiveTransaction) → transaction_of m.state pass ≡ o → IsSome o → bytes_owed (next m (Call pass Abort Done)) + 2 ≤ bytes_owed m
+    by : (o : Option ActiveTransaction) → transaction_of m.state pass ≡ o → IsSome o → bytes_owed (next m (Call pass Abort Done)) + 7 ≤ bytes_owed m
     by None is some = absurd (cc (some))
     by (Some t) is some =
         let state = ap (λ (x : Reply × State). x.1.active) (step-done m.state pass t Abort is refl) in
-        let k = call-ends m pass t Abort Done a (λ e. absurd (cc)) is state in
-        omega (arith, k)
+        call-ends m pass t Abort Done a (λ e. absurd (cc)) is state

@@ -49,6 +49,10 @@ CallOwesLaw =
     (m : Moment) (pass : ℕ) (c : TransactionCall) → PassesAscend m.state.active → c ≢ call.Abort → refusal_of m.state pass c ≡ None
     → bytes_owed (next m (Call pass c (step m.state pass c).0)) + bytes_logged c ≤ bytes_owed m + bytes_needed c
 
+-- the end of a transaction owed seven bytes: two of its record, and five more that a batch takes beside its records
+abbrev pub CommitOwesLaw : Type 0
+CommitOwesLaw = (m : Moment) (pass : ℕ) → PassesAscend m.state.active → refusal_of m.state pass call.Commit ≡ None → bytes_owed (next m (Call pass call.Commit (step m.state pass call.Commit).0)) + 7 ≤ bytes_owed m
+
 -- a refusal changes nothing of what is owed
 abbrev pub RefusedOwesLaw : Type 0
 RefusedOwesLaw = (m : Moment) (pass : ℕ) (c : TransactionCall) (reply : Reply) → refusal_of m.state pass c ≡ Some reply → bytes_owed (next m (Call pass c reply)) ≡ bytes_owed m
@@ -58,4 +62,4 @@ abbrev pub UndoOwesLaw : Type 0
 UndoOwesLaw = (m : Moment) (pass : ℕ) → PassesAscend m.state.active → 0 < left_to_undo m pass → bytes_owed (next m (Undo pass)) + 25 ≤ bytes_owed m
 
 abbrev pub EndOwesLaw : Type 0
-EndOwesLaw = (m : Moment) (pass : ℕ) → PassesAscend m.state.active → IsSome (transaction_of m.state pass) → bytes_owed (next m (Call pass call.Abort Done)) + 2 ≤ bytes_owed m
+EndOwesLaw = (m : Moment) (pass : ℕ) → PassesAscend m.state.active → IsSome (transaction_of m.state pass) → bytes_owed (next m (Call pass call.Abort Done)) + 7 ≤ bytes_owed m

@@ -11,7 +11,7 @@ use std::alloc::Global;
 #[derive(Debug, Drop)]
 pub(crate) struct Trace {
     pub(crate) notes: Vec<Note>,
-    limits: Limits,
+    pub(crate) limits: Limits,
     pub(crate) marks: Marks,
 }
 
