@@ -13,6 +13,3 @@ pub use auditing::audit;
 pub use difference::{Difference, Differences};
 pub use journal::audit_journal;
 pub use report::Report;
-
-#[cfg(test)]
-mod tests;

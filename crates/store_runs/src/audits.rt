@@ -1,15 +1,15 @@
 //! Runs whose audits were worked out by hand.
-ghost use Rattle.std.specs.Prelude.{◌≡◌, ◌≢◌, ◌<◌, ◌≤◌, true};
+ghost use Rattle.std.specs.Prelude.{◌≡◌, ◌≢◌, true};
 ghost use Rattle.plain_model.specs.Machine.{IsInRange};
 
-use super::*;
+use auditor::{Difference, audit, audit_journal};
 use cell_page::{Cell, Page};
 use core_store::{AbortStep, Collect, Frame, Limits};
 use framed_journal::FramedJournal;
 use plain_model::{Call, Memory, Reply};
 use std::alloc::Global;
 use std::process::Abort;
-use std::test::*;
+use std::test::Fail;
 
 /// A step of a run, with what is to come of it.
 #[derive(Clone, Copy, Debug)]
@@ -62,12 +62,14 @@ fn ask(journal: &mut FramedJournal<6>, client: u8, call: &Call) -> Option<Reply>
     Some(journal.call(client, call))
 }
 
-/// The client makes objects of these ids.
-fn fill(rt: &impl Abort, journal: &mut FramedJournal<6>, client: u8, into: u8, from: u32, to: u32) {
+/// The client makes an object for each of these ids. Whether each got its id.
+fn fill(journal: &mut FramedJournal<6>, client: u8, into: u8, from: u32, to: u32) -> bool {
     for id in from..to {
-        let reply = ask(journal, client, &Call::Make { into });
-        assert_eq!(rt; reply, Some(Reply::Id(id)));
+        if ask(journal, client, &Call::Make { into }) != Some(Reply::Id(id)) {
+            return false;
+        }
     }
+    true
 }
 
 /// What a step of the client's abort does, where the client has a transaction.
@@ -98,25 +100,19 @@ fn audited(alloc: Global, journal: &FramedJournal<6>) -> Option<(u32, u32)> {
     None
 }
 
-/// Makes the step.
-fn perform(rt: &impl Abort, alloc: Global, journal: &mut FramedJournal<6>, step: Step) {
+/// Makes the step. Whether what is to come of it came.
+fn perform(alloc: Global, journal: &mut FramedJournal<6>, step: Step) -> bool {
     match step {
-        Step::Ask(client, call, reply) => {
-            assert_eq!(rt; ask(journal, client, &call), Some(reply), "{step:?}");
-        }
+        Step::Ask(client, call, reply) => ask(journal, client, &call) == Some(reply),
         Step::Fill {
             client,
             into,
             from,
             to,
-        } => fill(rt, journal, client, into, from, to),
-        Step::Undo(client, told) => {
-            assert_eq!(rt; undo(journal, client), Some(told), "{step:?}");
-        }
-        Step::Collect(last) => assert_eq!(rt; collect(journal), last, "{step:?}"),
-        Step::Audit(live, zero) => {
-            assert_eq!(rt; audited(alloc, journal), Some((live, zero)), "{step:?}");
-        }
+        } => fill(journal, client, into, from, to),
+        Step::Undo(client, told) => undo(journal, client) == Some(told),
+        Step::Collect(last) => collect(journal) == last,
+        Step::Audit(live, zero) => audited(alloc, journal) == Some((live, zero)),
     }
 }
 
@@ -124,7 +120,7 @@ fn perform(rt: &impl Abort, alloc: Global, journal: &mut FramedJournal<6>, step:
 fn run(rt: &impl Abort, alloc: Global, steps: &[Step]) -> Result<(), Memory> {
     let mut journal = FramedJournal::fresh(alloc, 3, Limits::GREATEST)?;
     for step in steps {
-        perform(rt, alloc, &mut journal, *step);
+        assert!(rt; perform(alloc, &mut journal, *step), "{step:?}");
     }
     Ok(())
 }
@@ -221,29 +217,6 @@ fn a_wrong_count_is_told(rt: HostRuntime) -> Result<(), Fail> {
         kept: 0,
         found: 4_294_967_296,
     };
-    assert_eq!(rt; report.differences.items(), [wrong].as_slice());
-    Ok(())
-}
-
-/// The lines that README.md shows.
-#[test]
-fn readme(rt: HostRuntime) -> Result<(), Fail> {
-    let alloc = rt.alloc();
-    let mut store = FramedJournal::<6>::fresh(alloc, 2, Limits::GREATEST)?;
-    store.call(1, &Call::Begin);
-    let made = store.call(1, &Call::Make { into: 1 });
-    store.call(
-        1,
-        &Call::Store {
-            r: 0,
-            slot: 0,
-            from: Some(1),
-        },
-    );
-    let done = store.call(1, &Call::Commit);
-    let idle = store.collect_step();
-    assert_eq!(rt; made, Reply::Id(2));
-    assert_eq!(rt; done, Reply::Done);
-    assert_eq!(rt; idle, Collect::Idle);
+    assert!(rt; report.differences.items() == [wrong].as_slice());
     Ok(())
 }

@@ -1,8 +1,10 @@
-//! What no clause says: how a replay reads and writes. The streams count their calls, and fail where the rows say.
-use crate::{Words, brahma};
+//! How a replay reads a script and writes its lines, where no clause says it. The streams count their calls, and fail
+//! where the rows say.
+use brahma_shell::{Words, brahma};
 use outside_io::{MemorySink, MemorySource};
 use plain_model::Memory;
 use std::alloc::Global;
+use std::process::Abort;
 use std::test::Fail;
 
 /// The status and the output of `replay` on a script, where these reads and writes fail.
@@ -19,6 +21,22 @@ fn replayed(
     let mut sink = MemorySink::new(alloc, calls(alloc, failing_write)?);
     let (status, _) = brahma(alloc, &words, &mut source, &mut sink);
     Ok((status, Vec::from_slice(alloc, sink.bytes())?))
+}
+
+/// With these reads and writes failing, a replay of the script answers this status and writes this output.
+fn expect_replayed(
+    rt: &impl Abort,
+    alloc: Global,
+    script: &str,
+    failing_read: Option<u64>,
+    failing_write: Option<u64>,
+    status: u8,
+    output: &str,
+) -> Result<(), Memory> {
+    let (found, text) = replayed(alloc, script, failing_read, failing_write)?;
+    let right = found == status && text.as_slice() == output.as_bytes();
+    assert!(rt; right, "{found} at {script}");
+    Ok(())
 }
 
 /// The list of this call, or of none.
@@ -55,9 +73,15 @@ fn reads_and_writes(rt: HostRuntime) -> Result<(), Fail> {
             "1 begin: ok\n1 make: 2\n1 make: 3\n1 commit: ok\ndelete 2\n",
         ),
     ] {
-        let (found, text) = replayed(rt.alloc(), script, failing_read, failing_write)?;
-        assert_eq!(rt; found, status, "{script}");
-        assert_eq!(rt; text.as_slice(), output.as_bytes(), "{script}");
+        expect_replayed(
+            &rt,
+            rt.alloc(),
+            script,
+            failing_read,
+            failing_write,
+            status,
+            output,
+        )?;
     }
     Ok(())
 }
@@ -69,8 +93,14 @@ fn a_line_that_fills_the_buffer(rt: HostRuntime) -> Result<(), Fail> {
         script.push_str("#")?;
     }
     // It is refused without a second read.
-    let (status, text) = replayed(rt.alloc(), script.as_str(), Some(2), None)?;
-    assert_eq!(rt; status, 3);
-    assert_eq!(rt; text.as_slice(), b"refused: line 1\n".as_slice());
+    expect_replayed(
+        &rt,
+        rt.alloc(),
+        script.as_str(),
+        Some(2),
+        None,
+        3,
+        "refused: line 1\n",
+    )?;
     Ok(())
 }

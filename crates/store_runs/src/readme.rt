@@ -1,0 +1,27 @@
+//! The lines that README.md shows to whoever embeds the store.
+use core_store::{Collect, Limits};
+use framed_journal::FramedJournal;
+use plain_model::{Call, Reply};
+use std::test::Fail;
+
+#[test]
+fn readme(rt: HostRuntime) -> Result<(), Fail> {
+    let alloc = rt.alloc();
+    let mut store = FramedJournal::<6>::fresh(alloc, 2, Limits::GREATEST)?;
+    store.call(1, &Call::Begin);
+    let made = store.call(1, &Call::Make { into: 1 });
+    store.call(
+        1,
+        &Call::Store {
+            r: 0,
+            slot: 0,
+            from: Some(1),
+        },
+    );
+    let done = store.call(1, &Call::Commit);
+    let idle = store.collect_step();
+    assert!(rt; made == Reply::Id(2));
+    assert!(rt; done == Reply::Done);
+    assert!(rt; idle == Collect::Idle);
+    Ok(())
+}
