@@ -7,7 +7,8 @@ ghost use Rattle.std.specs.Prelude.{◌≡◌};
 pub struct Limits {
     /// How many entries the history may have, those counted that the active transactions owe: at most 1,048,576.
     pub trace: u64,
-    /// How many bytes the log may have: at most 1,071,644,672. It has no effect yet, since there is no log.
+    /// How many bytes the log may have, those counted that the active transactions owe: at most 1,071,644,672. Whoever keeps a
+    /// log of the journal keeps to it; a journal alone has none.
     pub log: u64,
 }
 
