@@ -7,8 +7,10 @@ use Rattle.disk_model.specs.Areas.{Bytes, with_area}
 use Rattle.disk_model.specs.Told.{IsSettled, IsImage}
 use Rattle.cell_page.specs.Format.{page_bytes, fresh_page}
 use Rattle.gate_log.specs.Batches.{batch_bytes}
+use Rattle.gate_log.specs.State.{fresh_log}
+use Rattle.gate_log.specs.OnDisk.{IsOn}
 use Rattle.log_record.specs.declared.record.Record.TheVariants.{Turn}
-use Rattle.log_record.specs.Spelling.{record_bytes}
+use Rattle.log_record.specs.Spelling.{record_bytes, known_version}
 
 -- the bytes of the page of this number in a fresh store
 abbrev pub fresh_page_bytes : ℕ → List ℕ
@@ -18,9 +20,13 @@ fresh_page_bytes page = page_bytes (fresh_page 6 page)
 abbrev pub fresh_pages : ℕ → List ℕ
 fresh_pages pages = flat_map fresh_page_bytes (range_with_len 0 pages)
 
--- the first batch's body in a store of so many pages: one `Turn` record of version 1
+-- the first batch's body in a store of so many pages whose objects have so many slots: one `Turn` record of the known version
+abbrev pub first_body_of : (slots pages : ℕ) → List ℕ
+first_body_of slots pages = record_bytes {slots = slots} (Turn (known_version slots) pages)
+
+-- the same in a store whose objects have six slots
 abbrev pub first_body : ℕ → List ℕ
-first_body pages = record_bytes {slots = 6} (Turn 1 pages)
+first_body pages = first_body_of 6 pages
 
 -- a log area of a fresh store: the first batch, and a closed commit byte
 abbrev pub fresh_log_area : ℕ → List ℕ
@@ -50,6 +56,11 @@ module _ {D : Type 0} (may_leave : D → Area → List ℕ → Type 0) where
         → IsMaking disk pages image
     no_store : image.super_area ≡ [] → IsMaking disk pages image
     fresh : (byte : ℕ) → image ≡ fresh_store pages byte → IsMaking disk pages image
+
+  -- The log of a fresh store stands on this disk: whatever a power loss leaves, log area A is named and has the
+  -- one first batch.
+  abbrev pub HasFreshLog : (slots pages : ℕ) → D → Type 0
+  HasFreshLog slots pages disk = IsOn may_leave fresh_log disk (first_body_of slots pages ∷ [])
 
 -- the super area while its first byte is written: empty, or a byte
 abbrev pub IsFirstNaming : List ℕ → Type 0

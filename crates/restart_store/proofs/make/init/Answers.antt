@@ -1,7 +1,9 @@
-use Rattle.disk_model.specs.declared.area.Area.TheVariants.{Super}
+use Rattle.std.proofs.Common.{refl}
+use Rattle.disk_model.specs.declared.area.Area.TheVariants.{LogA, Super}
 use Rattle.disk_model.specs.Areas.{in_area}
 use Rattle.disk_model.proofs.Moments.{weaken, and_then}
-use Rattle.restart_store.specs.Fresh.{IsMaking, no_store}
+use Rattle.gate_log.proofs.Starts.{fresh_on}
+use Rattle.restart_store.specs.Fresh.{IsMaking, no_store, first_body}
 use Rattle.restart_store.proofs.Made.{made_leaves, store_made}
 use Rattle.restart_store.proofs.Making.{while_cut, while_named, all_made}
 use Rattle.restart_store.proofs.make.init.Goals as goal
@@ -44,3 +46,9 @@ returns-clause-images g c =
     let made = store_made c.args.pages c.in_ok-clear.ensures.made c.clear.ensures.keeps c.in_ok-make_areas.ensures.made c.make_areas.ensures.keeps
     c.in_ok-name_first.ensures.made c.name_first.ensures.keeps in
     all_made g.D.Disk.may_leave c.name_first.new.disk c.args.pages (λ area. made_leaves (made area))
+
+pub returns-clause-log : goal.returns-clause-log
+returns-clause-log g c =
+    let made = store_made c.args.pages c.in_ok-clear.ensures.made c.clear.ensures.keeps c.in_ok-make_areas.ensures.made c.make_areas.ensures.keeps
+    c.in_ok-name_first.ensures.made c.name_first.ensures.keeps in
+    fresh_on g.D.Disk.content g.D.Disk.may_leave c.name_first.new.disk (first_body c.args.pages) refl (made_leaves (made Super)) (made_leaves (made LogA))
