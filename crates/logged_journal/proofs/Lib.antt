@@ -1,0 +1,12 @@
+pub mod RecordLengths
+pub mod NoteBytes
+pub mod Kept
+pub mod Commits
+pub mod CalledJournals
+pub mod FreshLogs
+pub mod Ascending
+pub mod CommitDone
+pub mod Resting
+pub mod CollectorEvents
+pub mod AbortSteps
+pub mod AppliedCalls

@@ -1,0 +1,170 @@
+use Rattle.std.proofs.Common.{rules, ◌≡◌, ⊎_elim, sym, ◌∙◌, ap, subst, refl}
+use Rattle.disk_model.specs.Time.{LeavesOnlyImages}
+use Rattle.plain_model.specs.declared.calls.Call.{Call as TransactionCall}
+use Rattle.plain_model.specs.declared.calls.Reply.TheVariants as reply
+use Rattle.logged_journal.specs.View.{LoggedView, IsPast}
+use Rattle.logged_journal.specs.Records.{MayHave}
+use Rattle.logged_journal.specs.Calls.{IsOfJournal, DoesCall, FailsCommit, IsGranted, KeepsFrames}
+use Rattle.logged_journal.proofs.AppliedCalls.{still, not-granted, is-granted, never-done, never-memory, no-other, if-none}
+use Rattle.logged_journal.proofs.logged.LoggedJournal.apply.Given.{Over}
+use Rattle.logged_journal.proofs.logged.LoggedJournal.apply.Goals as goal
+
+pub returns-in-Some-clause-moments : goal.returns-in-Some-clause-moments
+returns-in-Some-clause-moments g c =
+    subst (λ (w : LoggedView g.row.D.Denot). LeavesOnlyImages g.D.Disk.moment g.D.Disk.left_since w.disk w.disk (MayHave w c.args.pass)) c.self.view_is
+    (still g.D.Disk.may_leave g.D.Disk.moment g.D.Disk.left_since g.D.Disk.only_now _ c.args.pass c.self.inside.disk refl c.self.invariant.kept)
+
+refused : (g : Over) (c : goal.After-refuse g) → IsGranted c.args.self.now.journal c.args.pass c.args.call.now → ⊥
+refused g c granted = not-granted c.self.inside.journal c.args.pass c.args.call.now c.grants.result c.grants.ensures c.if-not-grants.true
+    (subst (λ (w : LoggedView g.row.D.Denot). IsGranted w.journal c.args.pass c.args.call.now) (sym c.self.view_is) granted)
+
+pub returns-then-not-grants-clause-committed : goal.returns-then-not-grants-clause-committed
+returns-then-not-grants-clause-committed g c is done =
+    absurd (never-done g.row.SLOTS c.args.self.now.journal c.refuse.new.self.journal c.args.pass c.refuse.result
+    (λ granted. refused g c (subst (λ (x : TransactionCall). IsGranted c.args.self.now.journal c.args.pass x) (sym is) granted))
+    (subst (λ (x : TransactionCall). DoesCall g.row.SLOTS c.args.self.now.journal c.refuse.new.self.journal c.args.pass x c.refuse.result) is c.refuse.ensures.does) done)
+
+pub returns-then-not-grants-clause-commit : goal.returns-then-not-grants-clause-commit
+returns-then-not-grants-clause-commit g c is granted memory =
+    never-memory g.row.SLOTS c.args.self.now.journal c.refuse.new.self.journal c.args.pass c.refuse.result
+    (λ granted. refused g c (subst (λ (x : TransactionCall). IsGranted c.args.self.now.journal c.args.pass x) (sym is) granted))
+    (subst (λ (x : TransactionCall). DoesCall g.row.SLOTS c.args.self.now.journal c.refuse.new.self.journal c.args.pass x c.refuse.result) is c.refuse.ensures.does) granted memory
+
+pub returns-then-not-grants-clause-moments : goal.returns-then-not-grants-clause-moments
+returns-then-not-grants-clause-moments g c =
+    subst (λ (w : LoggedView g.row.D.Denot). w.disk ≡ w.disk → LeavesOnlyImages g.D.Disk.moment g.D.Disk.left_since w.disk c.refuse.new.self.disk (MayHave w c.args.pass)) c.self.view_is
+    (λ _. still g.D.Disk.may_leave g.D.Disk.moment g.D.Disk.left_since g.D.Disk.only_now _ c.args.pass c.refuse.new.self.disk
+    (c.refuse.ensures.disk.disk ∙ ap (λ (w : LoggedView g.row.D.Denot). w.disk) (sym c.self.view_is)) c.self.invariant.kept) refl
+
+pub mark_full-requires-after_bounds : goal.mark_full-requires-after_bounds
+mark_full-requires-after_bounds g c κs within =
+    (search rules, (ap (λ (w : LoggedView g.row.D.Denot). w.failed) (sym c.self.view_is) ∙ c.in_default.is, (c.bytes_needed.result, c.bytes_needed.ensures.few, c.is_past.ensures.past.0 c.if-is_past.true)))
+
+granted : (g : Over) (c : goal.After-mark_full g) → IsGranted c.args.self.now.journal c.args.pass c.args.call.now
+granted g c = subst (λ (w : LoggedView g.row.D.Denot). IsGranted w.journal c.args.pass c.args.call.now) c.self.view_is
+    (is-granted c.self.inside.journal c.args.pass c.args.call.now c.grants.result c.grants.ensures c.if-not-grants.false)
+
+pub returns-then-is_past-clause-log_full : goal.returns-then-is_past-clause-log_full
+returns-then-is_past-clause-log_full g c = (
+  (λ _. record {
+    running = ap (λ (w : LoggedView g.row.D.Denot). w.failed) (sym c.self.view_is) ∙ c.in_default.is;
+    granted = granted g c;
+    past = subst (λ n. IsPast c.args.self.now n) c.bytes_needed.ensures.value (c.is_past.ensures.past.0 c.if-is_past.true);
+  }),
+  (λ _. refl),
+)
+
+pub returns-then-is_past-clause-frames : goal.returns-then-is_past-clause-frames
+returns-then-is_past-clause-frames g c =
+    subst (λ (w : LoggedView g.row.D.Denot). KeepsFrames c.args.self.now.journal w.journal c.args.held.now c.args.held.now) (sym c.mark_full.ensures.marked)
+    (record { pages = refl; agree = c.requires.agree; elsewhere = λ page out. refl })
+
+pub returns-then-is_past-clause-moments : goal.returns-then-is_past-clause-moments
+returns-then-is_past-clause-moments g c =
+    subst (λ (w : LoggedView g.row.D.Denot). w.disk ≡ w.disk → LeavesOnlyImages g.D.Disk.moment g.D.Disk.left_since w.disk c.mark_full.new.self.disk (MayHave w c.args.pass)) c.self.view_is
+    (λ _. still g.D.Disk.may_leave g.D.Disk.moment g.D.Disk.left_since g.D.Disk.only_now _ c.args.pass c.mark_full.new.self.disk
+    (ap (λ (w : LoggedView g.row.D.Denot). w.disk) c.mark_full.ensures.marked ∙ ap (λ (w : LoggedView g.row.D.Denot). w.disk) (sym c.self.view_is)) c.self.invariant.kept) refl
+
+pub commit-requires-after_bounds : goal.commit-requires-after_bounds
+commit-requires-after_bounds g c κs within =
+    let size = c.self.invariant.size in
+    let all = subst (λ (w : LoggedView g.row.D.Denot). IsGranted w.journal c.args.pass c.args.call.now) c.self.view_is
+    (is-granted c.self.inside.journal c.args.pass c.args.call.now c.grants.result c.grants.ensures c.if-not-grants.false) in (
+      search rules,
+      (
+        search rules,
+        (
+          c.requires.client,
+          (
+            c.requires.agree,
+            (
+              search rules,
+              (
+                ap (λ (w : LoggedView g.row.D.Denot). w.failed) (sym c.self.view_is) ∙ c.in_default.is,
+                subst (λ (x : TransactionCall). IsGranted c.args.self.now.journal c.args.pass x) c.in-Commit.is all,
+              ),
+            ),
+          ),
+        ),
+      ),
+    )
+
+pub log_call-requires-after_bounds : goal.log_call-requires-after_bounds
+log_call-requires-after_bounds g c κs within =
+    let size = c.self.invariant.size in
+    let all = subst (λ (w : LoggedView g.row.D.Denot). IsGranted w.journal c.args.pass c.args.call.now) c.self.view_is
+    (is-granted c.self.inside.journal c.args.pass c.args.call.now c.grants.result c.grants.ensures c.if-not-grants.false) in (
+      search rules,
+      (
+        search rules,
+        (
+          c.requires.client,
+          (
+            c.requires.in_range,
+            (
+              c.requires.no_abort,
+              (
+                c.requires.agree,
+                (
+                  c.requires.ready,
+                  (
+                    ap (λ (w : LoggedView g.row.D.Denot). w.failed) (sym c.self.view_is) ∙ c.in_default.is,
+                    (all, (c.in_default-call.not-Commit, ((λ past. let e = sym c.if-is_past.false ∙ c.is_past.ensures.past.1 (subst (λ n. IsPast c.args.self.now n) (sym c.bytes_needed.ensures.value) past) in cc (e)), c.is_past.ensures.limits))),
+                  ),
+                ),
+              ),
+            ),
+          ),
+        ),
+      ),
+    )
+
+pub returns-in-Commit-clause-log_full : goal.returns-in-Commit-clause-log_full
+returns-in-Commit-clause-log_full g c =
+    ((λ is. let e = sym is ∙ c.commit.ensures.other (λ of. subst IsOfJournal is of) in absurd (cc (e))), λ past. absurd (let e = sym c.if-is_past.false ∙ c.is_past.ensures.past.1 (subst (λ n. IsPast c.args.self.now n) (sym c.bytes_needed.ensures.value) past.past) in cc (e)))
+
+pub returns-in-Commit-clause-same : goal.returns-in-Commit-clause-same
+returns-in-Commit-clause-same g c is =
+    absurd (⊎_elim (λ full. no-other c.commit.result reply.TraceFull (λ of. (c.commit.ensures.done of).0) full (λ e. cc (e)) tt)
+    (λ memory. no-other c.commit.result reply.Memory (λ of. (c.commit.ensures.done of).0) memory (λ e. cc (e)) tt) is)
+
+pub returns-in-Commit-clause-committed : goal.returns-in-Commit-clause-committed
+returns-in-Commit-clause-committed g c is done = (c.commit.ensures.done (subst IsOfJournal (sym done) tt)).1
+
+pub returns-in-Commit-clause-commit : goal.returns-in-Commit-clause-commit
+returns-in-Commit-clause-commit g c is granted memory = no-other c.commit.result reply.Memory (λ of. (c.commit.ensures.done of).0) memory (λ e. cc (e)) tt
+
+pub returns-in-Commit-clause-untouched : goal.returns-in-Commit-clause-untouched
+returns-in-Commit-clause-untouched g c never =
+    let all = subst (λ (w : LoggedView g.row.D.Denot). IsGranted w.journal c.args.pass c.args.call.now) c.self.view_is
+    (is-granted c.self.inside.journal c.args.pass c.args.call.now c.grants.result c.grants.ensures c.if-not-grants.false) in
+    absurd (never c.in-Commit.is (subst (λ (x : TransactionCall). IsGranted c.args.self.now.journal c.args.pass x) c.in-Commit.is all))
+
+pub returns-in-Commit-clause-fault : goal.returns-in-Commit-clause-fault
+returns-in-Commit-clause-fault g c is =
+    let fails = c.commit.ensures.fault is in
+    (subst (λ (x : TransactionCall). FailsCommit g.D.Disk.faults c.args.self.now c.commit.new.self c.args.pass x) (sym c.in-Commit.is) fails.0, fails.1)
+
+pub returns-in_default-call : goal.returns-in_default-call
+returns-in_default-call g c =
+    let none = ap (λ (w : LoggedView g.row.D.Denot). w.failed) (sym c.self.view_is) ∙ c.in_default.is in
+    record {
+      stopped = if-none c.args.self.now.failed _ none;
+      only_stopped = λ faults is. absurd (subst IsOfJournal is c.log_call.ensures.journal);
+      log_full = (
+        (λ is. absurd (subst IsOfJournal is c.log_call.ensures.journal)),
+        (λ past. absurd (let e = sym c.if-is_past.false ∙ c.is_past.ensures.past.1 (subst (λ n. IsPast c.args.self.now n) (sym c.bytes_needed.ensures.value) past.past) in cc (e))),
+      );
+      log_marked = λ is. absurd (subst IsOfJournal is c.log_call.ensures.journal);
+      does = λ of. c.log_call.ensures.does;
+      goes_on = λ of. c.log_call.ensures.goes_on;
+      frames = c.log_call.ensures.frames;
+      same = c.log_call.ensures.same;
+      committed = λ is done. absurd (c.in_default-call.not-Commit is);
+      commit = λ is granted memory. c.in_default-call.not-Commit is;
+      untouched = λ never. c.log_call.ensures.disk;
+      fault = λ is. absurd (subst IsOfJournal is c.log_call.ensures.journal);
+      moments = subst (λ (w : LoggedView g.row.D.Denot). w.disk ≡ w.disk → LeavesOnlyImages g.D.Disk.moment g.D.Disk.left_since w.disk c.log_call.new.self.disk (MayHave w c.args.pass)) c.self.view_is
+          (λ _. still g.D.Disk.may_leave g.D.Disk.moment g.D.Disk.left_since g.D.Disk.only_now _ c.args.pass c.log_call.new.self.disk
+          (c.log_call.ensures.disk.disk ∙ ap (λ (w : LoggedView g.row.D.Denot). w.disk) (sym c.self.view_is)) c.self.invariant.kept) refl;
+    }

@@ -1,0 +1,76 @@
+use Rattle.std.proofs.Common.{rules, ◌≡◌, ◌≤◌, ◌⊎◌, sym, ◌∙◌, ap, subst, refl, true, false, []}
+use Rattle.core_store.specs.Limited.{is_past_limit}
+use Rattle.core_store.specs.RoundView.{Closed}
+use Rattle.core_store.specs.Steppings.{bytes_to_collect}
+use Rattle.logged_journal.specs.View.{LoggedView, IsPast}
+use Rattle.logged_journal.specs.Calls.{KeepsFrames}
+use Rattle.logged_journal.proofs.AppliedCalls.{few-to-collect, collects-room, collects-some}
+use Rattle.logged_journal.proofs.logged.LoggedJournal.collect_step.Goals as goal
+
+pub rest-requires-after_bounds : goal.rest-requires-after_bounds
+rest-requires-after_bounds g c κs within =
+    let size = c.self.invariant.size in (
+      search rules,
+      (
+        search rules,
+        (
+          c.requires.agree,
+          (
+            c.requires.ready,
+            (
+              ap (λ (w : LoggedView g.row.D.Denot). w.failed) (sym c.self.view_is) ∙ c.in_default.is,
+              subst (λ (w : LoggedView g.row.D.Denot). (is_past_limit w.journal 1 ≡ true) ⊎ ((w.journal.queue ≡ []) × (w.journal.round ≡ Closed))) c.self.view_is (c.collects.ensures.0 c.if-not-collects.true),
+            ),
+          ),
+        ),
+      ),
+    )
+
+pub is_past-requires-after_bounds : goal.is_past-requires-after_bounds
+is_past-requires-after_bounds g c κs within = (search rules, (ap (λ (w : LoggedView g.row.D.Denot). w.failed) (sym c.self.view_is) ∙ c.in_default.is, subst (λ n. n ≤ 47) (sym c.bytes_to_collect.ensures) (few-to-collect c.self.inside.journal.round)))
+
+pub mark_full-requires-after_bounds : goal.mark_full-requires-after_bounds
+mark_full-requires-after_bounds g c κs within = (search rules, (ap (λ (w : LoggedView g.row.D.Denot). w.failed) (sym c.self.view_is) ∙ c.in_default.is, (c.bytes_to_collect.result, subst (λ n. n ≤ 47) (sym c.bytes_to_collect.ensures) (few-to-collect c.self.inside.journal.round), c.is_past.ensures.past.0 c.if-is_past.true)))
+
+pub returns-then-is_past-clause-log_full : goal.returns-then-is_past-clause-log_full
+returns-then-is_past-clause-log_full g c =
+    let same = ap (λ (w : LoggedView g.row.D.Denot). bytes_to_collect w.journal.round) c.self.view_is in (
+      (λ _. record {
+        running = ap (λ (w : LoggedView g.row.D.Denot). w.failed) (sym c.self.view_is) ∙ c.in_default.is;
+        room = subst (λ (w : LoggedView g.row.D.Denot). is_past_limit w.journal 1 ≡ false) c.self.view_is (collects-room c.self.inside.journal c.collects.result c.collects.ensures.1 c.if-not-collects.false);
+        some = subst (λ (w : LoggedView g.row.D.Denot). (w.journal.queue ≡ []) × (w.journal.round ≡ Closed) → ⊥) c.self.view_is (collects-some c.self.inside.journal c.collects.result c.collects.ensures.1 c.if-not-collects.false);
+        past = subst (λ n. IsPast c.args.self.now n) (c.bytes_to_collect.ensures ∙ same) (c.is_past.ensures.past.0 c.if-is_past.true);
+      }),
+      (λ _. refl),
+    )
+
+pub returns-then-is_past-clause-frames : goal.returns-then-is_past-clause-frames
+returns-then-is_past-clause-frames g c =
+    subst (λ (w : LoggedView g.row.D.Denot). KeepsFrames c.args.self.now.journal w.journal c.args.held.now c.args.held.now) (sym c.mark_full.ensures.marked)
+    (record { pages = refl; agree = c.requires.agree; elsewhere = λ page out. refl })
+
+pub log_step-requires-after_bounds : goal.log_step-requires-after_bounds
+log_step-requires-after_bounds g c κs within =
+    let size = c.self.invariant.size in
+    let same = ap (λ (w : LoggedView g.row.D.Denot). bytes_to_collect w.journal.round) c.self.view_is in (
+      search rules,
+      (
+        search rules,
+        (
+          c.requires.agree,
+          (
+            c.requires.ready,
+            (
+              ap (λ (w : LoggedView g.row.D.Denot). w.failed) (sym c.self.view_is) ∙ c.in_default.is,
+              (
+                subst (λ (w : LoggedView g.row.D.Denot). is_past_limit w.journal 1 ≡ false) c.self.view_is (collects-room c.self.inside.journal c.collects.result c.collects.ensures.1 c.if-not-collects.false),
+                (
+                  subst (λ (w : LoggedView g.row.D.Denot). (w.journal.queue ≡ []) × (w.journal.round ≡ Closed) → ⊥) c.self.view_is (collects-some c.self.inside.journal c.collects.result c.collects.ensures.1 c.if-not-collects.false),
+                  ((λ past. let e = sym c.if-is_past.false ∙ c.is_past.ensures.past.1 (subst (λ n. IsPast c.args.self.now n) (sym (c.bytes_to_collect.ensures ∙ same)) past) in cc (e)), c.is_past.ensures.limits),
+                ),
+              ),
+            ),
+          ),
+        ),
+      ),
+    )

@@ -1,0 +1,8 @@
+use Rattle.std.proofs.Common.{subst}
+use Rattle.disk_model.specs.Told.{EachImage}
+use Rattle.logged_journal.specs.View.{LoggedView}
+use Rattle.logged_journal.specs.Records.{MayBeLeft}
+use Rattle.logged_journal.proofs.logged.LoggedJournal.durable.Goals as goal
+
+pub returns-clause-images : goal.returns-clause-images
+returns-clause-images g c = subst (λ (w : LoggedView g.row.D.Denot). EachImage g.D.Disk.may_leave w.disk (MayBeLeft w)) c.self.view_is c.self.invariant.kept.images

@@ -1,0 +1,232 @@
+use Rattle.std.proofs.Common.{◌≡◌, ◌≢◌, ◌≤◌, ◌<◌, ◌+◌, ⊎_elim, ℕ, max, Bool, false, length, None, refl, sym, ap, ◌∙◌, subst, arith, rules}
+use Rattle.std.specs.Prelude.{if◌then◌else◌, not}
+use Rattle.plain_model.specs.declared.calls.Call.{Call as TransactionCall}
+use Rattle.plain_model.specs.declared.calls.Call.TheVariants as call
+use Rattle.plain_model.specs.declared.calls.Reply.{Reply}
+use Rattle.plain_model.specs.declared.calls.Reply.TheVariants as reply
+use Rattle.plain_model.specs.Machine.{transaction_of}
+use Rattle.plain_model.specs.History.{end_of}
+use Rattle.plain_laws.specs.Sound.{PassesAscend}
+use Rattle.gate_log.specs.State.{LogState, used, appended}
+use Rattle.core_store.specs.declared.want.Want.TheVariants as want
+use Rattle.core_store.specs.Frames.{Agree, pages_held}
+use Rattle.core_store.specs.JournalView.{JournalView, cells_of}
+use Rattle.core_store.specs.Limited.{AreLimits, pages_for_call}
+use Rattle.core_store.specs.Logged.{want_of}
+use Rattle.core_store.specs.Owed.{bytes_owed, bytes_needed}
+use Rattle.logged_journal.specs.declared.logged.LoggedJournal.TheInside.{Inside}
+use Rattle.logged_journal.specs.View.{LoggedView, IsPast}
+use Rattle.logged_journal.specs.Records.{last_bytes}
+use Rattle.logged_journal.specs.Kept.{IsKept}
+use Rattle.logged_journal.specs.Calls.{DoesCall, IsGranted, KeepsFrames, GoesOn}
+use Rattle.logged_journal.proofs.CalledJournals.{of-journal, kept-reserved, IsCalled, asked, after_call, called-room, called-bounded, kept-called}
+use Rattle.logged_journal.proofs.logged.LoggedJournal.log_call.Given.{Over}
+use Rattle.logged_journal.proofs.logged.LoggedJournal.log_call.Goals as goal
+
+-- the journal with its log, at the call
+abbrev view_of : {slots : ℕ} {D : Type 0} → Inside slots D → LoggedView D
+view_of a = record { journal = a.journal; log = a.log; disk = a.disk; durable = a.durable; failed = a.failed; log_full = a.log_full; peak = a.peak }
+
+running : {slots : ℕ} {D : Type 0} (a : Inside slots D) (now : LoggedView D) → view_of a ≡ now → now.failed ≡ None → a.failed ≡ None
+running a now is runs = subst (λ v. v.failed ≡ None) (sym is) runs
+
+-- the room was taken
+taken : {slots : ℕ} {D : Type 0} (a : Inside slots D) (c : TransactionCall) (log : LogState) (ok err : Bool) (owed needed : ℕ) → log ≡ record a.log { room = if ok then max a.log.room (owed + needed) else a.log.room }
+    → ok ≡ not err → err ≡ false → owed ≡ bytes_owed (end_of a.journal.history) → needed ≡ bytes_needed c → log ≡ record a.log { room = max a.log.room (asked (view_of a) c) }
+taken a c log ok err owed needed is negation none value need =
+    is
+    ∙ ap (λ (b : Bool). record a.log { room = if b then max a.log.room (owed + needed) else a.log.room }) (negation ∙ ap not none)
+    ∙ ap (λ (n : ℕ). record a.log { room = max a.log.room (n + needed) }) value
+    ∙ ap (λ (n : ℕ). record a.log { room = max a.log.room (bytes_owed (end_of a.journal.history) + n) }) need
+
+called : {slots : ℕ} {D : Type 0} (a : Inside slots D) (now : LoggedView D) (new : JournalView) (pass : ℕ) (c : TransactionCall) (r : Reply) → view_of a ≡ now → now.failed ≡ None → IsGranted now.journal pass c → c ≢ call.Commit
+    → (c ≡ call.Abort → transaction_of (end_of now.journal.history).state pass ≡ None) → PassesAscend (end_of a.journal.history).state.active → (IsPast now (bytes_needed c) → ⊥) → AreLimits now.journal.limits
+    → DoesCall slots a.journal new pass c r → r ≢ reply.Memory → IsCalled slots (view_of a) new pass c r
+called a now new pass c r is runs granted other no_abort ascend room limits does some =
+    record {
+      running = running a now is runs;
+      granted = subst (λ v. IsGranted v.journal pass c) (sym is) granted;
+      other = other;
+      no_abort = subst (λ v. c ≡ call.Abort → transaction_of (end_of v.journal.history).state pass ≡ None) (sym is) no_abort;
+      ascend = ascend;
+      room = subst (λ v. IsPast v (bytes_needed c) → ⊥) (sym is) room;
+      limits = subst (λ v. AreLimits v.journal.limits) (sym is) limits;
+      does = does;
+      some = some;
+    }
+
+pub invariant_of-self : goal.invariant_of-self
+invariant_of-self g c =
+    record {
+      size = c.self.invariant.size;
+      spelling = c.self.invariant.spelling;
+      kept = kept-reserved g.D.Disk.may_leave (view_of c.self.inside) c.reserve.new.self _ _ c.reserve.ensures.log c.self.invariant.kept;
+    }
+
+pub returns-then-is_err-clause-frames : goal.returns-then-is_err-clause-frames
+returns-then-is_err-clause-frames g c =
+    subst (λ (v : LoggedView g.row.D.Denot). KeepsFrames v.journal c.self.inside.journal c.args.held.now c.args.held.now) c.self.view_is
+    (record {
+      pages = refl;
+      agree = subst (λ (v : LoggedView g.row.D.Denot). Agree (cells_of v.journal) c.args.held.now) (sym c.self.view_is) c.requires.agree;
+      elsewhere = λ page apart. refl;
+    })
+
+pub apply-requires : goal.apply-requires
+apply-requires g c =
+    let small : g.row.SLOTS ≤ 14 = ⊎_elim (λ six. omega arith) (λ fourteen. omega arith) c.self.invariant.size in (
+      search rules,
+      (
+        search rules,
+        (
+          c.requires.client,
+          (
+            c.requires.in_range,
+            (
+              subst (λ (v : LoggedView g.row.D.Denot). c.args.call.now ≡ call.Abort → transaction_of (end_of v.journal.history).state c.args.pass ≡ None) (sym c.self.view_is) c.requires.no_abort,
+              (
+                subst (λ (v : LoggedView g.row.D.Denot). Agree (cells_of v.journal) c.args.held.now) (sym c.self.view_is) c.requires.agree,
+                subst (λ (v : LoggedView g.row.D.Denot). want_of (pages_for_call v.journal c.args.pass c.args.call.now) (pages_held c.args.held.now) ≡ want.Ready) (sym c.self.view_is) c.requires.ready,
+              ),
+            ),
+          ),
+        ),
+      ),
+    )
+
+pub invariant_of-self-in-Memory : goal.invariant_of-self-in-Memory
+invariant_of-self-in-Memory g c =
+    let v : LoggedView g.row.D.Denot = view_of c.self.inside in
+    record {
+      size = c.self.invariant.size;
+      spelling = c.self.invariant.spelling;
+      kept = subst (λ (j : JournalView). IsKept g.D.Disk.may_leave (record v { journal = j; log = c.reserve.new.self })) (sym (c.apply.ensures.memory c.in-Memory.is).0)
+          (kept-reserved g.D.Disk.may_leave v c.reserve.new.self _ _ c.reserve.ensures.log c.self.invariant.kept);
+    }
+
+pub returns-in-Memory-clause-frames : goal.returns-in-Memory-clause-frames
+returns-in-Memory-clause-frames g c =
+    let e = c.apply.ensures in
+    subst (λ (v : LoggedView g.row.D.Denot). KeepsFrames v.journal c.apply.new.self c.args.held.now c.apply.new.held) c.self.view_is
+    (record { pages = e.pages; agree = e.agree; elsewhere = e.elsewhere })
+
+-- ---- where it was answered
+
+pub append_last-requires : goal.append_last-requires
+append_last-requires g c =
+    let e = c.apply.ensures in
+    let does : DoesCall g.row.SLOTS c.self.inside.journal c.apply.new.self c.args.pass c.args.call.now c.apply.result = record {
+      full = e.full;
+      marked = λ is. (e.marked is).0;
+      memory = λ is. (e.memory is).0;
+      entry = e.entry;
+      machine = e.machine;
+      noted = e.noted;
+      collector = e.collector;
+      cursor = e.cursor;
+      opening = e.opening;
+      unmarked = e.unmarked;
+    } in
+    let r = c.requires in
+    let is = called c.self.inside c.args.self.now c.apply.new.self c.args.pass c.args.call.now c.apply.result c.self.view_is r.running r.granted r.other r.no_abort c.bytes_owed.ensures.ascend r.room r.limits does c.in_default.not-Memory in
+    let log = taken c.self.inside c.args.call.now c.reserve.new.self _ _ _ _ c.reserve.ensures.log c.is_err.ensures.negation c.if-is_err.false c.bytes_owed.ensures.value c.bytes_needed.ensures.value in
+    let stands = c.self.invariant.kept.standing is.running in
+    let bounded = stands.bounded in
+    let few : used c.self.inside.log + 25 < 4294967296 = omega (arith, bounded) in (
+      search rules,
+      (
+        c.self.invariant.size,
+        (
+          ap (λ (l : LogState). l.stage) log ∙ stands.stage,
+          (
+            subst (λ (l : LogState). length (last_bytes c.apply.new.self.notes) ≤ l.room) (sym log) (called-room g.row.SLOTS (view_of c.self.inside) c.apply.new.self c.args.pass c.args.call.now c.apply.result is),
+            (
+              subst (λ (l : LogState). used l + 25 < 4294967296) (sym log) few,
+              c.self.invariant.spelling,
+            ),
+          ),
+        ),
+      ),
+    )
+
+pub overflow_add-used : goal.overflow_add-used
+overflow_add-used g c =
+    let e = c.apply.ensures in
+    let does : DoesCall g.row.SLOTS c.self.inside.journal c.apply.new.self c.args.pass c.args.call.now c.apply.result = record {
+      full = e.full;
+      marked = λ is. (e.marked is).0;
+      memory = λ is. (e.memory is).0;
+      entry = e.entry;
+      machine = e.machine;
+      noted = e.noted;
+      collector = e.collector;
+      cursor = e.cursor;
+      opening = e.opening;
+      unmarked = e.unmarked;
+    } in
+    let r = c.requires in
+    let is = called c.self.inside c.args.self.now c.apply.new.self c.args.pass c.args.call.now c.apply.result c.self.view_is r.running r.granted r.other r.no_abort c.bytes_owed.ensures.ascend r.room r.limits does c.in_default.not-Memory in
+    let log = taken c.self.inside c.args.call.now c.reserve.new.self _ _ _ _ c.reserve.ensures.log c.is_err.ensures.negation c.if-is_err.false c.bytes_owed.ensures.value c.bytes_needed.ensures.value in
+    let in-use = c.used.ensures ∙ ap used (c.append_last.ensures.log ∙ ap (λ (l : LogState). appended l (last_bytes c.apply.new.self.notes)) log) in
+    let owed = c.bytes_owed-in_default.ensures.value in
+    let bounded = called-bounded g.row.SLOTS (view_of c.self.inside) c.apply.new.self c.args.pass c.args.call.now c.apply.result is in
+    omega (arith, in-use, owed, bounded)
+
+-- what it was called with, and its log and its peak after it
+abbrev does : (g : Over) (c : goal.After-self-1 g) → DoesCall g.row.SLOTS c.self.inside.journal c.apply.new.self c.args.pass c.args.call.now c.apply.result
+does g c =
+    let e = c.apply.ensures in
+    record {
+      full = e.full;
+      marked = λ is. (e.marked is).0;
+      memory = λ is. (e.memory is).0;
+      entry = e.entry;
+      machine = e.machine;
+      noted = e.noted;
+      collector = e.collector;
+      cursor = e.cursor;
+      opening = e.opening;
+      unmarked = e.unmarked;
+    }
+
+log-is : (g : Over) (c : goal.After-self-1 g) → c.append_last.new.log ≡ (after_call (view_of c.self.inside) c.apply.new.self c.args.call.now).log
+log-is g c =
+    c.append_last.ensures.log
+    ∙ ap (λ (l : LogState). appended l (last_bytes c.apply.new.self.notes))
+    (taken c.self.inside c.args.call.now c.reserve.new.self _ _ _ _ c.reserve.ensures.log c.is_err.ensures.negation c.if-is_err.false c.bytes_owed.ensures.value c.bytes_needed.ensures.value)
+
+peak-is : (g : Over) (c : goal.After-self-1 g) → c.max-self-inside.result ≡ max c.self.inside.peak (used c.append_last.new.log + bytes_owed (end_of c.apply.new.self.history))
+peak-is g c =
+    c.max-self-inside.ensures
+    ∙ ap (λ (n : ℕ). max c.self.inside.peak (n + c.bytes_owed-in_default.result)) c.used.ensures
+    ∙ ap (λ (n : ℕ). max c.self.inside.peak (used c.append_last.new.log + n)) c.bytes_owed-in_default.ensures.value
+
+pub invariant_of-self-in_default : goal.invariant_of-self-in_default
+invariant_of-self-in_default g c =
+    let v : LoggedView g.row.D.Denot = view_of c.self.inside in
+    let r = c.requires in
+    let is = called c.self.inside c.args.self.now c.apply.new.self c.args.pass c.args.call.now c.apply.result c.self.view_is r.running r.granted r.other r.no_abort c.bytes_owed.ensures.ascend r.room r.limits (does g c) c.in_default.not-Memory in
+    let P : LogState → ℕ → Type 0 = λ log peak. IsKept g.D.Disk.may_leave (record v { journal = c.apply.new.self; log = log; peak = peak }) in
+    record {
+      size = c.self.invariant.size;
+      spelling = c.append_last.ensures.spelling;
+      kept = subst (P c.append_last.new.log) (sym (peak-is g c))
+          (subst (λ (l : LogState). P l (max c.self.inside.peak (used l + bytes_owed (end_of c.apply.new.self.history)))) (sym (log-is g c))
+          (kept-called g.D.Disk.may_leave g.row.SLOTS v c.apply.new.self c.args.pass c.args.call.now c.apply.result c.self.invariant.kept is));
+    }
+
+pub returns-in_default : goal.returns-in_default
+returns-in_default g c =
+    let e = c.apply.ensures in
+    let v : LoggedView g.row.D.Denot = view_of c.self.inside in
+    let w : LoggedView g.row.D.Denot = record v { journal = c.apply.new.self; log = c.append_last.new.log; peak = c.max-self-inside.result } in
+    record {
+      journal = of-journal g.row.SLOTS c.self.inside.journal c.apply.new.self c.args.pass c.args.call.now c.apply.result (does g c);
+      does = subst (λ (v : LoggedView g.row.D.Denot). DoesCall g.row.SLOTS v.journal c.apply.new.self c.args.pass c.args.call.now c.apply.result) c.self.view_is (does g c);
+      frames = subst (λ (v : LoggedView g.row.D.Denot). KeepsFrames v.journal c.apply.new.self c.args.held.now c.apply.new.held) c.self.view_is
+          (record { pages = e.pages; agree = e.agree; elsewhere = e.elsewhere });
+      same = λ is. ⊎_elim (λ full. (e.marked full).1) (λ memory. (e.memory memory).1) is;
+      disk = record { disk = ap (λ (w : LoggedView g.row.D.Denot). w.disk) c.self.view_is; durable = ap (λ (w : LoggedView g.row.D.Denot). w.durable) c.self.view_is };
+      goes_on = subst (λ (old : LoggedView g.row.D.Denot). GoesOn old w) c.self.view_is
+          (record { running = running c.self.inside c.args.self.now c.self.view_is c.requires.running; log_full = refl; peak = peak-is g c });
+    }

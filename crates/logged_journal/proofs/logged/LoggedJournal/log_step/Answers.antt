@@ -1,0 +1,189 @@
+use Rattle.std.proofs.Common.{◌≡◌, ◌≢◌, ℕ, ◌+◌, ⊎_elim, max, true, [], ap, sym, ◌∙◌, subst, refl, arith, rules}
+use Rattle.std.specs.Prelude.{is_ok, if◌then◌else◌}
+use Rattle.gate_log.specs.State.{LogState, used, appended}
+use Rattle.plain_model.specs.History.{end_of}
+use Rattle.core_store.specs.declared.collect.Collect.{Collect}
+use Rattle.core_store.specs.declared.collect.Collect.TheVariants.{Memory}
+use Rattle.core_store.specs.Frames.{Agree}
+use Rattle.core_store.specs.Owed.{bytes_owed}
+use Rattle.core_store.specs.JournalView.{cells_of}
+use Rattle.core_store.specs.Limited.{AreLimits, is_past_limit}
+use Rattle.core_store.specs.RoundView.{Closed}
+use Rattle.core_store.specs.Steppings.{bytes_to_collect}
+use Rattle.logged_journal.specs.View.{LoggedView, IsPast, bytes_counted}
+use Rattle.logged_journal.specs.Records.{last_bytes}
+use Rattle.logged_journal.specs.Kept.{IsKept}
+use Rattle.logged_journal.specs.Calls.{DoesCollect, KeepsFrames, GoesOn}
+use Rattle.logged_journal.proofs.Resting.{kept-same, room-more, room-enough}
+use Rattle.logged_journal.proofs.CollectorEvents.{IsCollected, is-event, last-collected, collected, kept-collected, goes-on-collected}
+use Rattle.logged_journal.proofs.logged.LoggedJournal.log_step.Given.{Over}
+use Rattle.logged_journal.proofs.logged.LoggedJournal.log_step.Goals as goal
+use Rattle.logged_journal.proofs.logged.LoggedJournal.log_step.Goals.{In_default}
+
+-- what it was
+abbrev before : (g : Over) (c : In_default g) → LoggedView g.row.D.Denot
+before g c =
+    let s = c.self.inside in
+    record { journal = s.journal; log = s.log; disk = s.disk; durable = s.durable; failed = s.failed; log_full = s.log_full; peak = s.peak }
+
+-- the room in the log behind the reservation
+abbrev room : (g : Over) (c : In_default g) → ℕ
+room g c = if is_ok c.reserve.result then max c.self.inside.log.room (c.bytes_owed.result + c.bytes_to_collect.result) else c.self.inside.log.room
+
+does : (g : Over) (c : In_default g) → DoesCollect g.row.SLOTS c.self.inside.journal c.collect_step.new.self c.collect_step.result
+does g c =
+    let e = c.collect_step.ensures in
+    record {
+      full = e.full;
+      marked = λ is. (e.marked is).0;
+      idle = e.idle;
+      unchanged = λ is. (e.unchanged is).0;
+      memory = λ is. (e.memory is).0;
+      event = e.event;
+      safe = e.safe;
+      lower = e.lower;
+      opening = e.opening;
+    }
+
+collected_is : (g : Over) (c : In_default g) → IsCollected g.D.Disk.may_leave g.row.SLOTS (before g c) c.collect_step.new.self c.collect_step.result (room g c)
+collected_is g c =
+    let taken : is_ok c.reserve.result ≡ true = search rules in
+    let enough = room-enough (is_ok c.reserve.result) c.self.inside.log.room (c.bytes_owed.result + c.bytes_to_collect.result) taken in
+    let owed = c.bytes_owed.ensures.value in
+    let next = c.bytes_to_collect.ensures in
+    let history = ap (λ (v : LoggedView g.row.D.Denot). is_past_limit v.journal 1) c.self.view_is ∙ c.requires.history in
+    let some = subst (λ (v : LoggedView g.row.D.Denot). (v.journal.queue ≡ []) × (v.journal.round ≡ Closed) → ⊥) (sym c.self.view_is) c.requires.some in
+    let other : c.collect_step.result ≢ Memory = search rules in
+    record {
+      kept = c.self.invariant.kept;
+      running = ap (λ (v : LoggedView g.row.D.Denot). v.failed) c.self.view_is ∙ c.requires.running;
+      limits = subst (λ (v : LoggedView g.row.D.Denot). AreLimits v.journal.limits) (sym c.self.view_is) c.requires.limits;
+      fits = subst (λ (v : LoggedView g.row.D.Denot). IsPast v (bytes_to_collect v.journal.round) → ⊥) (sym c.self.view_is) c.requires.room;
+      room_taken = omega (arith, enough, owed, next);
+      does = does g c;
+      event = is-event g.row.SLOTS c.self.inside.journal c.collect_step.new.self c.collect_step.result (does g c) history some other;
+    }
+
+-- the event's record has joined the log, and this many bytes at most are counted
+after : (g : Over) (c : In_default g) (log : LogState) (peak : ℕ) → log ≡ appended c.reserve.new.self (last_bytes c.collect_step.new.self.notes)
+    → peak ≡ max c.self.inside.peak (bytes_counted (record (before g c) { journal = c.collect_step.new.self; log = log }))
+    → record (before g c) { journal = c.collect_step.new.self; log = log; peak = peak } ≡ collected (before g c) c.collect_step.new.self (room g c)
+after g c log peak log_is peak_is =
+    let j = c.collect_step.new.self in
+    let all = log_is ∙ ap (λ (l : LogState). appended l (last_bytes j.notes)) c.reserve.ensures.log in
+    ap (λ (p : ℕ). record (before g c) { journal = j; log = log; peak = p }) peak_is
+    ∙ ap (λ (l : LogState). let w = record (before g c) { journal = j; log = l } in record w { peak = max c.self.inside.peak (bytes_counted w) }) all
+
+pub invariant_of-self : goal.invariant_of-self
+invariant_of-self g c =
+    let s = c.self.inside in
+    let v : LoggedView g.row.D.Denot = record { journal = s.journal; log = s.log; disk = s.disk; durable = s.durable; failed = s.failed; log_full = s.log_full; peak = s.peak } in
+    let room = if is_ok c.reserve.result then max s.log.room (c.bytes_owed.result + c.bytes_to_collect.result) else s.log.room in
+    record {
+      size = c.self.invariant.size;
+      spelling = c.self.invariant.spelling;
+      kept = subst (λ (log : LogState). IsKept g.D.Disk.may_leave (record v { log = log })) (sym c.reserve.ensures.log)
+          (kept-same g.D.Disk.may_leave v s.journal s.journal.round s.journal.marks room refl (room-more (is_ok c.reserve.result) s.log.room (c.bytes_owed.result + c.bytes_to_collect.result)) c.self.invariant.kept);
+    }
+
+pub returns-then-is_err-clause-frames : goal.returns-then-is_err-clause-frames
+returns-then-is_err-clause-frames g c =
+    let agree = subst (λ (v : LoggedView g.row.D.Denot). Agree (cells_of v.journal) c.args.held.now) (sym c.self.view_is) c.requires.agree in
+    subst (λ (v : LoggedView g.row.D.Denot). KeepsFrames v.journal c.self.inside.journal c.args.held.now c.args.held.now) c.self.view_is
+    (record { pages = refl; agree = agree; elsewhere = λ page out. refl })
+
+pub invariant_of-self-in-Memory : goal.invariant_of-self-in-Memory
+invariant_of-self-in-Memory g c =
+    let s = c.self.inside in
+    let v : LoggedView g.row.D.Denot = record { journal = s.journal; log = s.log; disk = s.disk; durable = s.durable; failed = s.failed; log_full = s.log_full; peak = s.peak } in
+    let room = if is_ok c.reserve.result then max s.log.room (c.bytes_owed.result + c.bytes_to_collect.result) else s.log.room in
+    let same = (c.collect_step.ensures.memory c.in-Memory.is).0 in
+    record {
+      size = c.self.invariant.size;
+      spelling = c.self.invariant.spelling;
+      kept = subst (λ (log : LogState). IsKept g.D.Disk.may_leave (record v { journal = c.collect_step.new.self; log = log })) (sym c.reserve.ensures.log)
+          (kept-same g.D.Disk.may_leave v c.collect_step.new.self s.journal.round s.journal.marks room same (room-more (is_ok c.reserve.result) s.log.room (c.bytes_owed.result + c.bytes_to_collect.result)) c.self.invariant.kept);
+    }
+
+pub append_last-requires : goal.append_last-requires
+append_last-requires g c =
+    let is = collected_is g (goal.at.append_last-requires g c).In_default in
+    let stands = is.kept.standing is.running in
+    let log = c.reserve.ensures.log in
+    let stage = ap (λ (l : LogState). l.stage) log ∙ stands.stage in
+    let size = ap (λ (l : LogState). used l) log in
+    let place = ap (λ (l : LogState). l.room) log in
+    let most = last-collected (is.does.event is.event) in
+    let taken = is.room_taken in
+    let bounded = stands.bounded in
+    (search rules, (c.self.invariant.size, (stage, (omega (arith, most, taken, place), (omega (arith, bounded, size), c.self.invariant.spelling)))))
+
+pub overflow_add-used : goal.overflow_add-used
+overflow_add-used g c =
+    let d = (goal.at.overflow_add-used g c).In_default in
+    let bounded = (kept-collected g.D.Disk.may_leave g.row.SLOTS (before g d) c.collect_step.new.self c.collect_step.result (room g d) (collected_is g d)).standing (collected_is g d).running in
+    let most = bounded.bounded in
+    let log = c.append_last.ensures.log ∙ ap (λ (l : LogState). appended l (last_bytes c.collect_step.new.self.notes)) c.reserve.ensures.log in
+    let size = ap (λ (l : LogState). used l) log in
+    let total = c.used.ensures in
+    let owed = c.bytes_owed-in_default.ensures.value in
+    omega (arith, most, size, total, owed)
+
+pub invariant_of-self-in_default : goal.invariant_of-self-in_default
+invariant_of-self-in_default g c =
+    let d = (goal.at.invariant_of-self-in_default g c).In_default in
+    let v = before g d in
+    let total = c.used.ensures in
+    let owed = c.bytes_owed-in_default.ensures.value in
+    let higher = c.max-self-inside.ensures in
+    let peak : c.max-self-inside.result ≡ max c.self.inside.peak (used c.append_last.new.log + bytes_owed (end_of c.collect_step.new.self.history)) = omega (arith, total, owed, higher) in
+    record {
+      size = c.self.invariant.size;
+      spelling = c.append_last.ensures.spelling;
+      kept = subst (λ (w : LoggedView g.row.D.Denot). IsKept g.D.Disk.may_leave w) (sym (after g d c.append_last.new.log c.max-self-inside.result c.append_last.ensures.log peak))
+          (kept-collected g.D.Disk.may_leave g.row.SLOTS v c.collect_step.new.self c.collect_step.result (room g d) (collected_is g d));
+    }
+
+pub returns-in-Memory-clause-does : goal.returns-in-Memory-clause-does
+returns-in-Memory-clause-does g c =
+    let e = c.collect_step.ensures in
+    let does : DoesCollect g.row.SLOTS c.self.inside.journal c.collect_step.new.self c.collect_step.result =
+    record {
+      full = e.full;
+      marked = λ is. (e.marked is).0;
+      idle = e.idle;
+      unchanged = λ is. (e.unchanged is).0;
+      memory = λ is. (e.memory is).0;
+      event = e.event;
+      safe = e.safe;
+      lower = e.lower;
+      opening = e.opening;
+    } in
+    subst (λ (r : Collect). DoesCollect g.row.SLOTS c.args.self.now.journal c.collect_step.new.self r) c.in-Memory.is
+    (subst (λ (v : LoggedView g.row.D.Denot). DoesCollect g.row.SLOTS v.journal c.collect_step.new.self c.collect_step.result) c.self.view_is does)
+
+pub returns-in-Memory-clause-frames : goal.returns-in-Memory-clause-frames
+returns-in-Memory-clause-frames g c =
+    let e = c.collect_step.ensures in
+    subst (λ (v : LoggedView g.row.D.Denot). KeepsFrames v.journal c.collect_step.new.self c.args.held.now c.collect_step.new.held) c.self.view_is
+    (record { pages = e.pages; agree = e.agree; elsewhere = e.elsewhere })
+
+pub returns-in_default : goal.returns-in_default
+returns-in_default g c =
+    let d = (goal.at.returns-in_default g c).In_default in
+    let v = before g d in
+    let e = c.collect_step.ensures in
+    let total = c.used.ensures in
+    let owed = c.bytes_owed-in_default.ensures.value in
+    let higher = c.max-self-inside.ensures in
+    let peak : c.max-self-inside.result ≡ max c.self.inside.peak (used c.append_last.new.log + bytes_owed (end_of c.collect_step.new.self.history)) = omega (arith, total, owed, higher) in
+    record {
+      does = subst (λ (w : LoggedView g.row.D.Denot). DoesCollect g.row.SLOTS w.journal c.collect_step.new.self c.collect_step.result) c.self.view_is (does g d);
+      goes_on = subst (λ (w : LoggedView g.row.D.Denot). GoesOn w (record v { journal = c.collect_step.new.self; log = c.append_last.new.log; peak = c.max-self-inside.result })) c.self.view_is
+          (subst (λ (w : LoggedView g.row.D.Denot). GoesOn v w) (sym (after g d c.append_last.new.log c.max-self-inside.result c.append_last.ensures.log peak))
+          (goes-on-collected g.D.Disk.may_leave g.row.SLOTS v c.collect_step.new.self c.collect_step.result (room g d) (collected_is g d)));
+      frames = subst (λ (w : LoggedView g.row.D.Denot). KeepsFrames w.journal c.collect_step.new.self c.args.held.now c.collect_step.new.held) c.self.view_is
+          (record { pages = e.pages; agree = e.agree; elsewhere = e.elsewhere });
+      same = λ is. ⊎_elim (λ full. (e.marked full).1) (λ others. ⊎_elim (λ idle. (e.unchanged idle).1) (λ memory. (e.memory memory).1) others) is;
+      disk = search rules;
+    }

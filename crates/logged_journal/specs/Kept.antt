@@ -1,0 +1,42 @@
+-- What a journal with its log keeps.
+use Rattle.std.specs.Prelude.{◌≡◌, ℕ, ◌+◌, ◌<◌, ◌≤◌, true, List, length, drop, None}
+use Rattle.disk_model.specs.declared.area.Area.{Area}
+use Rattle.disk_model.specs.Told.{EachImage}
+use Rattle.gate_log.specs.declared.stage.Stage.TheVariants.{Standing}
+use Rattle.gate_log.specs.Batches.{most_bytes}
+use Rattle.gate_log.specs.OnDisk.{IsOn}
+use Rattle.plain_model.specs.History.{end_of}
+use Rattle.cell_page.specs.Format.{IsSlotCount}
+use Rattle.core_store.specs.Owed.{bytes_owed}
+use Rattle.core_store.specs.Safe.{IsDurable}
+use Rattle.logged_journal.specs.View.{LoggedView, bytes_counted}
+use Rattle.logged_journal.specs.Records.{notes_bytes, HoldRecords, durable_notes, MayBeLeft}
+
+-- The log stands on the disk: its batches hold the records of the durable notes, its tail those of the notes behind them,
+-- and it has room for what the active transactions owe.
+pub record IsStanding {D : Type 0} (may_leave : D → Area → List ℕ → Type 0) (v : LoggedView D) : Type 0 where
+  pub stage : v.log.stage ≡ Standing
+  pub batches : List (List ℕ)
+  pub on : IsOn may_leave v.log v.disk batches
+  pub hold : HoldRecords v.journal (durable_notes v) batches
+  pub tail : v.log.tail ≡ notes_bytes (drop v.durable v.journal.notes)
+  pub room : bytes_owed (end_of v.journal.history) ≤ v.log.room
+  pub bounded : bytes_counted v ≤ most_bytes
+  pub peak : bytes_counted v ≤ v.peak
+
+pub record IsKept {D : Type 0} (may_leave : D → Area → List ℕ → Type 0) (v : LoggedView D) : Type 0 where
+  -- unless the disk failed a commit
+  pub standing : v.failed ≡ None → IsStanding may_leave v
+  pub inside : v.durable ≤ length v.journal.notes
+  -- a crash that keeps the records of the durable notes alone is safe
+  pub lasting : IsDurable v.journal (durable_notes v)
+  -- whatever a power loss leaves, also after a failure
+  pub images : EachImage may_leave v.disk (MayBeLeft v)
+  -- a call was answered that the log is full, which was nearly so
+  pub full : v.log_full ≡ true → v.journal.limits.log < v.peak + 520
+
+-- and the buffer into which a record is spelled has room for the longest one
+pub record IsLoggedInside {D : Type 0} (may_leave : D → Area → List ℕ → Type 0) (slots : ℕ) (v : LoggedView D) (capacity : ℕ) : Type 0 where
+  pub size : IsSlotCount slots
+  pub spelling : 25 ≤ capacity
+  pub kept : IsKept may_leave v

@@ -1,0 +1,4 @@
+pub mod View
+pub mod Records
+pub mod Kept
+pub mod Calls

@@ -1,0 +1,14 @@
+//! A journal whose events stand in a log on a disk.
+//!
+//! Each event that changes a cell, and the beginning and the end of each transaction, has a record. It joins the tail of
+//! the log at the same event, in room that was taken before, and a commit is answered when all of it is there for good.
+#![tactic(auto)]
+
+mod collect;
+mod failed;
+mod logged;
+mod spell;
+
+pub use collect::CollectRefusal;
+pub use failed::{FailedCommit, Stopped};
+pub use logged::LoggedJournal;
