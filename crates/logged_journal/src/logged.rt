@@ -273,6 +273,7 @@ impl<const SLOTS: usize, D: Disk> LoggedJournal<SLOTS, D> {
         ensures frames { KeepsFrames self.old.journal self.new.journal held.old held.new }
         ensures other { (IsOfJournal result → ⊥) → result ≡ Reply.DiskFault }
         ensures fault { result ≡ Reply.DiskFault → FailsCommit D.faults self.old self.new pass Call.Commit × (held.new ≡ held.old) }
+        ensures later { D.faults self.old.disk ≤ D.faults self.new.disk }
         ensures moments { LeavesOnlyImages D.moment D.left_since self.old.disk self.new.disk (MayHave self.old pass) }
     {
         append_record::<SLOTS>(
@@ -320,6 +321,7 @@ impl<const SLOTS: usize, D: Disk> LoggedJournal<SLOTS, D> {
         // The disk is asked for nothing but a commit that is granted.
         ensures untouched { (call.now ≡ Call.Commit → IsGranted self.old.journal pass Call.Commit → ⊥) → KeepsDisk self.old self.new }
         ensures fault { result ≡ Reply.DiskFault → FailsCommit D.faults self.old self.new pass call.now × (held.new ≡ held.old) }
+        ensures later { D.faults self.old.disk ≤ D.faults self.new.disk }
 
         // At each moment of the call a power loss leaves a log of what was there for good before, or, where it is a commit,
         // of all that was done and this commit.

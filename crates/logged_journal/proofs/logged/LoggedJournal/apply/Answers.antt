@@ -1,4 +1,4 @@
-use Rattle.std.proofs.Common.{rules, ◌≡◌, ⊎_elim, sym, ◌∙◌, ap, subst, refl}
+use Rattle.std.proofs.Common.{rules, ◌≡◌, ◌≤◌, arith, ⊎_elim, sym, ◌∙◌, ap, subst, refl}
 use Rattle.disk_model.specs.Time.{LeavesOnlyImages}
 use Rattle.plain_model.specs.declared.calls.Call.{Call as TransactionCall}
 use Rattle.plain_model.specs.declared.calls.Reply.TheVariants as reply
@@ -164,6 +164,7 @@ returns-in_default-call g c =
       commit = λ is granted memory. c.in_default-call.not-Commit is;
       untouched = λ never. c.log_call.ensures.disk;
       fault = λ is. absurd (subst IsOfJournal is c.log_call.ensures.journal);
+      later = subst (λ (d : g.row.D.Denot). g.D.Disk.faults c.args.self.now.disk ≤ g.D.Disk.faults d) (sym c.log_call.ensures.disk.disk) (omega (arith));
       moments = subst (λ (w : LoggedView g.row.D.Denot). w.disk ≡ w.disk → LeavesOnlyImages g.D.Disk.moment g.D.Disk.left_since w.disk c.log_call.new.self.disk (MayHave w c.args.pass)) c.self.view_is
           (λ _. still g.D.Disk.may_leave g.D.Disk.moment g.D.Disk.left_since g.D.Disk.only_now _ c.args.pass c.log_call.new.self.disk
           (c.log_call.ensures.disk.disk ∙ ap (λ (w : LoggedView g.row.D.Denot). w.disk) (sym c.self.view_is)) c.self.invariant.kept) refl;
