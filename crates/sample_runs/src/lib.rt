@@ -8,6 +8,8 @@ mod disk;
 #[cfg(test)]
 mod edges;
 #[cfg(test)]
+mod host_disk;
+#[cfg(test)]
 mod log;
 #[cfg(test)]
 mod pages;

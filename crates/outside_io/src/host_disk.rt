@@ -1,0 +1,192 @@
+//! The disk of the operating system. This is the edge to the system: no contract says which bytes it
+//! keeps.
+ghost use Rattle.std.specs.Prelude.{◌≡◌, ◌≤◌, false, is_ok, if◌then◌else◌, IsOk, IsErr, IsTrue, IfOk};
+ghost use Rattle.disk_model.specs.Causes.{HasCause, Rose};
+ghost use Rattle.outside_io.specs.HostDisk.{after_fault, after_failed_sync};
+
+use crate::host_files::HostFiles;
+use disk_model::{Area, Disk, DiskFailed};
+use std::alloc::{AllocError, Global};
+use std::fs::{File, Files, TryLockError};
+use std::io;
+use std::marker::Model;
+use thiserror::Error;
+
+/// What [`HostDisk::locked`] answers in place of a disk.
+#[derive(Debug, Drop, Error)]
+pub enum LockRefusal {
+    /// Another disk has the lock, of another program or of this one.
+    #[error("another program has opened the store")]
+    InUse,
+    /// The operating system failed a call: `brahma.super` or its folder can't be opened, the folder
+    /// can't be synced, or the file can't be locked.
+    #[error("brahma.super can't be locked: {0}")]
+    Failed(io::Error),
+    /// Out of memory. Nothing was asked of the operating system.
+    #[error("out of memory")]
+    Memory,
+}
+
+/// The disk of the operating system: the files `brahma.pages`, `brahma.loga`, `brahma.logb` and
+/// `brahma.super` of a folder, with a count of the calls that failed. It tells contracts nothing of
+/// their bytes.
+///
+/// A file that isn't there is made, empty, at the first call on its area. Its folder is synced then, so
+/// that its name lasts. A call on an area whose file can't be opened fails, and the next one tries again.
+///
+/// After a sync that failed each later sync fails: the operating system may have dropped what it could
+/// not write, and tells of it only once.
+#[derive(Drop)]
+pub struct HostDisk<R: Files<File = File>> {
+    files: HostFiles<R>,
+    faults: u64,
+    sync_failed: bool,
+}
+
+impl<R: Files<File = File>> Model for HostDisk<R> {
+    ghost use Rattle.outside_io.specs.HostDisk.{HostState};
+
+    ghost Value = { HostState };
+
+    ghost view = { λ s. record { faults = s.faults; sync_failed = s.sync_failed } };
+}
+
+impl<R: Files<File = File> + Drop> HostDisk<R> {
+    /// The disk of this folder, `.` for the current one. It asks nothing of the operating system, takes no
+    /// lock, and is not kept away by one. Its calls take no memory.
+    pub fn new(alloc: Global, files: R, folder: &str) -> Result<HostDisk<R>, AllocError>
+        ensures { IfOk result (λ disk. disk ≡ record { faults = 0; sync_failed = false }) }
+    {
+        Ok(HostDisk {
+            files: HostFiles::new(alloc, files, folder)?,
+            faults: 0,
+            sync_failed: false,
+        })
+    }
+
+    /// The disk of this folder, `.` for the current one, with the lock of `brahma.super`, which is made,
+    /// empty, where it isn't there. It has the lock until it is dropped or the program ends.
+    ///
+    /// It is refused where another disk has the lock ([`LockRefusal::InUse`]), where the operating system
+    /// fails a call ([`LockRefusal::Failed`]), and out of memory ([`LockRefusal::Memory`]).
+    pub fn locked(alloc: Global, files: R, folder: &str) -> Result<HostDisk<R>, LockRefusal>
+        ensures { IfOk result (λ disk. disk ≡ record { faults = 0; sync_failed = false }) }
+    {
+        let mut disk = HostDisk::new(alloc, files, folder).map_err(|_| LockRefusal::Memory)?;
+        match disk.files.lock() {
+            Ok(()) => Ok(disk),
+            Err(TryLockError::WouldBlock) => Err(LockRefusal::InUse),
+            Err(TryLockError::Error(error)) => Err(LockRefusal::Failed(error)),
+        }
+    }
+
+    /// What the operating system answered, with its failure counted.
+    fn counted<T: Drop>(&mut self, answer: io::Result<T>) -> Result<T, DiskFailed>
+        ensures told { is_ok result ≡ is_ok answer }
+        ensures cause { HasCause self.old.faults self.new.faults result }
+        ensures counted { self.new ≡ (if is_ok result then self.old else after_fault self.old) }
+    {
+        match answer {
+            Ok(value) => Ok(value),
+            Err(_) => Err(self.failed()),
+        }
+    }
+
+    /// One failure more.
+    fn failed(&mut self) -> DiskFailed
+        ensures cause { Rose self.old.faults self.new.faults × (self.old.faults ≤ self.new.faults) }
+        ensures counted { self.new ≡ after_fault self.old }
+    {
+        self.faults = self.faults.saturating_add(1);
+        DiskFailed
+    }
+}
+
+impl<R: Files<File = File> + Drop + Send> Disk for HostDisk<R> {
+    ghost use Rattle.outside_io.specs.HostDisk.{untold_content, untold_left, one_moment, untold_since, reads_untold, counts_untold, only_untold};
+
+    ghost content = { untold_content };
+
+    ghost may_leave = { untold_left };
+
+    ghost faults = { λ s. s.faults };
+
+    ghost reads_may_stay = { reads_untold };
+
+    ghost moment = { one_moment };
+
+    ghost left_since = { untold_since };
+
+    ghost counts_now = { counts_untold };
+
+    ghost only_now = { only_untold };
+
+    /// How many bytes the area has. [`DiskFailed`] comes where the operating system fails a call.
+    fn len(&mut self, area: Area) -> Result<u64, DiskFailed>
+        ensures cause { HasCause self.old.faults self.new.faults result }
+        ensures counted { self.new ≡ (if is_ok result then self.old else after_fault self.old) }
+    {
+        let answer = self.files.len(area);
+        self.counted(answer)
+    }
+
+    /// Reads. [`DiskFailed`] comes where the operating system fails a call, and where the read ends past
+    /// the end of the area. A read that is interrupted or gives only some bytes is gone on with.
+    fn read_at(&mut self, area: Area, at: u64, into: &mut [u8]) -> Result<(), DiskFailed>
+        ensures cause { HasCause self.old.faults self.new.faults result }
+        ensures counted { self.new ≡ (if is_ok result then self.old else after_fault self.old) }
+    {
+        let answer = self.files.read_at(area, at, into);
+        self.counted(answer)
+    }
+
+    /// Writes. [`DiskFailed`] comes where the operating system fails a call, and where the write begins
+    /// past the end of the area. A write that is interrupted or takes only some bytes is gone on with.
+    fn write_at(&mut self, area: Area, at: u64, bytes: &[u8]) -> Result<(), DiskFailed>
+        ensures cause { HasCause self.old.faults self.new.faults result }
+        ensures counted { self.new ≡ (if is_ok result then self.old else after_fault self.old) }
+    {
+        let answer = self.files.write_at(area, at, bytes);
+        self.counted(answer)
+    }
+
+    /// Cuts. [`DiskFailed`] comes where the operating system fails a call, and where the area is shorter
+    /// than that.
+    fn cut(&mut self, area: Area, len: u64) -> Result<(), DiskFailed>
+        ensures cause { HasCause self.old.faults self.new.faults result }
+        ensures counted { self.new ≡ (if is_ok result then self.old else after_fault self.old) }
+    {
+        let answer = self.files.cut(area, len);
+        self.counted(answer)
+    }
+
+    /// Makes what the area reads last. [`DiskFailed`] comes where the operating system fails a call, and
+    /// after a sync of any area that failed.
+    fn sync(&mut self, area: Area) -> Result<(), DiskFailed>
+        ensures cause { HasCause self.old.faults self.new.faults result }
+        ensures counted { self.new ≡ (if is_ok result then self.old else after_failed_sync self.old) }
+        ensures none_after_failure { IsTrue self.old.sync_failed → IsErr result }
+    {
+        if self.sync_failed || self.files.sync(area).is_err() {
+            self.sync_failed = true;
+            return Err(self.failed());
+        }
+        Ok(())
+    }
+
+    /// Does nothing. [`DiskFailed`] never comes.
+    fn lose_power(&mut self, _pick: u32) -> Result<(), DiskFailed>
+        ensures cause { HasCause self.old.faults self.new.faults result }
+        ensures succeeds { IsOk result }
+        ensures stays { self.new ≡ self.old }
+    {
+        Ok(())
+    }
+
+    /// How many calls failed, up to 2^64 - 1.
+    fn faults(&self) -> u64
+        ensures { result ≡ self.now.faults }
+    {
+        self.faults
+    }
+}
