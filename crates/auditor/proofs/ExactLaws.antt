@@ -1,6 +1,5 @@
 -- A recount finds no difference where the counts are exact and the frames hold the store's pages.
-use Rattle.std.proofs.Common.{◌≡◌, ◌≢◌, ℕ, zero, suc, ◌+◌, ◌*◌, ◌<◌, ◌≤◌, Bool, not, true, false, cond, List, [], ◌++◌, length, map, get_or, refl, sym, ap, subst, ◌∙◌, inl, inr, arith}
-use Rattle.std.specs.Prelude.{◌==◌, if◌then◌else◌}
+use Rattle.std.proofs.Common.{◌≡◌, ◌≢◌, ℕ, zero, suc, ◌+◌, ◌*◌, ◌<◌, ◌≤◌, Bool, not, true, false, List, [], ◌++◌, length, map, get_or, refl, sym, ap, subst, ◌∙◌, inl, inr, arith}
 use Rattle.std.specs.List.{range_with_len, flat_map}
 use Rattle.std.proofs.lemmas.Bool.{eq-eqb, ne_eqb, cases_Bool}
 use Rattle.std.proofs.lemmas.List.{length-map}
@@ -9,7 +8,7 @@ use Rattle.cell_model.specs.Cells.{Cell as StoredCell, cell_at, is_live, pointer
 use Rattle.cell_model.specs.Consistent.{AreConsistent}
 use Rattle.cell_model.proofs.RecordLaws.{pointers_to-none}
 use Rattle.cell_page.specs.declared.cell.Cell.{Cell}
-use Rattle.cell_page.specs.Format.{place_of, free_cell, page_of_id}
+use Rattle.cell_page.specs.Format.{free_cell, page_of_id}
 use Rattle.cell_page.specs.Stored.{cell_of, HoldsPage}
 use Rattle.cell_page.proofs.HeldPages.{held_cell}
 use Rattle.core_store.specs.declared.frame.Frame.{Frame}
@@ -17,7 +16,7 @@ use Rattle.core_store.specs.Fresh.{store_of}
 use Rattle.core_store.specs.Frames.{AllAgree}
 use Rattle.core_store.proofs.PageLaws.{id-low, id-high}
 use Rattle.auditor.specs.declared.difference.Difference.{Difference}
-use Rattle.auditor.specs.Recount.{joined, strong_found, weak_found, found_at, page_in, kept_at, difference_between, difference_at, differences_of}
+use Rattle.auditor.specs.Recount.{joined, strong_found, weak_found, found_at, page_in, kept_at, difference_at, differences_of}
 
 -- ---- what consistent cells tell is what is found
 

@@ -99,6 +99,16 @@ pub record StopsWithin (lines : List (List ℕ)) (j : JournalView) : Type 0 wher
   pub follows : Follows (start_point j) 1 before whole
   pub next : IsPartOfFirst (length before + 1) behind part
 
+-- the disk failed a commit of this client, which some line asks, and the journal follows those before it
+pub record StopsAtCommit (lines : List (List ℕ)) (client : ℕ) (j : JournalView) : Type 0 where
+  pub before : List (List ℕ)
+  pub line : List ℕ
+  pub behind : List (List ℕ)
+  pub parts : lines ≡ before ++ line ∷ behind
+  pub accepted : IsAccepted (length before + 1) line
+  pub asks : meaning_of line ≡ Some (Ask client call.Commit)
+  pub follows : FollowsLines before j
+
 -- ---- a source that tells what it has left, before the call and after it; of one that doesn't nothing is said
 
 -- the journal follows all lines, and the source was read to its end
@@ -122,3 +132,8 @@ FollowsRead (Some bytes) (Some left) j = (read : List ℕ) × (bytes ≡ read ++
 abbrev pub FollowsPart : Option (List ℕ) → JournalView → Type 0
 FollowsPart None j = ⊤
 FollowsPart (Some bytes) j = StopsWithin (lines_of bytes) j
+
+-- the journal follows the lines before one that asks a commit of this client, which the disk failed
+abbrev pub FollowsToCommit : Option (List ℕ) → ℕ → JournalView → Type 0
+FollowsToCommit None client j = ⊤
+FollowsToCommit (Some bytes) client j = StopsAtCommit (lines_of bytes) client j

@@ -1,12 +1,15 @@
 //! The lines `gc step` and `gc all`.
-ghost use Rattle.std.specs.Prelude.{◌+◌, ◌≤◌, ℕ, List, IfOk, OnOk, IfErr, IsErrOf};
+ghost use Rattle.std.specs.Prelude.{◌≡◌, ◌+◌, ◌≤◌, ℕ, List, None, IfOk, OnOk, IfErr, IsErrOf};
 ghost use Rattle.std.specs.Io.KnownBytes.{Appends};
 ghost use Rattle.disk_model.specs.Causes.{Rose};
-ghost use Rattle.brahma_shell.specs.Replay.{StepsOnce, Performs, StopsPerform};
+ghost use Rattle.brahma_shell.specs.Log.{GoesOn};
+ghost use Rattle.brahma_shell.specs.Replay.{StepsOnce, Performs, StopsPerform, LeavesLog};
 
 use crate::replay::{Stop, print};
 use crate::store::Store;
 use core_store::Collect;
+use disk_model::Disk;
+use logged_journal::CollectRefusal;
 use outside_io::Sink;
 use script_lines::{Line, delete_line};
 
@@ -20,36 +23,47 @@ pub(crate) struct Stepped {
 }
 
 /// Makes a step of the collector, and prints what it deletes. `None` where there is nothing to do.
-pub(crate) fn collect_step<W: Sink>(store: &mut Store, out: &mut W) -> Result<Option<Stepped>, Stop>
-    ensures ok { IfOk result (λ s. (text : List ℕ) × StepsOnce s store.old store.new text
+pub(crate) fn collect_step<W: Sink, D: Disk>(
+    store: &mut Store<D>,
+    out: &mut W,
+) -> Result<Option<Stepped>, Stop>
+    requires running { store.old.failed ≡ None }
+    ensures ok { IfOk result (λ s. (text : List ℕ) × StepsOnce s store.old.journal store.new.journal text
         × Appends (W.written out.old) (W.written out.new) text) }
+    ensures goes_on { IfOk result (λ _. GoesOn D.faults store.old store.new) }
     ensures stopped { IfErr result (λ s.
-        StopsPerform s Line.CollectStep store.old store.new (W.written out.old) (W.written out.new)) }
+        StopsPerform s Line.CollectStep store.old.journal store.new.journal (W.written out.old) (W.written out.new)
+        × LeavesLog D.faults s store.old store.new) }
     ensures write { IsErrOf result Stop.Write → Rose (W.faults out.old) (W.faults out.new) }
     ensures later { W.faults out.old ≤ W.faults out.new }
 {
     match store.collect_step() {
-        Collect::Idle => Ok(None),
-        Collect::Did { popped, left } => Ok(Some(Stepped { popped, left })),
-        Collect::Deleted { id, left } => {
+        Ok(Collect::Idle) => Ok(None),
+        Ok(Collect::Did { popped, left }) => Ok(Some(Stepped { popped, left })),
+        Ok(Collect::Deleted { id, left }) => {
             print(out, delete_line(id).as_str().as_bytes())?;
             Ok(Some(Stepped {
                 popped: false,
                 left,
             }))
         }
-        Collect::TraceFull => Err(Stop::Full),
-        Collect::Memory => Err(Stop::Memory),
+        Ok(Collect::TraceFull) => Err(Stop::Full),
+        Ok(Collect::Memory) => Err(Stop::Memory),
+        Err(CollectRefusal::LogFull) => Err(Stop::LogFull),
+        Err(CollectRefusal::Stopped { .. }) => Err(Stop::Stopped),
     }
 }
 
 /// Makes steps of the collector until there is nothing to do, or until no round is open and it has taken as many objects
 /// out of its queue as the store has ids. Prints what they delete.
-pub(crate) fn collect_all<W: Sink>(store: &mut Store, out: &mut W) -> Result<(), Stop>
-    ensures ok { OnOk result ((text : List ℕ) × Performs store.old store.new Line.CollectAll text
+pub(crate) fn collect_all<W: Sink, D: Disk>(store: &mut Store<D>, out: &mut W) -> Result<(), Stop>
+    requires running { store.old.failed ≡ None }
+    ensures ok { OnOk result ((text : List ℕ) × Performs store.old.journal store.new.journal Line.CollectAll text
         × Appends (W.written out.old) (W.written out.new) text) }
+    ensures goes_on { OnOk result (GoesOn D.faults store.old store.new) }
     ensures stopped { IfErr result (λ s.
-        StopsPerform s Line.CollectAll store.old store.new (W.written out.old) (W.written out.new)) }
+        StopsPerform s Line.CollectAll store.old.journal store.new.journal (W.written out.old) (W.written out.new)
+        × LeavesLog D.faults s store.old store.new) }
     ensures write { IsErrOf result Stop.Write → Rose (W.faults out.old) (W.faults out.new) }
     ensures later { W.faults out.old ≤ W.faults out.new }
 {

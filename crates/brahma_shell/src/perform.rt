@@ -1,14 +1,16 @@
 //! What a client's line asks, done in the store.
-ghost use Rattle.std.specs.Prelude.{◌≡◌, ◌+◌, ◌<◌, [], ◌∷◌, ◌++◌, replicate, IsSome, Some, None, IfOk, IfErr, Option};
+ghost use Rattle.std.specs.Prelude.{◌≡◌, ◌⊎◌, ◌+◌, ◌<◌, [], ◌∷◌, ◌++◌, replicate, IsSome, Some, None, IsOk, IfOk, IfErr, Option};
 ghost use Rattle.plain_model.specs.Machine.{IsInRange, transaction_of};
 ghost use Rattle.plain_model.specs.History.{end_of, left_to_undo};
 ghost use Rattle.script_lines.specs.Grammar.{IsClient};
 ghost use Rattle.brahma_shell.specs.Growth.{GrowsBy};
-ghost use Rattle.brahma_shell.specs.Replay.{answer_text, Performs, StopsCall};
+ghost use Rattle.brahma_shell.specs.Log.{GoesOn};
+ghost use Rattle.brahma_shell.specs.Replay.{answer_text, Performs, StopsCall, LeavesLog, FailsCall};
 
 use crate::replay::Stop;
 use crate::store::Store;
 use core_store::AbortStep;
+use disk_model::Disk;
 use plain_model::{Call, Entry, Reply};
 use script_lines::Line;
 
@@ -21,18 +23,25 @@ pub(crate) struct Answer {
 }
 
 /// Does one call.
-fn call(store: &mut Store, client: u8, call: Call) -> Result<Answer, Stop>
+fn call<D: Disk>(store: &mut Store<D>, client: u8, call: Call) -> Result<Answer, Stop>
     requires client { IsClient client }
     requires in_range { IsInRange 6 call }
-    requires no_abort { call ≡ Call.Abort → transaction_of (end_of store.old.history).state client ≡ None }
+    requires no_abort { call ≡ Call.Abort → transaction_of (end_of store.old.journal.history).state client ≡ None }
+    requires running { store.old.failed ≡ None }
     ensures ok { IfOk result (λ a. (a.client ≡ client) × (a.call ≡ call)
-        × GrowsBy store.old store.new (Entry.Call client call a.reply ∷ [])) }
-    ensures err { IfErr result (λ s. StopsCall s store.old store.new) }
+        × GrowsBy store.old.journal store.new.journal (Entry.Call client call a.reply ∷ [])) }
+    ensures goes_on { IfOk result (λ _. GoesOn D.faults store.old store.new) }
+    ensures err { IfErr result (λ s.
+        StopsCall s store.old.journal store.new.journal × LeavesLog D.faults s store.old store.new
+        ⊎ FailsCall D.faults s client call store.old store.new) }
 {
     let reply = store.call(client, &call);
     match reply {
         Reply::Memory => Err(Stop::Memory),
         Reply::TraceFull => Err(Stop::Full),
+        Reply::LogFull => Err(Stop::LogFull),
+        Reply::DiskFault => Err(Stop::Fault),
+        Reply::Stopped { .. } => Err(Stop::Stopped),
         _ => Ok(Answer {
             client,
             call,
@@ -42,55 +51,70 @@ fn call(store: &mut Store, client: u8, call: Call) -> Result<Answer, Stop>
 }
 
 /// Undoes each write of the client's transaction that isn't undone, and ends the transaction.
-fn undo_all(store: &mut Store, client: u8)
-    requires { IsSome (transaction_of (end_of store.old.history).state client) }
-    ensures { GrowsBy store.old store.new
-        (replicate (left_to_undo (end_of store.old.history) client) (Entry.Undo client)
+fn undo_all<D: Disk>(store: &mut Store<D>, client: u8) -> Result<(), Stop>
+    requires active { IsSome (transaction_of (end_of store.old.journal.history).state client) }
+    requires running { store.old.failed ≡ None }
+    ensures ok { IsOk result }
+    ensures entries { GrowsBy store.old.journal store.new.journal
+        (replicate (left_to_undo (end_of store.old.journal.history) client) (Entry.Undo client)
         ++ Entry.Call client Call.Abort Reply.Done ∷ []) }
+    ensures goes_on { GoesOn D.faults store.old store.new }
 {
     'steps: loop {
         match store.abort_step(client) {
-            AbortStep::Undone => {}
-            AbortStep::Ended => return,
+            Ok(AbortStep::Undone) => {}
+            Ok(AbortStep::Ended) => return Ok(()),
+            Err(_) => return Err(Stop::Stopped),
         }
     }
 }
 
 /// Does the call that a line asks.
-pub(crate) fn ask(store: &mut Store, client: u8, asked: Call) -> Result<Answer, Stop>
-    requires { IsClient client × IsInRange 6 asked × (asked ≡ Call.Abort → ⊥) }
-    ensures ok { IfOk result (λ a. Performs store.old store.new (Line.Ask client asked) (answer_text (Some a))) }
-    ensures err { IfErr result (λ s. StopsCall s store.old store.new) }
+pub(crate) fn ask<D: Disk>(store: &mut Store<D>, client: u8, asked: Call) -> Result<Answer, Stop>
+    requires line { IsClient client × IsInRange 6 asked × (asked ≡ Call.Abort → ⊥) }
+    requires running { store.old.failed ≡ None }
+    ensures ok { IfOk result (λ a. Performs store.old.journal store.new.journal (Line.Ask client asked) (answer_text (Some a))) }
+    ensures goes_on { IfOk result (λ _. GoesOn D.faults store.old store.new) }
+    ensures err { IfErr result (λ s.
+        StopsCall s store.old.journal store.new.journal × LeavesLog D.faults s store.old store.new
+        ⊎ FailsCall D.faults s client asked store.old store.new) }
 {
     call(store, client, asked)
 }
 
 /// Undoes the client's transaction, and ends it.
-pub(crate) fn abort(store: &mut Store, client: u8) -> Result<Answer, Stop>
-    requires { IsClient client }
-    ensures ok { IfOk result (λ a. Performs store.old store.new (Line.Abort client) (answer_text (Some a))) }
-    ensures err { IfErr result (λ s. StopsCall s store.old store.new) }
+pub(crate) fn abort<D: Disk>(store: &mut Store<D>, client: u8) -> Result<Answer, Stop>
+    requires client { IsClient client }
+    requires running { store.old.failed ≡ None }
+    ensures ok { IfOk result (λ a. Performs store.old.journal store.new.journal (Line.Abort client) (answer_text (Some a))) }
+    ensures goes_on { IfOk result (λ _. GoesOn D.faults store.old store.new) }
+    ensures err { IfErr result (λ s.
+        StopsCall s store.old.journal store.new.journal × LeavesLog D.faults s store.old store.new) }
 {
     if !store.active(client) {
         return call(store, client, Call::Abort);
     }
-    undo_all(store, client);
+    undo_all(store, client)?;
     Ok(aborted(client))
 }
 
 /// Undoes the last write of the client's transaction that isn't undone, or ends the transaction where there is none.
 /// Nothing is answered to an undo.
-pub(crate) fn undo(store: &mut Store, client: u8) -> Result<Option<Answer>, Stop>
-    requires { IsClient client }
-    ensures ok { IfOk result (λ a. Performs store.old store.new (Line.Undo client) (answer_text a)) }
-    ensures err { IfErr result (λ s. StopsCall s store.old store.new) }
+pub(crate) fn undo<D: Disk>(store: &mut Store<D>, client: u8) -> Result<Option<Answer>, Stop>
+    requires client { IsClient client }
+    requires running { store.old.failed ≡ None }
+    ensures ok { IfOk result (λ a. Performs store.old.journal store.new.journal (Line.Undo client) (answer_text a)) }
+    ensures goes_on { IfOk result (λ _. GoesOn D.faults store.old store.new) }
+    ensures err { IfErr result (λ s.
+        StopsCall s store.old.journal store.new.journal × LeavesLog D.faults s store.old store.new) }
 {
     if !store.active(client) {
         return Ok(Some(call(store, client, Call::Abort)?));
     }
     match store.abort_step(client) {
-        AbortStep::Undone => Ok(None),
-        AbortStep::Ended => Ok(Some(aborted(client))),
+        Ok(AbortStep::Undone) => Ok(None),
+        Ok(AbortStep::Ended) => Ok(Some(aborted(client))),
+        Err(_) => Err(Stop::Stopped),
     }
 }
 

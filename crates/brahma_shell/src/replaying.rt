@@ -1,132 +1,152 @@
 //! The command `replay`.
-ghost use Rattle.std.specs.Prelude.{◌≡◌, ◌⊎◌, ◌≤◌, ◌↔◌, ℕ, [], true, IsNone, IfSome, IfOk, codes, string_bytes};
+ghost use Rattle.std.specs.Prelude.{◌≡◌, ◌⊎◌, ◌≤◌, [], None, Some, IfOk, IfSome, codes, string_bytes};
 ghost use Rattle.std.specs.Io.KnownBytes.{Appends};
-ghost use Rattle.plain_model.specs.History.{IsLegal, end_of};
-ghost use Rattle.plain_laws.specs.Serializable.{IsSerializable};
-ghost use Rattle.plain_model.specs.Text.{text_of, stored_line};
-ghost use Rattle.store_model.specs.Sound.{IsSound};
-ghost use Rattle.core_store.specs.JournalView.{JournalView, core_of, opening_of};
-ghost use Rattle.core_store.specs.Leads.{AreLed};
-ghost use Rattle.core_store.specs.Limited.{WasFull};
+ghost use Rattle.plain_model.specs.History.{end_of};
+ghost use Rattle.plain_model.specs.Text.{stored_line};
 ghost use Rattle.disk_model.specs.Causes.{Rose};
-ghost use Rattle.script_lines.specs.Output.{AppendsFront, EndsWith, refused_line};
-ghost use Rattle.brahma_shell.specs.Points.{entries_in};
-ghost use Rattle.brahma_shell.specs.Follows.{FollowsAll, FollowsUpTo, FollowsRead, FollowsPart};
-ghost use Rattle.brahma_shell.specs.Top.{IsOfFreshStore, IsOfReplay, IsStatusOfReplay, HasOnlyLines, IsDoneOrFull, whole_text};
+ghost use Rattle.disk_model.specs.Told.{EachImage};
+ghost use Rattle.restart_store.specs.Fresh.{IsMaking};
+ghost use Rattle.script_lines.specs.Output.{AppendsFront, EndsWith};
+ghost use Rattle.brahma_shell.specs.Ended.{kept_in, shut_in, disk_in};
+ghost use Rattle.brahma_shell.specs.Replay.{status_of, last_line};
+ghost use Rattle.brahma_shell.specs.Top.{IsFreshStore, Replayed, outside};
 
+use crate::ended::Ended;
 use crate::replay::{Stop, replay};
-use crate::status::{DONE, LIMIT, OUT_OF_MEMORY, READ_FAULT, SCRIPT_REFUSED, WRITE_FAULT};
-use crate::store::{SLOTS, Store};
-use core_store::Journal;
+use crate::status::{
+    DISK_FAULT, DONE, LIMIT, OUT_OF_MEMORY, READ_FAULT, SCRIPT_REFUSED, WRITE_FAULT,
+};
+use crate::store::{PAGES, SLOTS, Store};
+use disk_model::Disk;
+use logged_journal::LoggedJournal;
 use outside_io::{Sink, Source};
 use plain_model::Memory;
+use restart_store::init;
 use script_lines::{refused_line, write_all, write_last};
 use std::alloc::Global;
 
 /// The line of the journal's stored ids.
-fn stored_line(alloc: Global, store: &Store) -> Result<String, Memory>
-    ensures { IfOk result (λ line. string_bytes line ≡ stored_line (end_of store.now.history).state.stored) }
+fn stored_line<D: Disk>(alloc: Global, store: &Store<D>) -> Result<String, Memory>
+    ensures { IfOk result (λ line. string_bytes line ≡ stored_line (end_of store.now.journal.history).state.stored) }
 {
     let ids = store.stored()?;
     script_lines::stored_line(alloc, ids.items())
 }
 
-/// Prints the stored ids, which ends a replay that came to the end of its script.
-fn end<W: Sink>(alloc: Global, store: Store, out: &mut W) -> (u8, Option<Journal<SLOTS>>)
-    ensures statuses { (result.0 ≡ 0) ⊎ ((result.0 ≡ 5) ⊎ (result.0 ≡ 8)) }
-    ensures handed { IsNone result.1 ↔ (result.0 ≡ 8) }
-    ensures journal { IfSome result.1 (λ j. j ≡ store) }
-    ensures done { result.0 ≡ 0 → Appends (W.written out.old) (W.written out.new)
-        (stored_line (end_of store.history).state.stored) }
-    ensures write { result.0 ≡ 5 → AppendsFront (W.written out.old) (W.written out.new)
-        (stored_line (end_of store.history).state.stored)
+/// Prints the stored ids, which ends a replay that came to the end of its script, and answers the status.
+fn end<W: Sink, D: Disk>(alloc: Global, store: &Store<D>, out: &mut W) -> u8
+    ensures statuses { (result ≡ 0) ⊎ ((result ≡ 5) ⊎ (result ≡ 8)) }
+    ensures done { result ≡ 0 → Appends (W.written out.old) (W.written out.new)
+        (stored_line (end_of store.now.journal.history).state.stored) }
+    ensures write { result ≡ 5 → AppendsFront (W.written out.old) (W.written out.new)
+        (stored_line (end_of store.now.journal.history).state.stored)
         × Rose (W.faults out.old) (W.faults out.new) }
-    ensures memory { result.0 ≡ 8 → EndsWith (W.written out.old) (W.written out.new)
+    ensures memory { result ≡ 8 → EndsWith (W.written out.old) (W.written out.new)
         (W.faults out.old) (W.faults out.new) [] (codes "refused: memory\n") }
     ensures later { W.faults out.old ≤ W.faults out.new }
 {
-    let Ok(line) = stored_line(alloc, &store) else {
+    let Ok(line) = stored_line(alloc, store) else {
         write_last(out, b"refused: memory\n");
-        return (OUT_OF_MEMORY, None);
+        return OUT_OF_MEMORY;
     };
     match write_all(out, line.as_bytes()) {
-        Ok(()) => (DONE, Some(store.into_journal())),
-        Err(_) => (WRITE_FAULT, Some(store.into_journal())),
+        Ok(()) => DONE,
+        Err(_) => WRITE_FAULT,
     }
 }
 
-/// Does the script of the source in a fresh store, line by line, and answers the status. The journal is handed back, but
-/// where memory is out.
-pub(crate) fn replay_script<R: Source, W: Sink>(
-    alloc: Global,
-    script: &mut R,
-    out: &mut W,
-) -> (u8, Option<Journal<SLOTS>>)
-    ensures statuses { IsStatusOfReplay result.0 }
-    ensures complete { HasOnlyLines (R.left script.old)
-        → ¬ Rose (R.faults script.old) (R.faults script.new) → ¬ Rose (W.faults out.old) (W.faults out.new)
-        → IsDoneOrFull result.0 }
-    ensures handed { IsNone result.1 ↔ (result.0 ≡ 8) }
-    ensures legal { IfSome result.1 (λ j. IsLegal j.history × IsOfFreshStore j) }
-    ensures serializable { IfSome result.1 (λ j. IsSerializable j.history) }
-    ensures sound { IfSome result.1 (λ j. IsSound (core_of j)) }
-    ensures led { IfSome result.1 (λ j. AreLed 6 (opening_of j) j.notes (core_of j)) }
-    ensures entries { IfSome result.1 (λ j. entries_in j.notes ≡ j.history.entries) }
-    ensures done { result.0 ≡ 0 → IfSome result.1 (λ j.
-        FollowsAll (R.left script.old) (R.left script.new) j
-        × Appends (W.written out.old) (W.written out.new) (whole_text j.history)) }
-    ensures refused { result.0 ≡ 3 → IfSome result.1 (λ j. (number : ℕ)
-        × FollowsUpTo (R.left script.old) number j
-        × EndsWith (W.written out.old) (W.written out.new) (W.faults out.old) (W.faults out.new)
-        (text_of j.history.entries) (refused_line number)) }
-    ensures read { result.0 ≡ 4 → Rose (R.faults script.old) (R.faults script.new) × IfSome result.1 (λ j.
-        FollowsRead (R.left script.old) (R.left script.new) j
-        × EndsWith (W.written out.old) (W.written out.new) (W.faults out.old) (W.faults out.new)
-        (text_of j.history.entries) (codes "refused: read\n")) }
-    ensures write { result.0 ≡ 5 → Rose (W.faults out.old) (W.faults out.new) × IfSome result.1 (λ j.
-        FollowsPart (R.left script.old) j
-        × AppendsFront (W.written out.old) (W.written out.new) (whole_text j.history)) }
-    ensures memory { result.0 ≡ 8 →
-        (script.new ≡ script.old) × EndsWith (W.written out.old) (W.written out.new)
-        (W.faults out.old) (W.faults out.new) [] (codes "refused: memory\n")
-        ⊎ ((j : JournalView) × IsOfReplay j × FollowsPart (R.left script.old) j
-        × EndsWith (W.written out.old) (W.written out.new) (W.faults out.old) (W.faults out.new)
-        (text_of j.history.entries) (codes "refused: memory\n")) }
-    ensures limit { result.0 ≡ 9 → IfSome result.1 (λ j. WasFull j
-        × FollowsPart (R.left script.old) j
-        × EndsWith (W.written out.old) (W.written out.new) (W.faults out.old) (W.faults out.new)
-        (text_of j.history.entries) (codes "refused: trace\n")) }
-    ensures marked { IfSome result.1 (λ j. (j.marks.trace ≡ true) ↔ (result.0 ≡ 9)) }
-    ensures script_later { R.faults script.old ≤ R.faults script.new }
-    ensures out_later { W.faults out.old ≤ W.faults out.new }
+/// Writes the last line of a replay that stopped, and answers the status. Where the sink had failed nothing is written.
+fn end_stopped<W: Sink>(out: &mut W, stop: Stop) -> u8
+    ensures status { result ≡ status_of stop }
+    ensures last { EndsWith (W.written out.old) (W.written out.new)
+        (W.faults out.old) (W.faults out.new) [] (last_line stop) }
+    ensures later { W.faults out.old ≤ W.faults out.new }
 {
-    let Ok(mut store) = Store::fresh(alloc) else {
-        write_last(out, b"refused: memory\n");
-        return (OUT_OF_MEMORY, None);
-    };
-    let replayed = replay(&mut store, script, out);
-    // The history is legal and the journal is sound: this call hands the facts out.
-    let _ = store.history();
-    let Err(stop) = replayed else {
-        return end(alloc, store, out);
-    };
     match stop {
         Stop::Line(number) => {
             write_last(out, refused_line(number).as_str().as_bytes());
-            (SCRIPT_REFUSED, Some(store.into_journal()))
+            SCRIPT_REFUSED
         }
         Stop::Read => {
             write_last(out, b"refused: read\n");
-            (READ_FAULT, Some(store.into_journal()))
+            READ_FAULT
         }
-        Stop::Write => (WRITE_FAULT, Some(store.into_journal())),
-        Stop::Full => {
-            write_last(out, b"refused: trace\n");
-            (LIMIT, Some(store.into_journal()))
+        Stop::Write => WRITE_FAULT,
+        Stop::Fault | Stop::Stopped => {
+            write_last(out, b"refused: disk\n");
+            DISK_FAULT
         }
         Stop::Memory => {
             write_last(out, b"refused: memory\n");
-            (OUT_OF_MEMORY, None)
+            OUT_OF_MEMORY
+        }
+        Stop::Full => {
+            write_last(out, b"refused: trace\n");
+            LIMIT
+        }
+        Stop::LogFull => {
+            write_last(out, b"refused: log\n");
+            LIMIT
+        }
+    }
+}
+
+/// Does the script of the source in this fresh store, line by line, and answers the status. The journal is handed back.
+fn replay_in<R: Source, W: Sink, D: Disk>(
+    alloc: Global,
+    store: Store<D>,
+    script: &mut R,
+    out: &mut W,
+) -> (u8, LoggedJournal<SLOTS, D>)
+    requires fresh { IsFreshStore store }
+    ensures { Replayed D.may_leave script.old script.new
+        (outside (R.left script.old) (R.faults script.old) (W.written out.old) (W.faults out.old) (D.faults store.disk))
+        (outside (R.left script.new) (R.faults script.new) (W.written out.new) (W.faults out.new) (D.faults result.1.disk))
+        result.0 (Some result.1) }
+{
+    let mut store = store;
+    let replayed = replay(&mut store, script, out);
+    // The history is legal and the journal is sound: this call hands the facts out.
+    let _ = store.history();
+    match replayed {
+        Ok(()) => {
+            let status = end(alloc, &store, out);
+            (status, store.into_logged())
+        }
+        Err(stop) => {
+            let status = end_stopped(out, stop);
+            (status, store.into_logged())
+        }
+    }
+}
+
+/// Makes the disk anew as a fresh store, does the script of the source in it, line by line, and answers the status. The
+/// journal is handed back, but where the disk fails while the store is made, or where there is no memory for a journal.
+pub(crate) fn replay_script<R: Source, W: Sink, D: Disk>(
+    alloc: Global,
+    script: &mut R,
+    out: &mut W,
+    disk: D,
+) -> (u8, Ended<D>)
+    ensures replayed { Replayed D.may_leave script.old script.new
+        (outside (R.left script.old) (R.faults script.old) (W.written out.old) (W.faults out.old) (D.faults disk))
+        (outside (R.left script.new) (R.faults script.new) (W.written out.new) (W.faults out.new) (D.faults (disk_in result.1)))
+        result.0 (kept_in result.1) }
+    ensures shut { IfSome (shut_in result.1) (λ d. EachImage D.may_leave d (IsMaking D.may_leave disk PAGES)) }
+{
+    let mut disk = disk;
+    if init(&mut disk, PAGES).is_err() {
+        write_last(out, b"refused: disk\n");
+        return (DISK_FAULT, Ended::Shut(disk));
+    }
+    match Store::fresh(alloc, disk) {
+        Ok(store) => {
+            let (status, journal) = replay_in(alloc, store, script, out);
+            (status, Ended::Kept(journal))
+        }
+        Err((_, disk)) => {
+            write_last(out, b"refused: memory\n");
+            (OUT_OF_MEMORY, Ended::Shut(disk))
         }
     }
 }

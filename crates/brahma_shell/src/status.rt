@@ -15,8 +15,11 @@ pub(crate) const READ_FAULT: u8 = 4;
 /// The sink failed.
 pub(crate) const WRITE_FAULT: u8 = 5;
 
+/// The disk failed.
+pub(crate) const DISK_FAULT: u8 = 6;
+
 /// Out of memory.
 pub(crate) const OUT_OF_MEMORY: u8 = 8;
 
-/// The history is full.
+/// The history is full, or the log.
 pub(crate) const LIMIT: u8 = 9;

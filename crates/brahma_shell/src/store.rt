@@ -1,24 +1,32 @@
-//! The store of a replay: a journal with all its frames.
+//! The store of a replay: a journal with its log on a disk, and all its frames.
 
-ghost use Rattle.std.specs.Prelude.{◌≡◌, ◌<◌, ◌≤◌, ◌*◌, ℕ, [], ◌∷◌, true, false, Bool, IfOk, IsSome, is_some, None};
+ghost use Rattle.std.specs.Prelude.{◌≡◌, ◌<◌, ◌≤◌, ◌*◌, ℕ, [], ◌∷◌, true, false, Bool, IfOk, IfErr, IsErrOf, IsSome, is_some, None};
 ghost use Rattle.plain_model.specs.Machine.{IsInRange, transaction_of};
 ghost use Rattle.plain_model.specs.History.{IsLegal, end_of, is_stopped, left_to_undo};
 ghost use Rattle.plain_laws.specs.Serializable.{IsSerializable};
+ghost use Rattle.disk_model.specs.Told.{EachImage};
 ghost use Rattle.store_model.specs.Sound.{IsSound};
+ghost use Rattle.restart_store.specs.Fresh.{HasFreshLog};
 ghost use Rattle.core_store.specs.JournalView.{core_of, opening_of};
 ghost use Rattle.core_store.specs.Leads.{AreLed};
 ghost use Rattle.cell_model.specs.Graph.{graph_of};
 ghost use Rattle.core_store.specs.Fresh.{fresh_history};
 ghost use Rattle.core_store.specs.Limited.{WasFull};
+ghost use Rattle.core_store.specs.Safe.{IsDurable};
 ghost use Rattle.core_store.specs.Steppings.{IsEntered, IsEvent, pops};
+ghost use Rattle.logged_journal.specs.Calls.{IsOfJournal};
+ghost use Rattle.logged_journal.specs.Records.{MayBeLeft, durable_notes};
 ghost use Rattle.script_lines.specs.Grammar.{IsClient};
 ghost use Rattle.brahma_shell.specs.Points.{point_of, entries_in, MayRest, IsExactAt};
 ghost use Rattle.brahma_shell.specs.Growth.{GrowsBy, GrowsByEvent, BecomesFull};
+ghost use Rattle.brahma_shell.specs.Log.{GoesOn, FillsLog, LosesCommit, WasLogFull};
 ghost use Rattle.brahma_shell.specs.Rest.{StaysQuiet};
 
 use cell_page::CELLS_OF_PAGE;
-use core_store::{AbortStep, Collect, Journal, Limits, Note};
+use core_store::{AbortStep, Collect, Limits, Note};
+use disk_model::Disk;
 use framed_journal::FramedJournal;
+use logged_journal::{CollectRefusal, LoggedJournal, Stopped};
 use plain_model::{Call, Entry, Ids, Memory, Reply};
 use std::alloc::Global;
 use std::marker::Model;
@@ -27,116 +35,140 @@ use std::marker::Model;
 pub const SLOTS: usize = 6;
 
 /// How many pages the store of a replay has.
-const PAGES: u16 = 1;
+pub(crate) const PAGES: u16 = 1;
 
-/// A journal with all its frames, whose calls are told in the words of a script.
+/// A journal with its log and all its frames, whose calls are told in the words of a script.
 #[derive(Drop)]
-pub(crate) struct Store {
-    journal: FramedJournal<SLOTS>,
+pub(crate) struct Store<D: Disk> {
+    framed: FramedJournal<SLOTS, D>,
 }
 
-/// Contracts see the journal.
-impl Model for Store {
-    ghost use Rattle.core_store.specs.JournalView.{JournalView};
+/// Contracts see the journal and its log.
+impl<D: Disk> Model for Store<D> {
+    ghost use Rattle.logged_journal.specs.View.{LoggedView};
 
-    ghost Value = { JournalView };
+    ghost Value = { LoggedView D };
 
-    ghost view = { λ s. s.journal };
+    ghost view = { λ s. s.framed };
 }
 
-impl Store {
-    /// The fresh store: the root alone.
-    pub(crate) fn fresh(alloc: Global) -> Result<Store, Memory>
-        ensures history { IfOk result (λ s. (s.history ≡ fresh_history 6 (8 * PAGES)) × (s.notes ≡ [])) }
-        ensures limits { IfOk result (λ s. s.limits ≡ record { trace = 1048576; log = 1071644672 }) }
-        ensures unmarked { IfOk result (λ s. s.marks.trace ≡ false) }
+impl<D: Disk> Store<D> {
+    /// The fresh store, on a disk that was made anew as one: the root alone. Where there is no memory the disk is handed
+    /// back.
+    pub(crate) fn fresh(alloc: Global, disk: D) -> Result<Store<D>, (Memory, D)>
+        requires log { HasFreshLog D.may_leave 6 PAGES disk }
+        ensures history { IfOk result (λ s. (s.journal.history ≡ fresh_history 6 (8 * PAGES)) × (s.journal.notes ≡ [])) }
+        ensures limits { IfOk result (λ s. s.journal.limits ≡ record { trace = 1048576; log = 1071644672 }) }
+        ensures unmarked { IfOk result (λ s. (s.journal.marks.trace ≡ false) × (s.log_full ≡ false)) }
+        ensures running { IfOk result (λ s. s.failed ≡ None) }
+        ensures disk { IfOk result (λ s. s.disk ≡ disk) }
+        ensures back { IfErr result (λ e. e.1 ≡ disk) }
     {
-        let journal = FramedJournal::fresh(alloc, PAGES, Limits::GREATEST)?;
-        Ok(Store { journal })
+        let framed = FramedJournal::fresh(alloc, disk, PAGES, Limits::GREATEST)?;
+        Ok(Store { framed })
     }
 
     /// What happened so far, and what each of its events logged.
     pub(crate) fn history(&self) -> &[Note]
-        ensures legal { IsLegal self.now.history }
-        ensures running { is_stopped (end_of self.now.history) ≡ false }
-        ensures serializable { IsSerializable self.now.history }
-        ensures opening { graph_of self.now.opening ≡ self.now.history.opening }
-        ensures entries { entries_in self.now.notes ≡ self.now.history.entries }
-        ensures sound { IsSound (core_of self.now) }
-        ensures led { AreLed 6 (opening_of self.now) self.now.notes (core_of self.now) }
-        ensures full { self.now.marks.trace ≡ true → WasFull self.now }
+        ensures legal { IsLegal self.now.journal.history }
+        ensures running { is_stopped (end_of self.now.journal.history) ≡ false }
+        ensures serializable { IsSerializable self.now.journal.history }
+        ensures opening { graph_of self.now.journal.opening ≡ self.now.journal.history.opening }
+        ensures entries { entries_in self.now.journal.notes ≡ self.now.journal.history.entries }
+        ensures sound { IsSound (core_of self.now.journal) }
+        ensures led { AreLed 6 (opening_of self.now.journal) self.now.journal.notes (core_of self.now.journal) }
+        ensures full { self.now.journal.marks.trace ≡ true → WasFull self.now.journal }
+        ensures log_full { self.now.log_full ≡ true → WasLogFull self.now }
+        ensures lasting { IsDurable self.now.journal (durable_notes self.now) }
+        ensures images { EachImage D.may_leave self.now.disk (MayBeLeft self.now) }
     {
-        // What the marks mean, and what the opening's cells are: these calls hand the facts out.
-        let _ = self.journal.marks();
-        let _ = self.journal.opening();
-        self.journal.history()
+        let logged = self.framed.logged();
+        let journal = logged.journal();
+        // What the marks mean, what a power loss may leave, and what the opening's cells are: these calls hand the facts out.
+        let _ = logged.marks();
+        let _ = logged.durable();
+        let _ = journal.marks();
+        let _ = journal.opening();
+        journal.history()
     }
 
     /// Does the call.
     pub(crate) fn call(&mut self, client: u8, call: &Call) -> Reply
         requires client { IsClient client }
         requires in_range { IsInRange 6 call.now }
-        requires no_abort { call.now ≡ Call.Abort → transaction_of (end_of self.old.history).state client ≡ None }
-        ensures memory { result ≡ Reply.Memory → GrowsBy self.old self.new [] }
-        ensures full { result ≡ Reply.TraceFull → BecomesFull self.old self.new }
-        ensures entry { IsEntered result → GrowsBy self.old self.new (Entry.Call client call.now result ∷ []) }
+        requires no_abort { call.now ≡ Call.Abort → transaction_of (end_of self.old.journal.history).state client ≡ None }
+        requires running { self.old.failed ≡ None }
+        ensures memory { result ≡ Reply.Memory → GrowsBy self.old.journal self.new.journal [] }
+        ensures full { result ≡ Reply.TraceFull → BecomesFull self.old.journal self.new.journal }
+        ensures entry { IsOfJournal result → IsEntered result → GrowsBy self.old.journal self.new.journal (Entry.Call client call.now result ∷ []) }
+        ensures goes_on { IsOfJournal result → GoesOn D.faults self.old self.new }
+        ensures log_full { result ≡ Reply.LogFull → GrowsBy self.old.journal self.new.journal [] × FillsLog D.faults self.old self.new }
+        ensures fault { result ≡ Reply.DiskFault → (call.now ≡ Call.Commit) × (self.new.journal ≡ self.old.journal) × LosesCommit D.faults client self.old self.new }
+        ensures stopped { (faults : ℕ) → result ≡ Reply.Stopped faults → ⊥ }
     {
-        self.journal.call(client, call)
+        self.framed.call(client, call)
     }
 
     /// Does one step of the client's abort.
-    pub(crate) fn abort_step(&mut self, client: u8) -> AbortStep
-        requires { IsSome (transaction_of (end_of self.old.history).state client) }
-        ensures undone { result ≡ AbortStep.Undone → (0 < left_to_undo (end_of self.old.history) client) × GrowsBy self.old self.new (Entry.Undo client ∷ []) }
-        ensures ended { result ≡ AbortStep.Ended → (left_to_undo (end_of self.old.history) client ≡ 0) × GrowsBy self.old self.new (Entry.Call client Call.Abort Reply.Done ∷ []) }
+    pub(crate) fn abort_step(&mut self, client: u8) -> Result<AbortStep, Stopped>
+        requires active { IsSome (transaction_of (end_of self.old.journal.history).state client) }
+        requires running { self.old.failed ≡ None }
+        ensures undone { IfOk result (λ step. step ≡ AbortStep.Undone → (0 < left_to_undo (end_of self.old.journal.history) client) × GrowsBy self.old.journal self.new.journal (Entry.Undo client ∷ [])) }
+        ensures ended { IfOk result (λ step. step ≡ AbortStep.Ended → (left_to_undo (end_of self.old.journal.history) client ≡ 0) × GrowsBy self.old.journal self.new.journal (Entry.Call client Call.Abort Reply.Done ∷ [])) }
+        ensures goes_on { GoesOn D.faults self.old self.new }
+        ensures stopped { IfErr result (λ _. ⊥) }
     {
-        self.journal.abort_step(client)
+        self.framed.abort_step(client)
     }
 
     /// Makes one step of the collector.
-    pub(crate) fn collect_step(&mut self) -> Collect
-        ensures idle { result ≡ Collect.Idle → GrowsBy self.old self.new [] × MayRest (point_of self.old) }
-        ensures full { result ≡ Collect.TraceFull → BecomesFull self.old self.new }
-        ensures memory { result ≡ Collect.Memory → GrowsBy self.old self.new [] }
-        ensures did { (popped : Bool) (left : ℕ) → result ≡ Collect.Did popped left → GrowsByEvent self.old self.new popped left Entry.Hidden }
-        ensures deleted { (id left : ℕ) → result ≡ Collect.Deleted id left → GrowsByEvent self.old self.new false left (Entry.Delete id) }
-        ensures exact { result ≡ Collect.Idle → (point_of self.old).moment.state.active ≡ [] → IsExactAt (point_of self.old) }
-        ensures quiet { IsEvent result → (point_of self.old).moment.state.active ≡ [] → StaysQuiet self.old self.new (pops result) }
+    pub(crate) fn collect_step(&mut self) -> Result<Collect, CollectRefusal>
+        requires running { self.old.failed ≡ None }
+        ensures idle { IfOk result (λ step. step ≡ Collect.Idle → GrowsBy self.old.journal self.new.journal [] × MayRest (point_of self.old.journal)) }
+        ensures full { IfOk result (λ step. step ≡ Collect.TraceFull → BecomesFull self.old.journal self.new.journal) }
+        ensures memory { IfOk result (λ step. step ≡ Collect.Memory → GrowsBy self.old.journal self.new.journal []) }
+        ensures did { IfOk result (λ step. (popped : Bool) (left : ℕ) → step ≡ Collect.Did popped left → GrowsByEvent self.old.journal self.new.journal popped left Entry.Hidden) }
+        ensures deleted { IfOk result (λ step. (id left : ℕ) → step ≡ Collect.Deleted id left → GrowsByEvent self.old.journal self.new.journal false left (Entry.Delete id)) }
+        ensures exact { IfOk result (λ step. step ≡ Collect.Idle → (point_of self.old.journal).moment.state.active ≡ [] → IsExactAt (point_of self.old.journal)) }
+        ensures quiet { IfOk result (λ step. IsEvent step → (point_of self.old.journal).moment.state.active ≡ [] → StaysQuiet self.old.journal self.new.journal (pops step)) }
+        ensures goes_on { IfOk result (λ _. GoesOn D.faults self.old self.new) }
+        ensures log_full { IsErrOf result CollectRefusal.LogFull → GrowsBy self.old.journal self.new.journal [] × FillsLog D.faults self.old self.new }
+        ensures stopped { (faults : ℕ) → IsErrOf result (CollectRefusal.Stopped faults) → ⊥ }
     {
         // The journal is sound, and what its notes say: these calls hand the facts out.
-        let _ = self.journal.history();
-        let step = self.journal.collect_step();
-        let _ = self.journal.history();
+        let _ = self.framed.logged().journal().history();
+        let step = self.framed.collect_step();
+        let _ = self.framed.logged().journal().history();
         step
     }
 
     /// How many ids the store has.
     pub(crate) fn ids(&self) -> u32
-        ensures value { result ≡ self.now.history.ids }
+        ensures value { result ≡ self.now.journal.history.ids }
         ensures some { 1 ≤ result }
     {
-        CELLS_OF_PAGE as u32 * self.journal.frames().len() as u32
+        CELLS_OF_PAGE as u32 * self.framed.frames().len() as u32
     }
 
     /// Whether the client has a transaction.
     pub(crate) fn active(&self, client: u8) -> bool
-        ensures value { result ≡ is_some (transaction_of (end_of self.now.history).state client) }
-        ensures entries { entries_in self.now.notes ≡ self.now.history.entries }
+        ensures value { result ≡ is_some (transaction_of (end_of self.now.journal.history).state client) }
+        ensures entries { entries_in self.now.journal.notes ≡ self.now.journal.history.entries }
     {
-        self.journal.active(client)
+        self.framed.logged().journal().active(client)
     }
 
     /// The stored ids, ascending.
     pub(crate) fn stored(&self) -> Result<Ids, Memory>
-        ensures { IfOk result (λ ids. ids ≡ (end_of self.now.history).state.stored) }
+        ensures { IfOk result (λ ids. ids ≡ (end_of self.now.journal.history).state.stored) }
     {
-        self.journal.stored()
+        self.framed.logged().journal().stored()
     }
 
-    /// The journal.
-    pub(crate) fn into_journal(self) -> Journal<SLOTS>
+    /// The journal with its log.
+    pub(crate) fn into_logged(self) -> LoggedJournal<SLOTS, D>
         ensures { result ≡ self }
     {
-        self.journal.into_journal()
+        self.framed.into_logged()
     }
 }

@@ -3,7 +3,7 @@
 /// Which answers the calls on a journal gave. None is taken back.
 #[derive(Clone, Copy, PartialEq, Eq, Debug)]
 pub struct Marks {
-    /// A call failed since the disk had failed. A journal alone has no disk, and never sets it.
+    /// The disk failed a commit. A journal alone has no disk, and never sets it.
     pub disk: bool,
     /// A call was answered that the history is full.
     pub trace: bool,

@@ -3,14 +3,10 @@ use Rattle.std.proofs.Common.{◌≡◌, ◌≢◌, ⊎_elim, ℕ, ◌-◌, ◌*
 use Rattle.std.specs.List.{AllByRecursion}
 use Rattle.std.proofs.lemmas.Option.{slice_get-get_or}
 use Rattle.plain_model.specs.declared.calls.Entry.{Entry}
-use Rattle.plain_model.specs.declared.calls.Reply.{Reply}
-use Rattle.plain_model.specs.declared.calls.Reply.TheVariants.{Memory, TraceFull}
 use Rattle.plain_model.specs.History.{History, with_entry}
 use Rattle.cell_model.specs.Cells.{Cell}
 use Rattle.cell_page.specs.Format.{IsSlotCount}
 use Rattle.cell_page.specs.Stored.{HoldsPage}
-use Rattle.core_store.specs.declared.abort_step.AbortStep.{AbortStep}
-use Rattle.core_store.specs.declared.abort_step.AbortStep.TheVariants.{Undone, Ended}
 use Rattle.core_store.specs.declared.frame.Frame.{Frame}
 use Rattle.core_store.specs.declared.three.HeldFrame.{HeldFrame}
 use Rattle.core_store.specs.declared.want.Want.{Want}
@@ -18,7 +14,6 @@ use Rattle.core_store.specs.declared.want.Want.TheVariants.{Page, LetGo, Ready}
 use Rattle.core_store.specs.JournalView.{JournalView, cells_of}
 use Rattle.core_store.specs.Frames.{pages_held, Agree, AllAgree, IsSameElsewhere}
 use Rattle.core_store.specs.Logged.{want_of}
-use Rattle.core_store.specs.Steppings.{IsEntered}
 use Rattle.core_store.proofs.PageLaws.{Agree-put, elsewhere-pages}
 use Rattle.framed_journal.specs.Holding.{AreFramesOf, AreHeldOf, FollowsChange}
 
@@ -106,14 +101,3 @@ AreFramesOf-changed j k frames new held changed all size agree same elsewhere fo
   agree = follows (cells_of j) (cells_of k) all.agree agree (elsewhere-pages (cells_of j) (cells_of k) held changed (sym same) elsewhere);
   size = (size.slots ∙ all.size.0, all.size.1);
 }
-
--- a call that is answered adds one entry, and else no entry
-pub size-after_call : (j k : JournalView) (reply : Reply) (entry : Entry) → (reply ≡ Memory → k ≡ j) → (reply ≡ TraceFull → k ≡ record j { marks = record j.marks { trace = true } }) → (IsEntered reply → k.history ≡ with_entry j.history entry) → IsSameSize j k
-size-after_call j k Memory entry same full more = size-kept j k (same refl)
-size-after_call j k TraceFull entry same full more = size-marked j k (full refl)
-size-after_call j k other entry same full more = size-more j k entry (more (λ e. absurd cc, λ e. absurd cc))
-
--- a step of an abort adds one entry
-pub size-after_step : (j k : JournalView) (step : AbortStep) (undo end : Entry) → (step ≡ Undone → k.history ≡ with_entry j.history undo) → (step ≡ Ended → k.history ≡ with_entry j.history end) → IsSameSize j k
-size-after_step j k Undone undo end undone ended = size-more j k undo (undone refl)
-size-after_step j k Ended undo end undone ended = size-more j k end (ended refl)

@@ -3,3 +3,5 @@ pub mod HoldLaws
 pub mod LookLaws
 pub mod CollectLaws
 pub mod UndoLaws
+pub mod SizeLaws
+pub mod StopLaws

@@ -5,13 +5,14 @@ use Rattle.store_model.specs.Core.{Core}
 use Rattle.core_store.specs.declared.frame.Frame.{Frame}
 use Rattle.core_store.specs.declared.three.HeldFrame.{HeldFrame}
 use Rattle.core_store.specs.declared.want.Want.TheVariants.{LetGo}
-use Rattle.core_store.specs.JournalView.{JournalView, cells_of, core_of}
+use Rattle.core_store.specs.JournalView.{JournalView, cells_of}
 use Rattle.core_store.specs.Frames.{pages_held}
 use Rattle.core_store.specs.Limited.{pages_for_collector}
 use Rattle.core_store.specs.Logged.{want_of}
 use Rattle.core_store.specs.RoundView.{RoundView, Passes, none, more, left_of}
 use Rattle.framed_journal.specs.Holding.{AreFramesOf, AreHeldOf}
 use Rattle.core_store.specs.Steppings.{OnlyLooks}
+use Rattle.logged_journal.specs.View.{LoggedView}
 use Rattle.framed_journal.proofs.HoldLaws.{less_room}
 
 -- what was held is held still
@@ -29,12 +30,16 @@ looks-behind slots cells p (more x q e) = more x (looks-behind slots cells p q) 
 pub OnlyLooks-none : (slots : ℕ) (j : JournalView) → OnlyLooks slots j j
 OnlyLooks-none slots j = record { passes = none; same = refl; core = refl }
 
-pub OnlyLooks-more : (slots : ℕ) (i j k : JournalView) → OnlyLooks slots i j → Passes slots (cells_of j) j.round k.round → k ≡ record j { round = k.round } → core_of k ≡ core_of j → OnlyLooks slots i k
-OnlyLooks-more slots i j k before passes same core = record {
-  passes = looks-behind slots (cells_of i) before.passes (subst (λ (cells : List Cell). Passes slots cells j.round k.round) (ap (λ (x : Core). x.cells) before.core) passes);
-  same = same ∙ ap (λ (x : JournalView). let y : JournalView = record x { round = k.round } in y) before.same;
-  core = core ∙ before.core;
+pub OnlyLooks-more : (slots : ℕ) (i j k : JournalView) → OnlyLooks slots i j → OnlyLooks slots j k → OnlyLooks slots i k
+OnlyLooks-more slots i j k before l = record {
+  passes = looks-behind slots (cells_of i) before.passes (subst (λ (cells : List Cell). Passes slots cells j.round k.round) (ap (λ (x : Core). x.cells) before.core) l.passes);
+  same = l.same ∙ ap (λ (x : JournalView). let y : JournalView = record x { round = k.round } in y) before.same;
+  core = l.core ∙ before.core;
 }
+
+-- and of a journal with its log nothing but the journal changes
+pub SameLog-more : {D : Type 0} (u v w : LoggedView D) → v ≡ record u { journal = v.journal } → w ≡ record v { journal = w.journal } → w ≡ record u { journal = w.journal }
+SameLog-more {D} u v w before e = e ∙ ap (λ (x : LoggedView D). let y : LoggedView D = record x { journal = w.journal } in y) before
 
 looked_nothing : (j k : JournalView) → k ≡ record j { round = k.round } → k.round ≡ j.round → k ≡ j
 looked_nothing j k e same = e ∙ ap (λ (r : RoundView). let x : JournalView = record j { round = r } in x) same

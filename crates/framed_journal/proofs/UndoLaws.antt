@@ -13,7 +13,35 @@ use Rattle.plain_model.specs.Machine.{State, transaction_of}
 use Rattle.plain_model.specs.History.{History, Moment, next, with_entry, end_of, after_undo, undoable, left_to_undo}
 use Rattle.plain_model.proofs.HistoryLemmas.{end_of-with_entry}
 use Rattle.core_store.specs.JournalView.{JournalView}
-use Rattle.framed_journal.specs.Steps.{UndoesOne, EndsAbort, Undoes, undone_none, undone_more, UndoesAll, with_undos}
+use Rattle.core_store.specs.declared.abort_step.AbortStep.{AbortStep}
+use Rattle.core_store.specs.declared.abort_step.AbortStep.TheVariants.{Undone, Ended}
+use Rattle.logged_journal.specs.Calls.{DoesAbortStep}
+use Rattle.framed_journal.specs.Steps.{HasSameStart, UndoesOne, EndsAbort, Undoes, undone_none, undone_more, UndoesAll, with_undos}
+
+-- ---- a step is an undo or the end
+
+same-start : (slots client : ℕ) (j k : JournalView) (step : AbortStep) → DoesAbortStep slots j k client step → HasSameStart j k
+same-start slots client j k step does = record { opening = does.opening.0; limits = does.opening.1; marks = does.opening.2 }
+
+pub undoes-one : (slots client : ℕ) (j k : JournalView) → DoesAbortStep slots j k client Undone → UndoesOne slots client j k
+undoes-one slots client j k does = record {
+  some = (does.undone refl).0;
+  entry = (does.undone refl).1;
+  noted = does.noted_undo refl;
+  collector = does.collector_undo refl;
+  cursor = does.cursor_undo refl;
+  start = same-start slots client j k Undone does;
+}
+
+pub ends-abort : (slots client : ℕ) (j k : JournalView) → DoesAbortStep slots j k client Ended → EndsAbort slots client j k
+ends-abort slots client j k does = record {
+  none = (does.ended refl).0;
+  entry = (does.ended refl).1;
+  noted = does.noted_end refl;
+  collector = does.collector_end refl;
+  cursor = does.cursor_end refl;
+  start = same-start slots client j k Ended does;
+}
 
 -- ---- the client's transaction goes on, with one write less to undo
 

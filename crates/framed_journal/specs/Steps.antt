@@ -1,5 +1,5 @@
 -- The collector's looks with the event behind them, and all steps of an abort.
-use Rattle.std.specs.Prelude.{◌≡◌, ℕ, suc, ◌<◌, ◌++◌, true, Option, Some, option_map, replicate}
+use Rattle.std.specs.Prelude.{◌≡◌, ◌↔◌, ℕ, suc, ◌<◌, ◌++◌, [], true, false, Option, Some, option_map, replicate}
 use Rattle.plain_model.specs.declared.calls.Call.TheVariants.{Abort}
 use Rattle.plain_model.specs.declared.calls.Reply.TheVariants.{Done}
 use Rattle.plain_model.specs.declared.calls.Entry.TheVariants.{Call, Undo}
@@ -8,12 +8,17 @@ use Rattle.log_record.specs.declared.cell_record.CellRecord.{CellRecord}
 use Rattle.log_record.specs.declared.cell_record.CellRecord.TheVariants.{AbortEnd}
 use Rattle.core_store.specs.declared.act.Act.TheVariants.{Other}
 use Rattle.core_store.specs.declared.collect.Collect.{Collect}
+use Rattle.core_store.specs.declared.collect.Collect.TheVariants as collect
 use Rattle.core_store.specs.Events.{after_event}
-use Rattle.core_store.specs.JournalView.{JournalView, cells_of, core_of, with_note}
+use Rattle.core_store.specs.JournalView.{JournalView, cells_of, core_of, last_left, with_note}
+use Rattle.core_store.specs.Limited.{is_past_limit}
 use Rattle.core_store.specs.Logged.{logged_by_undo}
 use Rattle.core_store.specs.Replaced.{next_to_restore}
-use Rattle.core_store.specs.RoundView.{left_of, touched_by_record}
-use Rattle.core_store.specs.Steppings.{MakesEvent, OnlyLooks}
+use Rattle.core_store.specs.RoundView.{Closed, asked, is_event, left_of, touched_by_record}
+use Rattle.core_store.specs.Steppings.{IsEvent, MakesEvent, OnlyLooks, left_told, pops}
+use Rattle.logged_journal.specs.View.{LoggedView}
+use Rattle.logged_journal.specs.Calls.{IsPastLogToCollect, DoesCollect}
+use Rattle.plain_model.specs.Outcomes.{IsReachableInSomeOutcome}
 
 -- ---- the collector
 
@@ -28,6 +33,34 @@ pub record MarksFull (slots : ℕ) (old new : JournalView) : Type 0 where
   pub looked : JournalView
   pub looks : OnlyLooks slots old looked
   pub marked : new ≡ record looked { marks = record looked.marks { trace = true } }
+
+-- a step of the collector, which looks at slots until there is something to do
+pub record CollectsOnFrames (slots : ℕ) (old new : JournalView) (result : Collect) : Type 0 where
+  pub full : (result ≡ collect.TraceFull) ↔ (is_past_limit old 1 ≡ true)
+  pub marked : result ≡ collect.TraceFull → MarksFull slots old new
+  pub idle : (result ≡ collect.Idle) ↔ (is_past_limit old 1 ≡ false) × (old.queue ≡ []) × (old.round ≡ Closed)
+  pub unchanged : result ≡ collect.Idle → new ≡ old
+  pub memory : result ≡ collect.Memory → OnlyLooks slots old new
+  pub event : IsEvent result → MakesNextEvent slots old new result
+  pub safe : (id left : ℕ) → result ≡ collect.Deleted id left → IsReachableInSomeOutcome (end_of old.history).state id → ⊥
+  pub lower : (left : ℕ) → left_told result ≡ Some left → (left ≡ left_of slots new.round) × (pops result ≡ false → left < last_left old.notes)
+  pub opening : (new.opening ≡ old.opening) × (new.limits ≡ old.limits)
+
+-- The collector looked on as far as this journal, and there made the step that a journal makes without a log. An event's record
+-- doesn't go past the log's limit.
+pub record CollectsNext {D : Type 0} (slots : ℕ) (old new : LoggedView D) (result : Collect) : Type 0 where
+  pub looked : JournalView
+  pub looks : OnlyLooks slots old.journal looked
+  pub within : IsPastLogToCollect (record old { journal = looked }) → ⊥
+  pub step : DoesCollect slots looked new.journal result
+
+-- the collector looked on as far as this journal, and there told that the log is full: an event comes next, and its record would go past the log's limit
+pub record FillsLog {D : Type 0} (slots : ℕ) (old new : LoggedView D) : Type 0 where
+  pub looked : JournalView
+  pub looks : OnlyLooks slots old.journal looked
+  pub event : is_event (cells_of looked) (asked looked.round) ≡ true
+  pub past : IsPastLogToCollect (record old { journal = looked })
+  pub marked : new ≡ record old { journal = looked; log_full = true }
 
 -- ---- an abort
 

@@ -12,6 +12,8 @@ ghost use Rattle.core_store.specs.Steppings.{IsReadyForCollector, OnlyLooks};
 ghost use Rattle.framed_journal.specs.Holding.{AreFramesOf, AreHeldOf, FollowsChange};
 
 use core_store::{Frame, Journal, Three, Want};
+use disk_model::Disk;
+use logged_journal::LoggedJournal;
 use plain_model::Call;
 
 /// Holds the frames that the call needs.
@@ -54,19 +56,20 @@ pub(crate) fn hold_for_abort_step<const SLOTS: usize>(
 
 /// Holds the frames that the collector's next event needs. The collector looks at what they show, and goes on where there
 /// is nothing to do.
-pub(crate) fn hold_for_collect_step<const SLOTS: usize>(
-    journal: &mut Journal<SLOTS>,
+pub(crate) fn hold_for_collect_step<const SLOTS: usize, D: Disk>(
+    logged: &mut LoggedJournal<SLOTS, D>,
     frames: &[Frame<SLOTS>],
     held: &mut Three<SLOTS>,
 )
-    requires frames { AreFramesOf journal.old frames.now }
+    requires frames { AreFramesOf logged.old.journal frames.now }
     requires none { held.old ≡ [] }
-    ensures held { AreHeldOf journal.new held.new }
-    ensures ready { IsReadyForCollector journal.new held.new }
-    ensures looks { OnlyLooks SLOTS journal.old journal.new }
+    ensures held { AreHeldOf logged.new.journal held.new }
+    ensures ready { IsReadyForCollector logged.new.journal held.new }
+    ensures same { logged.new ≡ record logged.old { journal = logged.new.journal } }
+    ensures looks { OnlyLooks SLOTS logged.old.journal logged.new.journal }
 {
     'pages: loop {
-        match journal.wants_collect_step(held) {
+        match logged.wants_collect_step(held) {
             Want::Page(page) => held.put(page, frames[page as usize]),
             Want::LetGo => held.clear(),
             Want::Ready => return,

@@ -1,5 +1,5 @@
-//! A journal with all its frames, on one thread: the frames that a call wants are held, the call is made on them, and
-//! they are put back.
+//! A journal with its log and all its frames, on one thread: the frames that a call wants are held, the call is made on
+//! them, and they are put back.
 #![tactic(auto)]
 
 mod framed;

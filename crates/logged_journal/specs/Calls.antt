@@ -77,7 +77,7 @@ pub record GoesOn {D : Type 0} (old new : LoggedView D) : Type 0 where
   pub log_full : new.log_full ≡ old.log_full
   pub peak : new.peak ≡ max old.peak (bytes_counted new)
 
--- the disk failed the commit: nothing is known but that its transaction has ended, and no event comes behind it
+-- the disk failed a commit that is granted: the journal stays as it is, and is stopped with the disk's count of faults, which rose
 pub record FailsCommit {D : Type 0} (faults : D → ℕ) (old new : LoggedView D) (pass : ℕ) (c : TransactionCall) : Type 0 where
   pub commit : c ≡ call.Commit
   pub granted : IsGranted old.journal pass call.Commit

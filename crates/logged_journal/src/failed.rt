@@ -3,7 +3,7 @@
 /// A commit whose records could not be made to last. The store is stopped by it, and has to be opened again.
 #[derive(Clone, Copy, PartialEq, Eq, Debug)]
 pub struct FailedCommit {
-    /// The client, by its number from 1 to 64. Its transaction has ended, and a power loss may lose or keep it.
+    /// The client, by its number from 1 to 64. A power loss may lose its commit or keep it.
     pub pass: u8,
     /// The disk's count of faults just behind the failed call.
     pub faults: u64,

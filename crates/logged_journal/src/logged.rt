@@ -29,7 +29,7 @@ use disk_model::Disk;
 use gate_log::GateLog;
 use log_record::CellRecord;
 use plain_model::{Call, Memory, Reply};
-use std::alloc::Global;
+use std::alloc::{AllocError, AllocFailed, Global};
 use std::marker::Model;
 
 /// How many bytes the longest record of single cells takes.
@@ -43,7 +43,8 @@ const LONGEST_RECORD: usize = 25;
 #[derive(Drop)]
 pub struct LoggedJournal<const SLOTS: usize, D: Disk> {
     journal: Journal<SLOTS>,
-    disk: D,
+    /// In a place of its own, so that the size of a journal does not hang on that of its disk.
+    disk: Box<D>,
     log: GateLog,
     /// The records of so many first notes are there for good.
     durable: usize,
@@ -64,7 +65,7 @@ impl<const SLOTS: usize, D: Disk> Model for LoggedJournal<SLOTS, D> {
     ghost view = { λ s. record {
       journal = s.journal;
       log = s.log;
-      disk = s.disk;
+      disk = s.disk.value;
       durable = s.durable;
       failed = s.failed;
       log_full = s.log_full;
@@ -74,7 +75,7 @@ impl<const SLOTS: usize, D: Disk> Model for LoggedJournal<SLOTS, D> {
     ghost invariant = { λ s. IsLoggedInside D.may_leave SLOTS (record {
       journal = s.journal;
       log = s.log;
-      disk = s.disk;
+      disk = s.disk.value;
       durable = s.durable;
       failed = s.failed;
       log_full = s.log_full;
@@ -110,6 +111,10 @@ impl<const SLOTS: usize, D: Disk> LoggedJournal<SLOTS, D> {
         if let Err(memory) = spelling.reserve(LONGEST_RECORD) {
             return Err((memory, disk));
         }
+        let disk = match Box::new(alloc, disk) {
+            Ok(disk) => disk,
+            Err(AllocFailed { value }) => return Err((AllocError, value)),
+        };
         match Journal::fresh(alloc, pages, limits) {
             Ok((journal, frames)) => {
                 let durable = journal.history().len();
@@ -125,7 +130,7 @@ impl<const SLOTS: usize, D: Disk> LoggedJournal<SLOTS, D> {
                 };
                 Ok((logged, frames))
             }
-            Err(memory) => Err((memory, disk)),
+            Err(memory) => Err((memory, Box::into_inner(disk))),
         }
     }
 
@@ -140,7 +145,7 @@ impl<const SLOTS: usize, D: Disk> LoggedJournal<SLOTS, D> {
     pub fn disk(&self) -> &D
         ensures disk { result.now ≡ self.now.disk }
     {
-        &self.disk
+        self.disk.as_ref()
     }
 
     /// The records of so many first notes are there for good.
@@ -281,7 +286,7 @@ impl<const SLOTS: usize, D: Disk> LoggedJournal<SLOTS, D> {
             &mut self.spelling,
             CellRecord::Commit { pass },
         );
-        if self.log.force(&mut self.disk).is_err() {
+        if self.log.force(self.disk.as_mut()).is_err() {
             self.failed = Some(FailedCommit {
                 pass,
                 faults: self.disk.faults(),
@@ -468,6 +473,6 @@ impl<const SLOTS: usize, D: Disk> LoggedJournal<SLOTS, D> {
     pub fn into_disk(self) -> D
         ensures disk { result ≡ self.disk }
     {
-        self.disk
+        Box::into_inner(self.disk)
     }
 }

@@ -5,8 +5,10 @@ ghost use Rattle.plain_model.specs.Machine.{IsInRange};
 use auditor::{Difference, audit, audit_journal};
 use cell_page::{Cell, Page};
 use core_store::{AbortStep, Collect, Frame, Limits};
+use disk_model::MemoryDisk;
 use framed_journal::FramedJournal;
-use plain_model::{Call, Memory, Reply};
+use plain_model::{Call, Reply};
+use restart_store::init;
 use std::alloc::Global;
 use std::process::Abort;
 use std::test::Fail;
@@ -55,7 +57,7 @@ fn is_allowed(call: &Call) -> bool
 }
 
 /// The reply to a call that is allowed.
-fn ask(journal: &mut FramedJournal<6>, client: u8, call: &Call) -> Option<Reply> {
+fn ask(journal: &mut FramedJournal<6, MemoryDisk>, client: u8, call: &Call) -> Option<Reply> {
     if client == 0 || client > 64 || !is_allowed(call) {
         return None;
     }
@@ -63,7 +65,13 @@ fn ask(journal: &mut FramedJournal<6>, client: u8, call: &Call) -> Option<Reply>
 }
 
 /// The client makes an object for each of these ids. Whether each got its id.
-fn fill(journal: &mut FramedJournal<6>, client: u8, into: u8, from: u32, to: u32) -> bool {
+fn fill(
+    journal: &mut FramedJournal<6, MemoryDisk>,
+    client: u8,
+    into: u8,
+    from: u32,
+    to: u32,
+) -> bool {
     for id in from..to {
         if ask(journal, client, &Call::Make { into }) != Some(Reply::Id(id)) {
             return false;
@@ -73,18 +81,18 @@ fn fill(journal: &mut FramedJournal<6>, client: u8, into: u8, from: u32, to: u32
 }
 
 /// What a step of the client's abort does, where the client has a transaction.
-fn undo(journal: &mut FramedJournal<6>, client: u8) -> Option<AbortStep> {
-    if journal.active(client) {
-        return Some(journal.abort_step(client));
+fn undo(journal: &mut FramedJournal<6, MemoryDisk>, client: u8) -> Option<AbortStep> {
+    if journal.logged().journal().active(client) {
+        return journal.abort_step(client).ok();
     }
     None
 }
 
 /// The last object that the collector deletes in its next 200 steps, or 0.
-fn collect(journal: &mut FramedJournal<6>) -> u32 {
+fn collect(journal: &mut FramedJournal<6, MemoryDisk>) -> u32 {
     let mut deleted = 0;
     for _ in 0..200 {
-        if let Collect::Deleted { id, .. } = journal.collect_step() {
+        if let Ok(Collect::Deleted { id, .. }) = journal.collect_step() {
             deleted = id;
         }
     }
@@ -92,7 +100,7 @@ fn collect(journal: &mut FramedJournal<6>) -> u32 {
 }
 
 /// How many objects are live, and to how many of them no strong pointer leads, by an audit that finds no difference.
-fn audited(alloc: Global, journal: &FramedJournal<6>) -> Option<(u32, u32)> {
+fn audited(alloc: Global, journal: &FramedJournal<6, MemoryDisk>) -> Option<(u32, u32)> {
     let report = audit_journal(alloc, journal).ok()?;
     if report.differences.items().is_empty() {
         return Some((report.live, report.zero));
@@ -101,7 +109,7 @@ fn audited(alloc: Global, journal: &FramedJournal<6>) -> Option<(u32, u32)> {
 }
 
 /// Makes the step. Whether what is to come of it came.
-fn perform(alloc: Global, journal: &mut FramedJournal<6>, step: Step) -> bool {
+fn perform(alloc: Global, journal: &mut FramedJournal<6, MemoryDisk>, step: Step) -> bool {
     match step {
         Step::Ask(client, call, reply) => ask(journal, client, &call) == Some(reply),
         Step::Fill {
@@ -117,8 +125,10 @@ fn perform(alloc: Global, journal: &mut FramedJournal<6>, step: Step) -> bool {
 }
 
 /// Makes the steps in a fresh store of three pages.
-fn run(rt: &impl Abort, alloc: Global, steps: &[Step]) -> Result<(), Memory> {
-    let mut journal = FramedJournal::fresh(alloc, 3, Limits::GREATEST)?;
+fn run(rt: &impl Abort, alloc: Global, steps: &[Step]) -> Result<(), Fail> {
+    let mut disk = MemoryDisk::new(alloc);
+    init(&mut disk, 3)?;
+    let mut journal = FramedJournal::fresh(alloc, disk, 3, Limits::GREATEST)?;
     for step in steps {
         assert!(rt; perform(alloc, &mut journal, *step), "{step:?}");
     }

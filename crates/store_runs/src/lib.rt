@@ -6,6 +6,8 @@
 #[cfg(test)]
 mod audits;
 #[cfg(test)]
+mod logged;
+#[cfg(test)]
 mod readme;
 #[cfg(test)]
 mod scripts;

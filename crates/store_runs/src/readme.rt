@@ -1,13 +1,17 @@
 //! The lines that README.md shows to whoever embeds the store.
 use core_store::{Collect, Limits};
+use disk_model::MemoryDisk;
 use framed_journal::FramedJournal;
 use plain_model::{Call, Reply};
+use restart_store::init;
 use std::test::Fail;
 
 #[test]
 fn readme(rt: HostRuntime) -> Result<(), Fail> {
     let alloc = rt.alloc();
-    let mut store = FramedJournal::<6>::fresh(alloc, 2, Limits::GREATEST)?;
+    let mut disk = MemoryDisk::new(alloc);
+    init(&mut disk, 2)?;
+    let mut store = FramedJournal::<6, MemoryDisk>::fresh(alloc, disk, 2, Limits::GREATEST)?;
     store.call(1, &Call::Begin);
     let made = store.call(1, &Call::Make { into: 1 });
     store.call(
@@ -22,6 +26,6 @@ fn readme(rt: HostRuntime) -> Result<(), Fail> {
     let idle = store.collect_step();
     assert!(rt; made == Reply::Id(2));
     assert!(rt; done == Reply::Done);
-    assert!(rt; idle == Collect::Idle);
+    assert!(rt; idle == Ok(Collect::Idle));
     Ok(())
 }

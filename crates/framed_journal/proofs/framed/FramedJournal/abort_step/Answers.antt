@@ -1,48 +1,53 @@
-use Rattle.std.proofs.Common.{◌≤◌, List, sym, subst, rules}
-use Rattle.std.specs.Prelude.{IsSome}
-use Rattle.plain_model.specs.declared.calls.Call.TheVariants.{Abort}
-use Rattle.plain_model.specs.declared.calls.Reply.TheVariants.{Done}
-use Rattle.plain_model.specs.declared.calls.Entry.TheVariants.{Call, Undo}
+use Rattle.std.proofs.Common.{◌≡◌, ◌≤◌, sym, subst, rules}
+use Rattle.std.proofs.lemmas.Option.{IfSome_then}
+use Rattle.std.specs.Prelude.{IsErrOf, IsSome}
 use Rattle.plain_model.specs.Machine.{transaction_of}
 use Rattle.plain_model.specs.History.{end_of}
-use Rattle.core_store.specs.declared.frame.Frame.{Frame}
-use Rattle.core_store.specs.JournalView.{JournalView}
-use Rattle.framed_journal.specs.Holding.{AreFramesOf}
-use Rattle.framed_journal.proofs.HoldLaws.{slots-few, places-within, AreFramesOf-changed, size-after_step}
+use Rattle.core_store.specs.JournalView.{JournalView, cells_of}
+use Rattle.core_store.specs.Frames.{pages_held}
+use Rattle.core_store.specs.Logged.{want_of, pages_for_undo}
+use Rattle.core_store.specs.Replaced.{next_to_restore}
+use Rattle.core_store.specs.declared.want.Want.TheVariants.{Ready}
+use Rattle.framed_journal.specs.Holding.{AreHeldOf}
+use Rattle.logged_journal.specs.declared.failed.FailedCommit.{FailedCommit}
+use Rattle.logged_journal.specs.View.{LoggedView}
+use Rattle.framed_journal.proofs.HoldLaws.{slots-few, places-within, AreFramesOf-changed}
+use Rattle.framed_journal.proofs.SizeLaws.{stopped-same, size-after_step}
 use Rattle.framed_journal.proofs.framed.FramedJournal.abort_step.Goals as goal
 
-pub hold_for_abort_step-requires : goal.hold_for_abort_step-requires
-hold_for_abort_step-requires g c =
+pub abort_step-step-requires-after_bounds : goal.abort_step-step-requires-after_bounds
+abort_step-step-requires-after_bounds g c κs within =
     let small : g.row.SLOTS ≤ 14 = slots-few g.row.SLOTS c.self.invariant.0.size.1 in
-    let frames = subst (λ (fs : List (Frame g.row.SLOTS)). AreFramesOf c.self.inside.journal fs) (sym c.as_slice-frames.ensures.value) c.self.invariant.0 in
-    (search rules, (search rules, (search rules, (frames, c.self.invariant.1))))
-
--- what is known of the value is known of its journal
-pub abort_step-step-requires : goal.abort_step-step-requires
-abort_step-step-requires g c =
-    let small : g.row.SLOTS ≤ 14 = slots-few g.row.SLOTS c.self.invariant.0.size.1 in
-    let active = subst (λ (j : JournalView). IsSome (transaction_of (end_of j.history).state c.args.client)) (sym c.self.view_is) c.requires in
-    (search rules, (search rules, (active, (c.hold_for_abort_step.ensures.held.agree, c.hold_for_abort_step.ensures.ready))))
+    let held = subst (λ (j : JournalView). AreHeldOf j c.hold_for_abort_step.new.held) c.journal.ensures.journal c.hold_for_abort_step.ensures.held in
+    let ready = subst (λ (j : JournalView). want_of (pages_for_undo (cells_of j) (next_to_restore (end_of j.history) c.args.client)) (pages_held c.hold_for_abort_step.new.held) ≡ Ready) c.journal.ensures.journal c.hold_for_abort_step.ensures.ready in
+    let active = subst (λ (v : LoggedView g.row.D.Denot). IsSome (transaction_of (end_of v.journal.history).state c.args.client)) (sym c.self.view_is) c.requires in
+    (search rules, (search rules, (active, (held.agree, ready))))
 
 pub put_back-requires : goal.put_back-requires
 put_back-requires g c =
     let small : g.row.SLOTS ≤ 14 = slots-few g.row.SLOTS c.self.invariant.0.size.1 in
-    let within = places-within c.self.inside.journal c.self.inside.frames.items c.hold_for_abort_step.new.held c.abort_step-step.new.held c.self.invariant.0 c.hold_for_abort_step.ensures.held c.abort_step-step.ensures.pages in
+    let held = subst (λ (j : JournalView). AreHeldOf j c.hold_for_abort_step.new.held) c.journal.ensures.journal c.hold_for_abort_step.ensures.held in
+    let within = places-within c.self.inside.logged.journal c.self.inside.frames.items c.hold_for_abort_step.new.held c.abort_step-step.new.held c.self.invariant.0 held c.abort_step-step.ensures.frames.pages in
     (search rules, (search rules, within))
 
 pub invariant_of-self : goal.invariant_of-self
 invariant_of-self g c =
     let done = c.abort_step-step.ensures in
-    let j = c.self.inside.journal in
-    let k = c.abort_step-step.new.self in
-    let size = size-after_step j k c.abort_step-step.result (Undo c.args.client) (Call c.args.client Abort Done) (λ e. (done.undone e).1) (λ e. (done.ended e).1) in
-    (AreFramesOf-changed j k c.self.inside.frames.items c.put_back.new.frames.items c.hold_for_abort_step.new.held c.abort_step-step.new.held c.self.invariant.0 size done.agree done.pages done.elsewhere c.put_back.ensures.follows c.put_back.ensures.count, c.put_back.ensures.none)
+    let u = c.self.inside.logged in
+    let v = c.abort_step-step.new.self in
+    let r = c.abort_step-step.result in
+    let same = stopped-same u v (λ (f : FailedCommit). IsErrOf r (record { faults = f.faults })) (c.abort_step-step.new.held ≡ c.hold_for_abort_step.new.held) done.stopped in
+    let size = size-after_step g.row.SLOTS u v c.args.client r done.only_stopped same done.does in
+    (AreFramesOf-changed u.journal v.journal c.self.inside.frames.items c.put_back.new.frames.items c.hold_for_abort_step.new.held c.abort_step-step.new.held c.self.invariant.0 size done.frames.agree done.frames.pages done.frames.elsewhere c.put_back.ensures.follows c.put_back.ensures.count, c.put_back.ensures.none)
 
-pub returns-clause-collector_undo : goal.returns-clause-collector_undo
-returns-clause-collector_undo g c = λ e. rw (← c.self.view_is) (c.abort_step-step.ensures.collector_undo e)
+pub returns-clause-stopped : goal.returns-clause-stopped
+returns-clause-stopped g c = rw (← c.self.view_is) (IfSome_then c.self.inside.logged.failed c.abort_step-step.ensures.stopped (λ f h. (h.0, h.1)))
 
-pub returns-clause-cursor_undo : goal.returns-clause-cursor_undo
-returns-clause-cursor_undo g c = λ e. rw (← c.self.view_is) (c.abort_step-step.ensures.cursor_undo e)
+pub returns-clause-does : goal.returns-clause-does
+returns-clause-does g c = rw (← c.self.view_is) c.abort_step-step.ensures.does
 
-pub returns-clause-noted_undo : goal.returns-clause-noted_undo
-returns-clause-noted_undo g c = λ e. rw (← c.self.view_is) (c.abort_step-step.ensures.noted_undo e)
+pub returns-clause-goes_on : goal.returns-clause-goes_on
+returns-clause-goes_on g c = rw (← c.self.view_is) c.abort_step-step.ensures.goes_on
+
+pub returns-clause-untouched : goal.returns-clause-untouched
+returns-clause-untouched g c = rw (← c.self.view_is) c.abort_step-step.ensures.untouched

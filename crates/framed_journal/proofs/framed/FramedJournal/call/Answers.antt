@@ -1,48 +1,61 @@
-use Rattle.std.proofs.Common.{◌≡◌, ◌≤◌, List, sym, subst, rules}
+use Rattle.std.proofs.Common.{◌≡◌, ◌≤◌, sym, subst, rules}
+use Rattle.std.proofs.lemmas.Option.{IfSome_then}
 use Rattle.std.specs.Prelude.{None}
 use Rattle.plain_model.specs.declared.calls.Call.TheVariants as call
-use Rattle.plain_model.specs.declared.calls.Entry.TheVariants.{Call}
+use Rattle.plain_model.specs.declared.calls.Reply.TheVariants as reply
 use Rattle.plain_model.specs.Machine.{transaction_of}
 use Rattle.plain_model.specs.History.{end_of}
-use Rattle.core_store.specs.declared.frame.Frame.{Frame}
 use Rattle.core_store.specs.JournalView.{JournalView}
-use Rattle.framed_journal.specs.Holding.{AreFramesOf}
-use Rattle.framed_journal.proofs.HoldLaws.{slots-few, places-within, AreFramesOf-changed, size-after_call}
+use Rattle.core_store.specs.Frames.{pages_held}
+use Rattle.core_store.specs.Limited.{pages_for_call}
+use Rattle.core_store.specs.Logged.{want_of}
+use Rattle.core_store.specs.declared.want.Want.TheVariants.{Ready}
+use Rattle.framed_journal.specs.Holding.{AreHeldOf}
+use Rattle.logged_journal.specs.declared.failed.FailedCommit.{FailedCommit}
+use Rattle.logged_journal.specs.View.{LoggedView}
+use Rattle.framed_journal.proofs.HoldLaws.{slots-few, places-within, AreFramesOf-changed}
+use Rattle.framed_journal.proofs.SizeLaws.{stopped-same, marked-same, size-after_call}
 use Rattle.framed_journal.proofs.framed.FramedJournal.call.Goals as goal
 
--- what is known of the value is known of its journal
-pub hold_for_call-requires : goal.hold_for_call-requires
-hold_for_call-requires g c =
+pub apply-reply-requires-after_bounds : goal.apply-reply-requires-after_bounds
+apply-reply-requires-after_bounds g c κs within =
     let small : g.row.SLOTS ≤ 14 = slots-few g.row.SLOTS c.self.invariant.0.size.1 in
-    let frames = subst (λ (fs : List (Frame g.row.SLOTS)). AreFramesOf c.self.inside.journal fs) (sym c.as_slice-frames.ensures.value) c.self.invariant.0 in
-    let no_abort = subst (λ (j : JournalView). c.args.call.now ≡ call.Abort → transaction_of (end_of j.history).state c.args.client ≡ None) (sym c.self.view_is) c.requires.no_abort in
-    (search rules, (search rules, (search rules, (frames, (c.self.invariant.1, (c.requires.client, (c.requires.in_range, no_abort)))))))
-
-pub apply-reply-requires : goal.apply-reply-requires
-apply-reply-requires g c =
-    let small : g.row.SLOTS ≤ 14 = slots-few g.row.SLOTS c.self.invariant.0.size.1 in
-    let no_abort = subst (λ (j : JournalView). c.args.call.now ≡ call.Abort → transaction_of (end_of j.history).state c.args.client ≡ None) (sym c.self.view_is) c.requires.no_abort in
-    (search rules, (search rules, (c.requires.client, (c.requires.in_range, (no_abort, (c.hold_for_call.ensures.held.agree, c.hold_for_call.ensures.ready))))))
+    let held = subst (λ (j : JournalView). AreHeldOf j c.hold_for_call.new.held) c.journal.ensures.journal c.hold_for_call.ensures.held in
+    let ready = subst (λ (j : JournalView). want_of (pages_for_call j c.args.client c.args.call.now) (pages_held c.hold_for_call.new.held) ≡ Ready) c.journal.ensures.journal c.hold_for_call.ensures.ready in
+    let no_abort = subst (λ (v : LoggedView g.row.D.Denot). c.args.call.now ≡ call.Abort → transaction_of (end_of v.journal.history).state c.args.client ≡ None) (sym c.self.view_is) c.requires.no_abort in
+    (search rules, (search rules, (c.requires.client, (c.requires.in_range, (no_abort, (held.agree, ready))))))
 
 pub put_back-requires : goal.put_back-requires
 put_back-requires g c =
     let small : g.row.SLOTS ≤ 14 = slots-few g.row.SLOTS c.self.invariant.0.size.1 in
-    let within = places-within c.self.inside.journal c.self.inside.frames.items c.hold_for_call.new.held c.apply-reply.new.held c.self.invariant.0 c.hold_for_call.ensures.held c.apply-reply.ensures.pages in
+    let held = subst (λ (j : JournalView). AreHeldOf j c.hold_for_call.new.held) c.journal.ensures.journal c.hold_for_call.ensures.held in
+    let within = places-within c.self.inside.logged.journal c.self.inside.frames.items c.hold_for_call.new.held c.apply-reply.new.held c.self.invariant.0 held c.apply-reply.ensures.frames.pages in
     (search rules, (search rules, within))
 
 pub invariant_of-self : goal.invariant_of-self
 invariant_of-self g c =
     let done = c.apply-reply.ensures in
-    let j = c.self.inside.journal in
-    let k = c.apply-reply.new.self in
-    let size = size-after_call j k c.apply-reply.result (Call c.args.client c.args.call.now c.apply-reply.result) (λ e. (done.memory e).0) (λ e. (done.marked e).0) done.entry in
-    (AreFramesOf-changed j k c.self.inside.frames.items c.put_back.new.frames.items c.hold_for_call.new.held c.apply-reply.new.held c.self.invariant.0 size done.agree done.pages done.elsewhere c.put_back.ensures.follows c.put_back.ensures.count, c.put_back.ensures.none)
+    let u = c.self.inside.logged in
+    let v = c.apply-reply.new.self in
+    let r = c.apply-reply.result in
+    let same = stopped-same u v (λ (f : FailedCommit). r ≡ reply.Stopped f.faults) (c.apply-reply.new.held ≡ c.hold_for_call.new.held) done.stopped in
+    let size = size-after_call g.row.SLOTS u v c.args.client c.args.call.now r (λ faults e. same (done.only_stopped faults e)) (λ e. marked-same u v (done.log_marked e).0) (λ e. (done.fault e).0.journal) done.does in
+    (AreFramesOf-changed u.journal v.journal c.self.inside.frames.items c.put_back.new.frames.items c.hold_for_call.new.held c.apply-reply.new.held c.self.invariant.0 size done.frames.agree done.frames.pages done.frames.elsewhere c.put_back.ensures.follows c.put_back.ensures.count, c.put_back.ensures.none)
 
-pub returns-clause-noted : goal.returns-clause-noted
-returns-clause-noted g c = λ e. rw (← c.self.view_is) (c.apply-reply.ensures.noted e)
+pub returns-clause-stopped : goal.returns-clause-stopped
+returns-clause-stopped g c = rw (← c.self.view_is) (IfSome_then c.self.inside.logged.failed c.apply-reply.ensures.stopped (λ f h. (h.0, h.1)))
 
-pub returns-clause-collector : goal.returns-clause-collector
-returns-clause-collector g c = λ e. rw (← c.self.view_is) (c.apply-reply.ensures.collector e)
+pub returns-clause-log_full : goal.returns-clause-log_full
+returns-clause-log_full g c = rw (← c.self.view_is) c.apply-reply.ensures.log_full
 
-pub returns-clause-cursor : goal.returns-clause-cursor
-returns-clause-cursor g c = λ e. rw (← c.self.view_is) (c.apply-reply.ensures.cursor e)
+pub returns-clause-log_marked : goal.returns-clause-log_marked
+returns-clause-log_marked g c = λ e. rw (← c.self.view_is) (c.apply-reply.ensures.log_marked e).0
+
+pub returns-clause-goes_on : goal.returns-clause-goes_on
+returns-clause-goes_on g c = λ e. rw (← c.self.view_is) (c.apply-reply.ensures.goes_on e)
+
+pub returns-clause-untouched : goal.returns-clause-untouched
+returns-clause-untouched g c = rw (← c.self.view_is) c.apply-reply.ensures.untouched
+
+pub returns-clause-fault : goal.returns-clause-fault
+returns-clause-fault g c = λ e. rw (← c.self.view_is) (c.apply-reply.ensures.fault e).0

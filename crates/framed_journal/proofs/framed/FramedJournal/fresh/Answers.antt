@@ -4,7 +4,7 @@ use Rattle.framed_journal.proofs.framed.FramedJournal.fresh.Goals as goal
 
 pub invariant_of-result : goal.invariant_of-result
 invariant_of-result g c =
-    let made = c.in_ok-journal.ensures in (
+    let made = c.in_ok-logged.ensures in (
       record {
         pages = ap (λ (n : ℕ). 8 * n) made.frames.count ∙ sym (ap (λ (h : History). h.ids) made.history);
         some = rw made.frames.count c.requires.pages.0;

@@ -20,7 +20,7 @@ use Rattle.logged_journal.proofs.logged.LoggedJournal.abort_step.Goals.{After-ab
 abbrev before : (g : Over) (c : After-abort_step-step g) → LoggedView g.row.D.Denot
 before g c =
     let s = c.self.inside in
-    record { journal = s.journal; log = s.log; disk = s.disk; durable = s.durable; failed = s.failed; log_full = s.log_full; peak = s.peak }
+    record { journal = s.journal; log = s.log; disk = s.disk.value; durable = s.durable; failed = s.failed; log_full = s.log_full; peak = s.peak }
 
 does : (g : Over) (c : After-abort_step-step g) → DoesAbortStep g.row.SLOTS c.self.inside.journal c.abort_step-step.new.self c.args.pass c.abort_step-step.result
 does g c =

@@ -12,7 +12,7 @@ use Rattle.logged_journal.proofs.logged.LoggedJournal.apply.Goals as goal
 pub returns-in-Some-clause-moments : goal.returns-in-Some-clause-moments
 returns-in-Some-clause-moments g c =
     subst (λ (w : LoggedView g.row.D.Denot). LeavesOnlyImages g.D.Disk.moment g.D.Disk.left_since w.disk w.disk (MayHave w c.args.pass)) c.self.view_is
-    (still g.D.Disk.may_leave g.D.Disk.moment g.D.Disk.left_since g.D.Disk.only_now _ c.args.pass c.self.inside.disk refl c.self.invariant.kept)
+    (still g.D.Disk.may_leave g.D.Disk.moment g.D.Disk.left_since g.D.Disk.only_now _ c.args.pass c.self.inside.disk.value refl c.self.invariant.kept)
 
 refused : (g : Over) (c : goal.After-refuse g) → IsGranted c.args.self.now.journal c.args.pass c.args.call.now → ⊥
 refused g c granted = not-granted c.self.inside.journal c.args.pass c.args.call.now c.grants.result c.grants.ensures c.if-not-grants.true

@@ -4,11 +4,14 @@ use Rattle.plain_model.specs.declared.calls.Call.TheVariants as call
 use Rattle.plain_model.specs.declared.calls.Reply.TheVariants as reply
 use Rattle.plain_model.specs.declared.calls.Entry.TheVariants.{Call}
 use Rattle.plain_model.specs.History.{end_of}
+use Rattle.disk_model.specs.declared.area.Area.{Area}
+use Rattle.disk_model.specs.Areas.{Bytes}
 use Rattle.disk_model.specs.Time.{LeavesOnlyImages}
 use Rattle.disk_model.proofs.Moments.{at_exit}
 use Rattle.log_record.specs.Spelling.{cell_record_bytes}
-use Rattle.gate_log.specs.State.{LogState, forced, failed}
-use Rattle.gate_log.specs.OnDisk.{with_batch}
+use Rattle.gate_log.specs.Batches.{most_bytes}
+use Rattle.gate_log.specs.State.{LogState, forced, failed, used}
+use Rattle.gate_log.specs.OnDisk.{with_batch, IsOn, HasEither}
 use Rattle.core_store.specs.declared.act.Act.TheVariants.{Other}
 use Rattle.core_store.specs.declared.note.Note.{Note}
 use Rattle.core_store.specs.Frames.{Agree}
@@ -27,6 +30,12 @@ use Rattle.logged_journal.proofs.CommitDone.{commit-done, commit-logged, commit-
 use Rattle.logged_journal.proofs.logged.LoggedJournal.commit.Given.{Over}
 use Rattle.logged_journal.proofs.logged.LoggedJournal.commit.Goals as goal
 
+-- ---- what the force leaves, from the disk that stood in the box
+
+abbrev Runs : {D : Type 0} → (D → Area → List ℕ → Type 0) → (D → ℕ) → (D → ℕ → Bytes → Type 0) → LogState → D → D → Type 0
+Runs may_leave moment left_since log now before =
+    (batches : List (List ℕ)) → IsOn may_leave log before batches → used log ≤ most_bytes → LeavesOnlyImages moment left_since before now (HasEither batches (with_batch batches log.tail))
+
 -- ---- before the force
 
 -- the journal with its log, at the call
@@ -34,7 +43,7 @@ abbrev view_of : {slots : ℕ} {D : Type 0} → Inside slots D → LoggedView D
 view_of a = record {
   journal = a.journal;
   log = a.log;
-  disk = a.disk;
+  disk = a.disk.value;
   durable = a.durable;
   failed = a.failed;
   log_full = a.log_full;
@@ -60,24 +69,25 @@ append_record-requires-clause-room g c =
 
 pub force-requires-clause-on : goal.force-requires-clause-on
 force-requires-clause-on g c κs within =
-    let stands = c.self.invariant.kept.standing (running c.self.inside c.args.self.now c.self.view_is c.requires.running) in
-    (stands.batches, record-on g.D.Disk.may_leave (view_of c.self.inside) c.append_record.new.log c.args.pass stands c.append_record.ensures.log)
+    let stands = c.self.invariant.kept.standing (running c.self.inside c.args.self.now c.self.view_is c.requires.running) in (
+      stands.batches,
+      subst (λ (d : g.row.D.Denot). IsOn g.D.Disk.may_leave c.append_record.new.log d stands.batches) (sym c.as_mut.ensures.value)
+          (record-on g.D.Disk.may_leave (view_of c.self.inside) c.append_record.new.log c.args.pass stands c.append_record.ensures.log),
+    )
 
 -- ---- where the disk failed it
 
-failed-moments : (g : Over) (c : goal.After-self-1 g) → LeavesOnlyImages g.D.Disk.moment g.D.Disk.left_since c.self.inside.disk c.force.new.disk (MayHave (view_of c.self.inside) c.args.pass)
-failed-moments g c =
-    record-moments g.D.Disk.may_leave (view_of c.self.inside) g.D.Disk.moment g.D.Disk.left_since c.append_record.new.log c.force.new.disk c.args.pass
-    (c.self.invariant.kept.standing (running c.self.inside c.args.self.now c.self.view_is c.requires.running))
-    (owed c.self.inside c.args.self.now c.args.pass c.self.view_is c.requires.granted) c.append_record.ensures.log c.force.ensures.moments
-
 pub invariant_of-self : goal.invariant_of-self
 invariant_of-self g c =
+    let run = subst (λ (d : g.row.D.Denot). Runs g.D.Disk.may_leave g.D.Disk.moment g.D.Disk.left_since c.append_record.new.log c.force.new.disk d) c.as_mut.ensures.value c.force.ensures.moments in
+    let moments = record-moments g.D.Disk.may_leave (view_of c.self.inside) g.D.Disk.moment g.D.Disk.left_since c.append_record.new.log c.force.new.disk c.args.pass
+    (c.self.invariant.kept.standing (running c.self.inside c.args.self.now c.self.view_is c.requires.running))
+    (owed c.self.inside c.args.self.now c.args.pass c.self.view_is c.requires.granted) c.append_record.ensures.log run in
     record {
       size = c.self.invariant.size;
       spelling = c.append_record.ensures.spelling;
       kept = kept-failed g.D.Disk.may_leave (view_of c.self.inside) _ c.args.pass c.faults.result c.self.invariant.kept
-          (running c.self.inside c.args.self.now c.self.view_is c.requires.running) refl refl refl refl refl (at_exit g.D.Disk.may_leave g.D.Disk.counts_now (failed-moments g c));
+          (running c.self.inside c.args.self.now c.self.view_is c.requires.running) refl refl refl refl refl (at_exit g.D.Disk.may_leave g.D.Disk.counts_now moments);
     }
 
 pub returns-then-is_err-clause-frames : goal.returns-then-is_err-clause-frames
@@ -92,7 +102,11 @@ returns-then-is_err-clause-frames g c =
 
 pub returns-then-is_err-clause-moments : goal.returns-then-is_err-clause-moments
 returns-then-is_err-clause-moments g c =
-    subst (λ (w : LoggedView g.row.D.Denot). LeavesOnlyImages g.D.Disk.moment g.D.Disk.left_since w.disk c.force.new.disk (MayHave w c.args.pass)) c.self.view_is (failed-moments g c)
+    let run = subst (λ (d : g.row.D.Denot). Runs g.D.Disk.may_leave g.D.Disk.moment g.D.Disk.left_since c.append_record.new.log c.force.new.disk d) c.as_mut.ensures.value c.force.ensures.moments in
+    let moments = record-moments g.D.Disk.may_leave (view_of c.self.inside) g.D.Disk.moment g.D.Disk.left_since c.append_record.new.log c.force.new.disk c.args.pass
+    (c.self.invariant.kept.standing (running c.self.inside c.args.self.now c.self.view_is c.requires.running))
+    (owed c.self.inside c.args.self.now c.args.pass c.self.view_is c.requires.granted) c.append_record.ensures.log run in
+    subst (λ (w : LoggedView g.row.D.Denot). LeavesOnlyImages g.D.Disk.moment g.D.Disk.left_since w.disk c.force.new.disk (MayHave w c.args.pass)) c.self.view_is moments
 
 -- ---- where it was done
 
@@ -167,14 +181,15 @@ committed g c =
     let s = stands g c in
     let a = c.apply-reply.ensures in
     let on = record-on g.D.Disk.may_leave v log c.args.pass s c.append_record.ensures.log in
+    let reached = subst (λ (d : g.row.D.Denot). IsOn g.D.Disk.may_leave log d s.batches) (sym c.as_mut.ensures.value) on in
     let bounded = record-bounded g.D.Disk.may_leave v log c.args.pass s (owed c.self.inside c.args.self.now c.args.pass c.self.view_is c.requires.granted) c.append_record.ensures.log in
     record {
       note = record { entry = a.entry (entered g c); noted = a.noted (entered g c); opening = a.opening.0 };
       logged = commit-logged (end_of c.self.inside.journal.history).state (cells_of c.self.inside.journal) c.args.pass (grants g c).granted;
       limits = a.opening.1;
       log = log-is g c;
-      on = on-ok c.force.result _ (succeeded g c) (c.force.ensures.on s.batches on);
-      have = on-ok c.force.result _ (succeeded g c) (c.force.ensures.images s.batches on bounded);
+      on = on-ok c.force.result _ (succeeded g c) (c.force.ensures.on s.batches reached);
+      have = on-ok c.force.result _ (succeeded g c) (c.force.ensures.images s.batches reached bounded);
       hold = record-holds g.D.Disk.may_leave v log c.args.pass s c.append_record.ensures.log;
       all = ap (λ (l : List Note). length l) c.history.ensures.notes;
       lasting = durable-all c.apply-reply.new.self (subst (λ (l : List Note). map (λ n. n.entry) l ≡ c.apply-reply.new.self.history.entries) c.history.ensures.notes c.history.ensures.entries) c.history.ensures.safe;
@@ -223,6 +238,7 @@ returns-clause-fault g c is = absurd (let k = sym (done g c) ∙ is in cc (k))
 
 pub returns-clause-moments : goal.returns-clause-moments
 returns-clause-moments g c =
+    let run = subst (λ (d : g.row.D.Denot). Runs g.D.Disk.may_leave g.D.Disk.moment g.D.Disk.left_since c.append_record.new.log c.force.new.disk d) c.as_mut.ensures.value c.force.ensures.moments in
     subst (λ (w : LoggedView g.row.D.Denot). LeavesOnlyImages g.D.Disk.moment g.D.Disk.left_since w.disk c.force.new.disk (MayHave w c.args.pass)) c.self.view_is
     (record-moments g.D.Disk.may_leave (view_of c.self.inside) g.D.Disk.moment g.D.Disk.left_since c.append_record.new.log c.force.new.disk c.args.pass (stands g c)
-    (owed c.self.inside c.args.self.now c.args.pass c.self.view_is c.requires.granted) c.append_record.ensures.log c.force.ensures.moments)
+    (owed c.self.inside c.args.self.now c.args.pass c.self.view_is c.requires.granted) c.append_record.ensures.log run)

@@ -25,7 +25,7 @@ use Rattle.logged_journal.proofs.logged.LoggedJournal.log_call.Goals as goal
 
 -- the journal with its log, at the call
 abbrev view_of : {slots : ℕ} {D : Type 0} → Inside slots D → LoggedView D
-view_of a = record { journal = a.journal; log = a.log; disk = a.disk; durable = a.durable; failed = a.failed; log_full = a.log_full; peak = a.peak }
+view_of a = record { journal = a.journal; log = a.log; disk = a.disk.value; durable = a.durable; failed = a.failed; log_full = a.log_full; peak = a.peak }
 
 running : {slots : ℕ} {D : Type 0} (a : Inside slots D) (now : LoggedView D) → view_of a ≡ now → now.failed ≡ None → a.failed ≡ None
 running a now is runs = subst (λ v. v.failed ≡ None) (sym is) runs

@@ -24,7 +24,7 @@ use Rattle.logged_journal.proofs.logged.LoggedJournal.log_step.Goals.{In_default
 abbrev before : (g : Over) (c : In_default g) → LoggedView g.row.D.Denot
 before g c =
     let s = c.self.inside in
-    record { journal = s.journal; log = s.log; disk = s.disk; durable = s.durable; failed = s.failed; log_full = s.log_full; peak = s.peak }
+    record { journal = s.journal; log = s.log; disk = s.disk.value; durable = s.durable; failed = s.failed; log_full = s.log_full; peak = s.peak }
 
 -- the room in the log behind the reservation
 abbrev room : (g : Over) (c : In_default g) → ℕ
@@ -77,7 +77,7 @@ after g c log peak log_is peak_is =
 pub invariant_of-self : goal.invariant_of-self
 invariant_of-self g c =
     let s = c.self.inside in
-    let v : LoggedView g.row.D.Denot = record { journal = s.journal; log = s.log; disk = s.disk; durable = s.durable; failed = s.failed; log_full = s.log_full; peak = s.peak } in
+    let v : LoggedView g.row.D.Denot = record { journal = s.journal; log = s.log; disk = s.disk.value; durable = s.durable; failed = s.failed; log_full = s.log_full; peak = s.peak } in
     let room = if is_ok c.reserve.result then max s.log.room (c.bytes_owed.result + c.bytes_to_collect.result) else s.log.room in
     record {
       size = c.self.invariant.size;
@@ -95,7 +95,7 @@ returns-then-is_err-clause-frames g c =
 pub invariant_of-self-in-Memory : goal.invariant_of-self-in-Memory
 invariant_of-self-in-Memory g c =
     let s = c.self.inside in
-    let v : LoggedView g.row.D.Denot = record { journal = s.journal; log = s.log; disk = s.disk; durable = s.durable; failed = s.failed; log_full = s.log_full; peak = s.peak } in
+    let v : LoggedView g.row.D.Denot = record { journal = s.journal; log = s.log; disk = s.disk.value; durable = s.durable; failed = s.failed; log_full = s.log_full; peak = s.peak } in
     let room = if is_ok c.reserve.result then max s.log.room (c.bytes_owed.result + c.bytes_to_collect.result) else s.log.room in
     let same = (c.collect_step.ensures.memory c.in-Memory.is).0 in
     record {

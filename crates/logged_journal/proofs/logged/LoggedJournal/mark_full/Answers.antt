@@ -6,7 +6,7 @@ use Rattle.logged_journal.proofs.logged.LoggedJournal.mark_full.Goals as goal
 pub invariant_of-self : goal.invariant_of-self
 invariant_of-self g c =
     let inside = c.self.inside in
-    let v : LoggedView g.row.D.Denot = record { journal = inside.journal; log = inside.log; disk = inside.disk; durable = inside.durable; failed = inside.failed; log_full = inside.log_full; peak = inside.peak } in
+    let v : LoggedView g.row.D.Denot = record { journal = inside.journal; log = inside.log; disk = inside.disk.value; durable = inside.durable; failed = inside.failed; log_full = inside.log_full; peak = inside.peak } in
     let running = ap (λ (w : LoggedView g.row.D.Denot). w.failed) c.self.view_is ∙ c.requires.running in
     record {
       size = c.self.invariant.size;

@@ -15,7 +15,7 @@ use Rattle.logged_journal.proofs.logged.LoggedJournal.rest.Goals as goal
 abbrev before : (g : Over) (c : goal.After-collect_step g) → LoggedView g.row.D.Denot
 before g c =
     let s = c.self.inside in
-    record { journal = s.journal; log = s.log; disk = s.disk; durable = s.durable; failed = s.failed; log_full = s.log_full; peak = s.peak }
+    record { journal = s.journal; log = s.log; disk = s.disk.value; durable = s.durable; failed = s.failed; log_full = s.log_full; peak = s.peak }
 
 does : (g : Over) (c : goal.After-collect_step g) → DoesCollect g.row.SLOTS c.self.inside.journal c.collect_step.new.self c.collect_step.result
 does g c =

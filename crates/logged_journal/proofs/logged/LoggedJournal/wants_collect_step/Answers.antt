@@ -7,7 +7,7 @@ use Rattle.logged_journal.proofs.logged.LoggedJournal.wants_collect_step.Goals a
 pub invariant_of-self : goal.invariant_of-self
 invariant_of-self g c =
     let s = c.self.inside in
-    let v : LoggedView g.row.D.Denot = record { journal = s.journal; log = s.log; disk = s.disk; durable = s.durable; failed = s.failed; log_full = s.log_full; peak = s.peak } in
+    let v : LoggedView g.row.D.Denot = record { journal = s.journal; log = s.log; disk = s.disk.value; durable = s.durable; failed = s.failed; log_full = s.log_full; peak = s.peak } in
     record {
       size = c.self.invariant.size;
       spelling = c.self.invariant.spelling;
