@@ -1,5 +1,5 @@
 -- A commit that is granted: what it logs, and what a journal with its log keeps when it is done or failed.
-use Rattle.std.proofs.Common.{◌≡◌, ⊎_elim, ℕ, ◌+◌, ◌-◌, ◌≤◌, false, List, [], ◌++◌, length, take, Option, Some, None, Result, Ok, Err, refl, sym, ◌∙◌, ap, subst, arith}
+use Rattle.std.proofs.Common.{◌≡◌, ⊎_elim, ℕ, ◌+◌, ◌-◌, ◌≤◌, false, List, [], ◌∷◌, ◌++◌, length, map, take, drop, Option, Some, None, Result, Ok, Err, refl, sym, ◌∙◌, ap, subst, arith}
 use Rattle.std.specs.Prelude.{is_ok, is_err, OnOk, if◌then◌else◌, unwrap_or}
 use Rattle.std.specs.Option.{option_map_or}
 use Rattle.std.proofs.lemmas.List.{length-append, take_all, drop_all}
@@ -31,12 +31,11 @@ use Rattle.core_store.specs.Safe.{IsDurable, HasNote}
 use Rattle.core_store.proofs.BytesOwed.{commit-owes}
 use Rattle.plain_model.proofs.HistoryLemmas.{end_of-with_entry}
 use Rattle.logged_journal.specs.View.{LoggedView, bytes_counted}
-use Rattle.logged_journal.specs.Records.{notes_bytes, first_of, HoldRecords, HasRecords, with_commit, durable_notes, MayBeLeft, durable, failed, MayHave}
+use Rattle.logged_journal.specs.Records.{note_bytes, notes_bytes, HoldRecords, HasRecords, with_commit, durable_notes, MayBeLeft, durable, failed, MayHave}
 use Rattle.logged_journal.specs.Kept.{IsKept, IsStanding}
 use Rattle.logged_journal.proofs.Ascending.{ascends}
-use Rattle.logged_journal.proofs.Commits.{holds-commit, forced-image}
+use Rattle.logged_journal.proofs.Commits.{commit-some, holds-commit, holds-note, forced-image}
 use Rattle.logged_journal.proofs.Kept.{on-same, first-same}
-use Rattle.logged_journal.proofs.NoteBytes.{bytes-push}
 
 -- ---- what the machine says of it
 
@@ -97,6 +96,15 @@ module _ {D : Type 0} (may_leave : D → Area → List ℕ → Type 0) where
       holds-commit v.journal v.durable pass stands.batches log.tail stands.hold
       (ap (λ l. l.tail) is ∙ ap (λ (l : List ℕ). l ++ cell_record_bytes (logs.Commit pass)) stands.tail)
 
+  -- so it has with this note of the commit
+  pub note-holds : (v : LoggedView D) (log : LogState) (pass : ℕ) (n : Note) (stands : IsStanding may_leave v) → log ≡ with_record v.log pass → n.logged ≡ Some (logs.Commit pass)
+      → HoldRecords v.journal (v.journal.notes ++ n ∷ []) (with_batch stands.batches log.tail)
+  note-holds v log pass n stands is logged =
+      let bytes : note_bytes n ≡ cell_record_bytes (logs.Commit pass) = ap (λ (o : Option CellRecord). option_map_or cell_record_bytes o []) logged in
+      holds-note v.journal v.durable n stands.batches log.tail stands.hold (subst (λ (l : List ℕ). 1 ≤ length l) (sym bytes) (commit-some pass))
+      (ap (λ l. l.tail) is ∙ ap (λ (l : List ℕ). l ++ cell_record_bytes (logs.Commit pass)) stands.tail
+      ∙ ap (λ (l : List ℕ). notes_bytes (drop v.durable v.journal.notes) ++ l) (sym bytes))
+
   -- it is within the log's bytes
   pub record-bounded : (v : LoggedView D) (log : LogState) (pass : ℕ) → IsStanding may_leave v → 7 ≤ bytes_owed (end_of v.journal.history) → log ≡ with_record v.log pass → used log ≤ most_bytes
   record-bounded v log pass stands owed is =
@@ -153,7 +161,7 @@ module _ {D : Type 0} (may_leave : D → Area → List ℕ → Type 0) where
     pub log : w.log ≡ forced (with_record v.log pass)
     pub on : IsOn may_leave w.log w.disk batches
     pub have : EachImage may_leave w.disk (HasLog batches)
-    pub hold : HoldRecords v.journal (with_commit v.journal.notes pass) batches
+    pub hold : HoldRecords v.journal (v.journal.notes ++ n ∷ []) batches
     pub all : w.durable ≡ length w.journal.notes
     pub lasting : IsDurable w.journal w.journal.notes
     pub others : (w.log_full ≡ v.log_full) × (w.peak ≡ v.peak)
@@ -174,16 +182,8 @@ module _ {D : Type 0} (may_leave : D → Area → List ℕ → Type 0) where
       let stands = kept.standing running in
       let notes = w.journal.notes in
       let some : durable_notes w ≡ notes = take_all w.durable notes (let k = e.all in omega (arith, k)) in
-      let bytes : notes_bytes (with_commit v.journal.notes pass) ≡ notes_bytes notes =
-      bytes-push v.journal.notes _
-      ∙ ap (λ (o : Option CellRecord). notes_bytes v.journal.notes ++ option_map_or cell_record_bytes o []) (sym e.logged)
-      ∙ sym (bytes-push v.journal.notes n)
-      ∙ ap (λ (l : List Note). notes_bytes l) (sym e.note.noted) in
       let hold : HoldRecords w.journal (durable_notes w) batches =
-      e.hold
-      ∙ ap (λ (l : List ℕ). first_of v.journal ++ l) bytes
-      ∙ ap (λ (l : List ℕ). l ++ notes_bytes notes) (sym (first-same may_leave v.journal w.journal n e.note))
-      ∙ ap (λ (l : List Note). first_of w.journal ++ notes_bytes l) (sym some) in
+      (e.hold.0, e.hold.1 ∙ sym e.note.noted ∙ sym some, e.hold.2 ∙ ap (λ (l : List ℕ). l ∷ map notes_bytes e.hold.0) (sym (first-same may_leave v.journal w.journal n e.note))) in
       let counted = counted-falls v w pass e.log e.falls in
       let peak = e.others.1 in
       record {

@@ -1,5 +1,5 @@
 -- What a fresh journal with its log keeps.
-use Rattle.std.proofs.Common.{◌≡◌, ℕ, ◌*◌, ◌/◌, false, List, [], ◌∷◌, ◌++◌, None, refl, sym, ◌∙◌, ap, subst, arith}
+use Rattle.std.proofs.Common.{◌≡◌, ℕ, ◌*◌, ◌/◌, false, List, [], ◌∷◌, None, refl, sym, ◌∙◌, ap, subst, arith}
 use Rattle.disk_model.specs.declared.area.Area.{Area}
 use Rattle.disk_model.specs.declared.area.Area.TheVariants.{LogA, Super}
 use Rattle.plain_model.specs.History.{History, end_of}
@@ -24,7 +24,7 @@ module _ {D : Type 0} (may_leave : D → Area → List ℕ → Type 0) where
   by-none slots pages j disk history notes entries safe on =
       let ids : (8 * pages) / 8 ≡ pages = omega (arith) in
       let first-is : first_of j ≡ first_body_of slots pages = ap (λ (h : History). first_body_of h.slots (h.ids / 8)) history ∙ ap (first_body_of slots) ids in
-      let hold : HoldRecords j [] (first_body_of slots pages ∷ []) = ap (λ (l : List ℕ). l ++ []) (sym first-is) in
+      let hold : HoldRecords j [] (first_body_of slots pages ∷ []) = ([], refl, ap (λ (l : List ℕ). l ∷ []) (sym first-is)) in
       let owed : bytes_owed (end_of j.history) ≡ 0 = ap (λ (h : History). bytes_owed (end_of h)) history in
       record {
         standing = λ running. record {

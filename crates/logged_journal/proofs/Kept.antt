@@ -1,5 +1,5 @@
 -- What a journal with its log keeps at an event.
-use Rattle.std.proofs.Common.{◌≡◌, ℕ, ◌+◌, ◌≤◌, ◌/◌, max, false, ◌||◌, List, [], ◌∷◌, ◌++◌, length, take, drop, Some, None, sym, ◌∙◌, ap, subst, arith}
+use Rattle.std.proofs.Common.{◌≡◌, ℕ, ◌+◌, ◌≤◌, ◌/◌, max, false, ◌||◌, List, [], ◌∷◌, ◌++◌, length, map, take, drop, Some, None, sym, ◌∙◌, ap, subst, arith}
 use Rattle.std.proofs.lemmas.List.{length-append, take-append-le, drop-append-le}
 use Rattle.disk_model.specs.declared.area.Area.{Area}
 use Rattle.disk_model.specs.declared.area.Area.TheVariants.{Super}
@@ -55,7 +55,7 @@ module _ {D : Type 0} (may_leave : D → Area → List ℕ → Type 0) where
 
   pub records-same : (j k : JournalView) (n : Note) («first» : List Note) (image : Bytes) → HasNote j k n → HasRecords j «first» image → HasRecords k «first» image
   records-same j k n «first» image has is =
-      record { batches = is.batches; log = is.log; hold = is.hold ∙ ap (λ (l : List ℕ). l ++ notes_bytes «first») (sym (first-same j k n has)) }
+      record { batches = is.batches; log = is.log; hold = (is.hold.0, is.hold.1, is.hold.2 ∙ ap (λ (l : List ℕ). l ∷ map notes_bytes is.hold.0) (sym (first-same j k n has))) }
 
   -- the images of the disk are what the durable notes have
   pub left-same : (v w : LoggedView D) (n : Note) (image : Bytes) → HasNote v.journal w.journal n → w.durable ≡ v.durable → v.durable ≤ length v.journal.notes → v.failed ≡ None → MayBeLeft v image → MayBeLeft w image
@@ -83,7 +83,7 @@ module _ {D : Type 0} (may_leave : D → Area → List ℕ → Type 0) where
           stage = e.stage ∙ stands.stage;
           batches = stands.batches;
           on = on-same v.log w.log v.disk w.disk stands.batches e.area e.offset e.disk stands.on;
-          hold = stands.hold ∙ ap (λ (l : List ℕ). l ++ notes_bytes (durable_notes v)) (sym (first-same v.journal w.journal n e.note)) ∙ ap (λ (l : List Note). first_of w.journal ++ notes_bytes l) (sym same);
+          hold = (stands.hold.0, stands.hold.1 ∙ sym same, stands.hold.2 ∙ ap (λ (l : List ℕ). l ∷ map notes_bytes stands.hold.0) (sym (first-same v.journal w.journal n e.note)));
           tail = e.tail ∙ ap (λ (l : List ℕ). l ++ note_bytes n) stands.tail ∙ sym (bytes-push (drop v.durable v.journal.notes) n)
               ∙ ap notes_bytes (sym (ap (λ (d : ℕ). drop d w.journal.notes) e.durable ∙ ap (λ (l : List Note). drop v.durable l) e.note.noted ∙ drop-append-le v.durable v.journal.notes (n ∷ []) kept.inside));
           room = e.room;

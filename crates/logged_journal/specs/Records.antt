@@ -1,5 +1,5 @@
 -- The records of notes, as they stand in a log.
-use Rattle.std.specs.Prelude.{◌≡◌, ◌⊎◌, ℕ, ◌/◌, ◌++◌, [], List, Some, None, take}
+use Rattle.std.specs.Prelude.{◌≡◌, ◌⊎◌, ℕ, ◌/◌, ◌∷◌, [], List, map, Some, None, take}
 use Rattle.std.specs.List.{flat_map, last_or}
 use Rattle.std.specs.Option.{option_map_or}
 use Rattle.plain_model.specs.declared.calls.Call.TheVariants.{Commit}
@@ -28,9 +28,13 @@ notes_bytes notes = flat_map note_bytes notes
 abbrev pub first_of : JournalView → List ℕ
 first_of j = first_body_of j.history.slots (j.history.ids / 8)
 
--- these batches hold what the log begins with and the records of these notes, byte for byte
+-- the notes of these parts, one part behind another
+abbrev pub notes_in : List (List Note) → List Note
+notes_in parts = flat_map (λ (part : List Note). part) parts
+
+-- these batches are what the log begins with, and behind it one for each part of the notes, in order: the records of that part, byte for byte
 abbrev pub HoldRecords : JournalView → List Note → List (List ℕ) → Type 0
-HoldRecords j notes batches = flat_map (λ (body : List ℕ). body) batches ≡ first_of j ++ notes_bytes notes
+HoldRecords j notes batches = (parts : List (List Note)) × (notes_in parts ≡ notes) × (batches ≡ first_of j ∷ map notes_bytes parts)
 
 -- in this image of the disk the log holds the records of these notes, and no others
 pub record HasRecords (j : JournalView) (notes : List Note) (image : Bytes) : Type 0 where

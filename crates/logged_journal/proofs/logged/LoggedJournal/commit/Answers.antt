@@ -26,7 +26,7 @@ use Rattle.logged_journal.specs.View.{LoggedView}
 use Rattle.logged_journal.specs.Records.{MayHave}
 use Rattle.logged_journal.specs.Calls.{IsOfJournal, IsGranted, DoesCall, KeepsFrames, GoesOn}
 use Rattle.logged_journal.specs.Kept.{IsStanding}
-use Rattle.logged_journal.proofs.CommitDone.{commit-done, commit-logged, commit-falls, commit-owed, was-ok, on-ok, with_record, record-on, record-holds, record-bounded, record-moments, kept-failed, HasCommitted, counted-falls, kept-done}
+use Rattle.logged_journal.proofs.CommitDone.{commit-done, commit-logged, commit-falls, commit-owed, was-ok, on-ok, with_record, record-on, note-holds, record-bounded, record-moments, kept-failed, HasCommitted, counted-falls, kept-done}
 use Rattle.logged_journal.proofs.logged.LoggedJournal.commit.Given.{Over}
 use Rattle.logged_journal.proofs.logged.LoggedJournal.commit.Goals as goal
 
@@ -190,7 +190,7 @@ committed g c =
       log = log-is g c;
       on = on-ok c.force.result _ (succeeded g c) (c.force.ensures.on s.batches reached);
       have = on-ok c.force.result _ (succeeded g c) (c.force.ensures.images s.batches reached bounded);
-      hold = record-holds g.D.Disk.may_leave v log c.args.pass s c.append_record.ensures.log;
+      hold = note-holds g.D.Disk.may_leave v log c.args.pass (note g c) s c.append_record.ensures.log (commit-logged (end_of c.self.inside.journal.history).state (cells_of c.self.inside.journal) c.args.pass (grants g c).granted);
       all = ap (λ (l : List Note). length l) c.history.ensures.notes;
       lasting = durable-all c.apply-reply.new.self (subst (λ (l : List Note). map (λ n. n.entry) l ≡ c.apply-reply.new.self.history.entries) c.history.ensures.notes c.history.ensures.entries) c.history.ensures.safe;
       others = (refl, refl);
