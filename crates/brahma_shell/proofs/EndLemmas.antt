@@ -33,7 +33,7 @@ use Rattle.brahma_shell.specs.declared.replay.Stop.TheVariants as stop
 use Rattle.brahma_shell.specs.Follows.{FollowsAll, FollowsPart, FollowsToCommit}
 use Rattle.brahma_shell.specs.Growth.{IsSameStart}
 use Rattle.brahma_shell.specs.Points.{entries_in}
-use Rattle.brahma_shell.specs.Log.{GoesOn, WasLogFull}
+use Rattle.brahma_shell.specs.Log.{StaysRunning, WasLogFull}
 use Rattle.brahma_shell.specs.Replay.{StopsReplay, FailsReplay, LeavesMarks, LeavesLog, status_of, last_line}
 use Rattle.brahma_shell.specs.Top.{IsFreshStore, IsOfReplay, Outside, outside, Ends, Replayed, text_in, whole_text}
 use Rattle.brahma_shell.proofs.LogLemmas.{history-running}
@@ -423,7 +423,7 @@ module _ {S D : Type 0} (may_leave : D → Area → List ℕ → Type 0) (faults
   other-status : (status other : ℕ) → (status ≡ 0) ⊎ ((status ≡ 5) ⊎ (status ≡ 8)) → (other ≡ 0 → ⊥) → (other ≡ 5 → ⊥) → (other ≡ 8 → ⊥) → status ≡ other → ⊥
   other-status status other is a b c e = ⊎_elim (λ h. a (sym e ∙ h)) (λ h. ⊎_elim (λ i. b (sym e ∙ i)) (λ i. c (sym e ∙ i)) h) is
 
-  pub done-at : (status : ℕ) → AtEnd may_leave faults old v before after count → (status ≡ 0) ⊎ ((status ≡ 5) ⊎ (status ≡ 8)) → v.journal.marks ≡ old.journal.marks → GoesOn faults old v
+  pub done-at : (status : ℕ) → AtEnd may_leave faults old v before after count → (status ≡ 0) ⊎ ((status ≡ 5) ⊎ (status ≡ 8)) → v.journal.marks ≡ old.journal.marks → StaysRunning faults old v
       → FollowsAll before.left after.left v.journal → Appends before.written written (text_of v.journal.history.entries)
       → (status ≡ 0 → Appends written after.written (stored_line (end_of v.journal.history).state.stored))
       → (status ≡ 5 → AppendsFront written after.written (stored_line (end_of v.journal.history).state.stored) × Rose count after.write_faults)

@@ -3,33 +3,33 @@ use Rattle.std.proofs.Common.{◌≡◌, ℕ, None, refl, sym, subst, ◌∙◌,
 use Rattle.logged_journal.specs.View.{LoggedView, history_of}
 use Rattle.brahma_shell.specs.declared.replay.Stop.{Stop}
 use Rattle.brahma_shell.specs.declared.replay.Stop.TheVariants as stop
-use Rattle.brahma_shell.specs.Log.{GoesOn, FillsLog, LosesCommit}
+use Rattle.brahma_shell.specs.Log.{StaysRunning, TellsFull, LosesCommit}
 use Rattle.brahma_shell.specs.Replay.{LeavesLog}
 
 module _ {D : Type 0} (faults : D → ℕ) where
-  pub GoesOn-same : (v : LoggedView D) → v.failed ≡ None → GoesOn faults v v
-  GoesOn-same v e = record { running = e; log_full = refl; later = omega arith }
+  pub StaysRunning-same : (v : LoggedView D) → v.failed ≡ None → StaysRunning faults v v
+  StaysRunning-same v e = record { running = e; log_full = refl; later = omega arith }
 
-  pub GoesOn-trans : (a b d : LoggedView D) → GoesOn faults a b → GoesOn faults b d → GoesOn faults a d
-  GoesOn-trans a b d g h = record { running = h.running; log_full = h.log_full ∙ g.log_full; later = omega (arith, g.later, h.later) }
+  pub StaysRunning-trans : (a b d : LoggedView D) → StaysRunning faults a b → StaysRunning faults b d → StaysRunning faults a d
+  StaysRunning-trans a b d g h = record { running = h.running; log_full = h.log_full ∙ g.log_full; later = omega (arith, g.later, h.later) }
 
-  pub FillsLog-after : (a b d : LoggedView D) → GoesOn faults a b → FillsLog faults b d → FillsLog faults a d
-  FillsLog-after a b d g h = record { running = h.running; marked = h.marked; later = omega (arith, g.later, h.later) }
+  pub TellsFull-after : (a b d : LoggedView D) → StaysRunning faults a b → TellsFull faults b d → TellsFull faults a d
+  TellsFull-after a b d g h = record { running = h.running; marked = h.marked; later = omega (arith, g.later, h.later) }
 
-  pub LosesCommit-after : (client : ℕ) (a b d : LoggedView D) → GoesOn faults a b → LosesCommit faults client b d → LosesCommit faults client a d
+  pub LosesCommit-after : (client : ℕ) (a b d : LoggedView D) → StaysRunning faults a b → LosesCommit faults client b d → LosesCommit faults client a d
   LosesCommit-after client a b d g h = record { told = h.told; granted = h.granted; log_full = h.log_full ∙ g.log_full; rose = omega (arith, g.later, h.rose); later = omega (arith, g.later, h.later) }
 
-  pub LeavesLog-after : (s : Stop) (a b d : LoggedView D) → GoesOn faults a b → LeavesLog faults s b d → LeavesLog faults s a d
-  LeavesLog-after (stop.Line k) a b d g h = GoesOn-trans a b d g h
-  LeavesLog-after stop.Read a b d g h = GoesOn-trans a b d g h
-  LeavesLog-after stop.Write a b d g h = GoesOn-trans a b d g h
-  LeavesLog-after stop.Memory a b d g h = GoesOn-trans a b d g h
-  LeavesLog-after stop.Full a b d g h = GoesOn-trans a b d g h
-  LeavesLog-after stop.LogFull a b d g h = FillsLog-after a b d g h
-  LeavesLog-after stop.Fault a b d g h = GoesOn-trans a b d g h
-  LeavesLog-after stop.Stopped a b d g h = GoesOn-trans a b d g h
+  pub LeavesLog-after : (s : Stop) (a b d : LoggedView D) → StaysRunning faults a b → LeavesLog faults s b d → LeavesLog faults s a d
+  LeavesLog-after (stop.Line k) a b d g h = StaysRunning-trans a b d g h
+  LeavesLog-after stop.Read a b d g h = StaysRunning-trans a b d g h
+  LeavesLog-after stop.Write a b d g h = StaysRunning-trans a b d g h
+  LeavesLog-after stop.Memory a b d g h = StaysRunning-trans a b d g h
+  LeavesLog-after stop.Full a b d g h = StaysRunning-trans a b d g h
+  LeavesLog-after stop.LogFull a b d g h = TellsFull-after a b d g h
+  LeavesLog-after stop.Fault a b d g h = StaysRunning-trans a b d g h
+  LeavesLog-after stop.Stopped a b d g h = StaysRunning-trans a b d g h
 
-  pub write-leaves : (s : Stop) (a b : LoggedView D) → s ≡ stop.Write → GoesOn faults a b → LeavesLog faults s a b
+  pub write-leaves : (s : Stop) (a b : LoggedView D) → s ≡ stop.Write → StaysRunning faults a b → LeavesLog faults s a b
   write-leaves s a b e g = subst (λ (t : Stop). LeavesLog faults t a b) (sym e) g
 
 -- where the disk failed no commit the history is the journal's

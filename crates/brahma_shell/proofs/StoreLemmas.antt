@@ -3,7 +3,7 @@ use Rattle.std.proofs.Common.{◌≡◌, ℕ, ◌≤◌, true, [], None, refl, s
 use Rattle.core_store.specs.JournalView.{JournalView}
 use Rattle.logged_journal.specs.View.{LoggedView}
 use Rattle.brahma_shell.specs.Growth.{Grows, GrowsBy, BecomesFull}
-use Rattle.brahma_shell.specs.Log.{FillsLog}
+use Rattle.brahma_shell.specs.Log.{TellsFull}
 use Rattle.brahma_shell.proofs.GrowthLemmas.{Grows-none}
 
 pub marked-full : (j k : JournalView) → k ≡ record j { marks = record j.marks { trace = true } } → BecomesFull j k
@@ -26,7 +26,7 @@ looked i j e = subst (λ (x : JournalView). Grows i x []) (sym e) (record { note
     none = Grows-none i
 
 -- a call is answered that the log is full, and nothing else changes
-pub fills-log : {D : Type 0} (faults : D → ℕ) (v k : LoggedView D) → v.failed ≡ None → k ≡ record v { log_full = true } → GrowsBy v.journal k.journal [] × FillsLog faults v k
+pub fills-log : {D : Type 0} (faults : D → ℕ) (v k : LoggedView D) → v.failed ≡ None → k ≡ record v { log_full = true } → GrowsBy v.journal k.journal [] × TellsFull faults v k
 fills-log {D} faults v k r e = (
   same-memory v.journal k.journal (ap (λ (x : LoggedView D). x.journal) e),
   record {
@@ -40,7 +40,7 @@ fills-log {D} faults v k r e = (
     same = omega arith
 
 -- the collector has only looked, and is answered that the log is full
-pub fills-looked : {D : Type 0} (faults : D → ℕ) (v k : LoggedView D) (j : JournalView) → v.failed ≡ None → j ≡ record v.journal { round = j.round } → k ≡ record v { journal = j; log_full = true } → GrowsBy v.journal k.journal [] × FillsLog faults v k
+pub fills-looked : {D : Type 0} (faults : D → ℕ) (v k : LoggedView D) (j : JournalView) → v.failed ≡ None → j ≡ record v.journal { round = j.round } → k ≡ record v { journal = j; log_full = true } → GrowsBy v.journal k.journal [] × TellsFull faults v k
 fills-looked {D} faults v k j r e m = (
   record {
     more = [];

@@ -7,13 +7,13 @@ use Rattle.plain_model.specs.History.{end_of}
 use Rattle.logged_journal.specs.View.{LoggedView}
 
 -- the journal goes on: the disk failed no commit, and no call was answered that the log is full. The disk's count of faults doesn't fall
-pub record GoesOn {D : Type 0} (faults : D → ℕ) (old new : LoggedView D) : Type 0 where
+pub record StaysRunning {D : Type 0} (faults : D → ℕ) (old new : LoggedView D) : Type 0 where
   pub running : new.failed ≡ None
   pub log_full : new.log_full ≡ old.log_full
   pub later : faults old.disk ≤ faults new.disk
 
 -- a call was answered that the log is full
-pub record FillsLog {D : Type 0} (faults : D → ℕ) (old new : LoggedView D) : Type 0 where
+pub record TellsFull {D : Type 0} (faults : D → ℕ) (old new : LoggedView D) : Type 0 where
   pub running : new.failed ≡ None
   pub marked : new.log_full ≡ true
   pub later : faults old.disk ≤ faults new.disk

@@ -2,7 +2,7 @@
 ghost use Rattle.std.specs.Prelude.{◌≡◌, ◌+◌, ◌≤◌, ℕ, List, None, IfOk, OnOk, IfErr, IsErrOf};
 ghost use Rattle.std.specs.Io.KnownBytes.{Appends};
 ghost use Rattle.disk_model.specs.Causes.{Rose};
-ghost use Rattle.brahma_shell.specs.Log.{GoesOn};
+ghost use Rattle.brahma_shell.specs.Log.{StaysRunning};
 ghost use Rattle.brahma_shell.specs.Replay.{StepsOnce, Performs, StopsPerform, LeavesLog};
 
 use crate::replay::{Stop, print};
@@ -30,7 +30,7 @@ pub(crate) fn collect_step<W: Sink, D: Disk>(
     requires running { store.old.failed ≡ None }
     ensures ok { IfOk result (λ s. (text : List ℕ) × StepsOnce s store.old.journal store.new.journal text
         × Appends (W.written out.old) (W.written out.new) text) }
-    ensures goes_on { IfOk result (λ _. GoesOn D.faults store.old store.new) }
+    ensures goes_on { IfOk result (λ _. StaysRunning D.faults store.old store.new) }
     ensures stopped { IfErr result (λ s.
         StopsPerform s Line.CollectStep store.old.journal store.new.journal (W.written out.old) (W.written out.new)
         × LeavesLog D.faults s store.old store.new) }
@@ -60,7 +60,7 @@ pub(crate) fn collect_all<W: Sink, D: Disk>(store: &mut Store<D>, out: &mut W) -
     requires running { store.old.failed ≡ None }
     ensures ok { OnOk result ((text : List ℕ) × Performs store.old.journal store.new.journal Line.CollectAll text
         × Appends (W.written out.old) (W.written out.new) text) }
-    ensures goes_on { OnOk result (GoesOn D.faults store.old store.new) }
+    ensures goes_on { OnOk result (StaysRunning D.faults store.old store.new) }
     ensures stopped { IfErr result (λ s.
         StopsPerform s Line.CollectAll store.old.journal store.new.journal (W.written out.old) (W.written out.new)
         × LeavesLog D.faults s store.old store.new) }

@@ -4,7 +4,7 @@ ghost use Rattle.plain_model.specs.Machine.{IsInRange, transaction_of};
 ghost use Rattle.plain_model.specs.History.{end_of, left_to_undo};
 ghost use Rattle.script_lines.specs.Grammar.{IsClient};
 ghost use Rattle.brahma_shell.specs.Growth.{GrowsBy};
-ghost use Rattle.brahma_shell.specs.Log.{GoesOn};
+ghost use Rattle.brahma_shell.specs.Log.{StaysRunning};
 ghost use Rattle.brahma_shell.specs.Replay.{answer_text, Performs, StopsCall, LeavesLog, FailsCall};
 
 use crate::replay::Stop;
@@ -30,7 +30,7 @@ fn call<D: Disk>(store: &mut Store<D>, client: u8, call: Call) -> Result<Answer,
     requires running { store.old.failed ≡ None }
     ensures ok { IfOk result (λ a. (a.client ≡ client) × (a.call ≡ call)
         × GrowsBy store.old.journal store.new.journal (Entry.Call client call a.reply ∷ [])) }
-    ensures goes_on { IfOk result (λ _. GoesOn D.faults store.old store.new) }
+    ensures goes_on { IfOk result (λ _. StaysRunning D.faults store.old store.new) }
     ensures err { IfErr result (λ s.
         StopsCall s store.old.journal store.new.journal × LeavesLog D.faults s store.old store.new
         ⊎ FailsCall D.faults s client call store.old store.new) }
@@ -58,7 +58,7 @@ fn undo_all<D: Disk>(store: &mut Store<D>, client: u8) -> Result<(), Stop>
     ensures entries { GrowsBy store.old.journal store.new.journal
         (replicate (left_to_undo (end_of store.old.journal.history) client) (Entry.Undo client)
         ++ Entry.Call client Call.Abort Reply.Done ∷ []) }
-    ensures goes_on { GoesOn D.faults store.old store.new }
+    ensures goes_on { StaysRunning D.faults store.old store.new }
 {
     'steps: loop {
         match store.abort_step(client) {
@@ -74,7 +74,7 @@ pub(crate) fn ask<D: Disk>(store: &mut Store<D>, client: u8, asked: Call) -> Res
     requires line { IsClient client × IsInRange 6 asked × (asked ≡ Call.Abort → ⊥) }
     requires running { store.old.failed ≡ None }
     ensures ok { IfOk result (λ a. Performs store.old.journal store.new.journal (Line.Ask client asked) (answer_text (Some a))) }
-    ensures goes_on { IfOk result (λ _. GoesOn D.faults store.old store.new) }
+    ensures goes_on { IfOk result (λ _. StaysRunning D.faults store.old store.new) }
     ensures err { IfErr result (λ s.
         StopsCall s store.old.journal store.new.journal × LeavesLog D.faults s store.old store.new
         ⊎ FailsCall D.faults s client asked store.old store.new) }
@@ -87,7 +87,7 @@ pub(crate) fn abort<D: Disk>(store: &mut Store<D>, client: u8) -> Result<Answer,
     requires client { IsClient client }
     requires running { store.old.failed ≡ None }
     ensures ok { IfOk result (λ a. Performs store.old.journal store.new.journal (Line.Abort client) (answer_text (Some a))) }
-    ensures goes_on { IfOk result (λ _. GoesOn D.faults store.old store.new) }
+    ensures goes_on { IfOk result (λ _. StaysRunning D.faults store.old store.new) }
     ensures err { IfErr result (λ s.
         StopsCall s store.old.journal store.new.journal × LeavesLog D.faults s store.old store.new) }
 {
@@ -104,7 +104,7 @@ pub(crate) fn undo<D: Disk>(store: &mut Store<D>, client: u8) -> Result<Option<A
     requires client { IsClient client }
     requires running { store.old.failed ≡ None }
     ensures ok { IfOk result (λ a. Performs store.old.journal store.new.journal (Line.Undo client) (answer_text a)) }
-    ensures goes_on { IfOk result (λ _. GoesOn D.faults store.old store.new) }
+    ensures goes_on { IfOk result (λ _. StaysRunning D.faults store.old store.new) }
     ensures err { IfErr result (λ s.
         StopsCall s store.old.journal store.new.journal × LeavesLog D.faults s store.old store.new) }
 {

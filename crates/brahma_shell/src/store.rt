@@ -19,7 +19,7 @@ ghost use Rattle.logged_journal.specs.Records.{MayBeLeft, durable_notes};
 ghost use Rattle.script_lines.specs.Grammar.{IsClient};
 ghost use Rattle.brahma_shell.specs.Points.{point_of, entries_in, MayRest, IsExactAt};
 ghost use Rattle.brahma_shell.specs.Growth.{GrowsBy, GrowsByEvent, BecomesFull};
-ghost use Rattle.brahma_shell.specs.Log.{GoesOn, FillsLog, LosesCommit, WasLogFull};
+ghost use Rattle.brahma_shell.specs.Log.{StaysRunning, TellsFull, LosesCommit, WasLogFull};
 ghost use Rattle.brahma_shell.specs.Rest.{StaysQuiet};
 
 use cell_page::CELLS_OF_PAGE;
@@ -101,8 +101,8 @@ impl<D: Disk> Store<D> {
         ensures memory { result ≡ Reply.Memory → GrowsBy self.old.journal self.new.journal [] }
         ensures full { result ≡ Reply.TraceFull → BecomesFull self.old.journal self.new.journal }
         ensures entry { IsOfJournal result → IsEntered result → GrowsBy self.old.journal self.new.journal (Entry.Call client call.now result ∷ []) }
-        ensures goes_on { IsOfJournal result → GoesOn D.faults self.old self.new }
-        ensures log_full { result ≡ Reply.LogFull → GrowsBy self.old.journal self.new.journal [] × FillsLog D.faults self.old self.new }
+        ensures goes_on { IsOfJournal result → StaysRunning D.faults self.old self.new }
+        ensures log_full { result ≡ Reply.LogFull → GrowsBy self.old.journal self.new.journal [] × TellsFull D.faults self.old self.new }
         ensures fault { result ≡ Reply.DiskFault → (call.now ≡ Call.Commit) × (self.new.journal ≡ self.old.journal) × LosesCommit D.faults client self.old self.new }
         ensures stopped { (faults : ℕ) → result ≡ Reply.Stopped faults → ⊥ }
     {
@@ -115,7 +115,7 @@ impl<D: Disk> Store<D> {
         requires running { self.old.failed ≡ None }
         ensures undone { IfOk result (λ step. step ≡ AbortStep.Undone → (0 < left_to_undo (end_of self.old.journal.history) client) × GrowsBy self.old.journal self.new.journal (Entry.Undo client ∷ [])) }
         ensures ended { IfOk result (λ step. step ≡ AbortStep.Ended → (left_to_undo (end_of self.old.journal.history) client ≡ 0) × GrowsBy self.old.journal self.new.journal (Entry.Call client Call.Abort Reply.Done ∷ [])) }
-        ensures goes_on { GoesOn D.faults self.old self.new }
+        ensures goes_on { StaysRunning D.faults self.old self.new }
         ensures stopped { IfErr result (λ _. ⊥) }
     {
         self.framed.abort_step(client)
@@ -131,8 +131,8 @@ impl<D: Disk> Store<D> {
         ensures deleted { IfOk result (λ step. (id left : ℕ) → step ≡ Collect.Deleted id left → GrowsByEvent self.old.journal self.new.journal false left (Entry.Delete id)) }
         ensures exact { IfOk result (λ step. step ≡ Collect.Idle → (point_of self.old.journal).moment.state.active ≡ [] → IsExactAt (point_of self.old.journal)) }
         ensures quiet { IfOk result (λ step. IsEvent step → (point_of self.old.journal).moment.state.active ≡ [] → StaysQuiet self.old.journal self.new.journal (pops step)) }
-        ensures goes_on { IfOk result (λ _. GoesOn D.faults self.old self.new) }
-        ensures log_full { IsErrOf result CollectRefusal.LogFull → GrowsBy self.old.journal self.new.journal [] × FillsLog D.faults self.old self.new }
+        ensures goes_on { IfOk result (λ _. StaysRunning D.faults self.old self.new) }
+        ensures log_full { IsErrOf result CollectRefusal.LogFull → GrowsBy self.old.journal self.new.journal [] × TellsFull D.faults self.old self.new }
         ensures stopped { (faults : ℕ) → IsErrOf result (CollectRefusal.Stopped faults) → ⊥ }
     {
         // The journal is sound, and what its notes say: these calls hand the facts out.

@@ -1,13 +1,13 @@
 use Rattle.std.proofs.Common.{◌≡◌, ◌+◌, ◌^◌, cond, refl, sym, subst, ◌∙◌, arith}
 use Rattle.std.proofs.lemmas.Result.{err_from_is_err_and}
 use Rattle.brahma_shell.proofs.GcLemmas.{Collected, Collected-none, Collected-more, left-more, all-rest, all-popped, all-stops, counted-yes, counted-no, step-within, step-smaller}
-use Rattle.brahma_shell.proofs.LogLemmas.{GoesOn-same, GoesOn-trans, LeavesLog-after}
+use Rattle.brahma_shell.proofs.LogLemmas.{StaysRunning-same, StaysRunning-trans, LeavesLog-after}
 use Rattle.brahma_shell.proofs.QuietLemmas.{quiet-none, quiet-more}
 use Rattle.brahma_shell.proofs.gc.collect_all.Goals as goal
 use Rattle.brahma_shell.proofs.gc.collect_all.Goals.{then-step, else-step, else-step-eq0-via-then-step-eq0+else-popped-ids, else-step-eq0-via-else-step-eq0}
 
 pub steps-init : goal.steps-init
-steps-init g c = record { so_far = Collected-none c.args.store.now.journal (g.W.Sink.written c.args.out.now); within = omega arith; in_round = λ e. let some = c.ids-ids.ensures.some in absurd (omega (arith, e, some)); quiet = λ idle. quiet-none c.args.store.now.journal idle; goes_on = GoesOn-same g.D.Disk.faults c.args.store.now c.requires.running; later = omega arith }
+steps-init g c = record { so_far = Collected-none c.args.store.now.journal (g.W.Sink.written c.args.out.now); within = omega arith; in_round = λ e. let some = c.ids-ids.ensures.some in absurd (omega (arith, e, some)); quiet = λ idle. quiet-none c.args.store.now.journal idle; goes_on = StaysRunning-same g.D.Disk.faults c.args.store.now c.requires.running; later = omega arith }
 
 pub returns-in_err-step-clause-stopped : goal.returns-in_err-step-clause-stopped
 returns-in_err-step-clause-stopped g c =
@@ -55,6 +55,6 @@ steps-preserved g c =
       within = step-within b d s h.0 c.steps.popped c.if-step.popped c.ids-ids.result h.1 c.steps.invariant.within c.steps.invariant.in_round count;
       in_round = λ e. elim c.else-step-eq0.branch [ else-step-eq0-via-then-step-eq0+else-popped-ids w ↦ absurd (omega (arith, e, w.if-popped-ids.false)) | else-step-eq0-via-else-step-eq0 w ↦ omega (arith, left, w.if-step-eq0.false) ];
       quiet = λ idle. quiet-more b d s h.0 c.steps.popped c.if-step.popped (c.steps.invariant.quiet idle) h.1 count;
-      goes_on = GoesOn-trans g.D.Disk.faults c.args.store.now c.steps.store c.collect_step.new.store c.steps.invariant.goes_on c.in_ok-step.ensures.goes_on;
+      goes_on = StaysRunning-trans g.D.Disk.faults c.args.store.now c.steps.store c.collect_step.new.store c.steps.invariant.goes_on c.in_ok-step.ensures.goes_on;
       later = omega (arith, c.steps.invariant.later, c.in_ok-step.ensures.later);
     }

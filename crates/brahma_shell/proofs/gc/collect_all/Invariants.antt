@@ -1,6 +1,6 @@
 use Rattle.std.proofs.Common.{◌≡◌, [], ◌+◌, ◌-◌, ◌*◌, ◌^◌, ◌<◌, ◌≤◌}
 use Rattle.core_store.specs.JournalView.{last_left}
-use Rattle.brahma_shell.specs.Log.{GoesOn}
+use Rattle.brahma_shell.specs.Log.{StaysRunning}
 use Rattle.brahma_shell.specs.Points.{point_of}
 use Rattle.brahma_shell.proofs.GcLemmas.{Collected}
 use Rattle.brahma_shell.proofs.QuietLemmas.{IsQuietSoFar}
@@ -13,7 +13,7 @@ invariant-steps g l = record {
   within : l.popped ≤ l.ids;
   in_round : l.popped ≡ l.ids → 0 < last_left l.store.journal.notes;
   quiet : (point_of l.fn.store.journal).moment.state.active ≡ [] → IsQuietSoFar l.store.journal l.popped;
-  goes_on : GoesOn g.D.Disk.faults l.fn.store l.store;
+  goes_on : StaysRunning g.D.Disk.faults l.fn.store l.store;
   later : g.W.Sink.faults l.fn.out ≤ g.W.Sink.faults l.out;
 }
 

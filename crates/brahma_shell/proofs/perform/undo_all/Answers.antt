@@ -5,7 +5,7 @@ use Rattle.plain_model.specs.declared.calls.Reply.TheVariants.{Done}
 use Rattle.plain_model.specs.History.{end_of, left_to_undo}
 use Rattle.brahma_shell.proofs.AbortLemmas.{left_to_undo-undo, still_active, with_undos}
 use Rattle.brahma_shell.proofs.GrowthLemmas.{GrowsBy-trans, GrowsBy-end}
-use Rattle.brahma_shell.proofs.LogLemmas.{GoesOn-trans}
+use Rattle.brahma_shell.proofs.LogLemmas.{StaysRunning-trans}
 use Rattle.brahma_shell.proofs.perform.undo_all.Goals as goal
 
 pub steps-preserved : goal.steps-preserved
@@ -19,7 +19,7 @@ steps-preserved g c =
     let one = left_to_undo-undo (end_of old.history) client c.steps.invariant.active u.0 in
     record {
       undone = (i.0 + 1, with_undos c.args.store.now.journal old new client i.0 i.1 u.1, rw e (omega (arith, one, i.2)));
-      goes_on = GoesOn-trans g.D.Disk.faults c.args.store.now c.steps.store c.abort_step.new.self c.steps.invariant.goes_on c.abort_step.ensures.goes_on;
+      goes_on = StaysRunning-trans g.D.Disk.faults c.args.store.now c.steps.store c.abort_step.new.self c.steps.invariant.goes_on c.abort_step.ensures.goes_on;
       active = rw e (still_active (end_of old.history).state client c.steps.invariant.active);
     }
 

@@ -2,7 +2,7 @@ use Rattle.std.proofs.Common.{◌≡◌, None, sym, subst, []}
 use Rattle.logged_journal.specs.Calls.{IsOfJournal}
 use Rattle.logged_journal.specs.View.{LoggedView}
 use Rattle.brahma_shell.specs.Growth.{GrowsBy, BecomesFull}
-use Rattle.brahma_shell.specs.Log.{FillsLog}
+use Rattle.brahma_shell.specs.Log.{TellsFull}
 use Rattle.brahma_shell.proofs.StoreLemmas.{marked-full, fills-log}
 use Rattle.brahma_shell.proofs.store.Store.call.Goals as goal
 
@@ -18,4 +18,4 @@ returns-clause-log_full g c = λ e.
     let i = c.self.inside.framed in
     let k = c.call.new.self in
     let faults = g.D.Disk.faults in
-    subst (λ (x : LoggedView g.row.D.Denot). x.failed ≡ None → GrowsBy x.journal k.journal [] × FillsLog faults x k) c.self.view_is (λ r. fills-log faults i k r (c.call.ensures.log_marked e)) c.requires.running
+    subst (λ (x : LoggedView g.row.D.Denot). x.failed ≡ None → GrowsBy x.journal k.journal [] × TellsFull faults x k) c.self.view_is (λ r. fills-log faults i k r (c.call.ensures.log_marked e)) c.requires.running

@@ -18,7 +18,7 @@ use Rattle.quiet_rounds.proofs.Looks.{quiet-looks}
 use Rattle.brahma_shell.specs.Points.{point_of, entries_in, MayRest, IsExactAt}
 use Rattle.brahma_shell.specs.Growth.{GrowsBy, GrowsByEvent, BecomesFull}
 use Rattle.brahma_shell.specs.Rest.{StaysQuiet}
-use Rattle.brahma_shell.specs.Log.{FillsLog}
+use Rattle.brahma_shell.specs.Log.{TellsFull}
 use Rattle.brahma_shell.proofs.RestLemmas.{rests-exact, MakesStep, stays-quiet}
 use Rattle.brahma_shell.proofs.LookedLemmas.{looked-led, looked-lower, looked-opening, looked-limits, looked-in_step}
 use Rattle.brahma_shell.proofs.StepLemmas.{told-did, told-deleted, free-pops, grows-event, rests, nothing, full}
@@ -137,4 +137,4 @@ returns-clause-log_full g c = λ e.
     let k = c.collect_step-step.new.self in
     let fills = c.collect_step-step.ensures.log_full e in
     let faults = g.D.Disk.faults in
-    subst (λ (x : LoggedView g.row.D.Denot). x.failed ≡ None → GrowsBy x.journal k.journal [] × FillsLog faults x k) c.self.view_is (λ r. fills-looked faults i k fills.looked r fills.looks.same fills.marked) c.requires.running
+    subst (λ (x : LoggedView g.row.D.Denot). x.failed ≡ None → GrowsBy x.journal k.journal [] × TellsFull faults x k) c.self.view_is (λ r. fills-looked faults i k fills.looked r fills.looks.same fills.marked) c.requires.running
