@@ -4,7 +4,7 @@ ghost use Rattle.disk_model.specs.Causes.{HasCause};
 ghost use Rattle.disk_model.specs.Told.{KeepsAll, IsImage};
 ghost use Rattle.disk_model.specs.Time.{LeavesOnlyImages};
 ghost use Rattle.disk_model.specs.declared.area.Area.TheVariants.{Pages};
-ghost use Rattle.cell_page.specs.Format.{IsSlotCount, AreTyped, Spells, page_size};
+ghost use Rattle.cell_page.specs.Format.{IsSlotCount, IsPage, AreTyped, Spells, page_size};
 ghost use Rattle.cell_page.specs.Fields.{FailsAt};
 ghost use Rattle.page_area.specs.declared.refusal.PageRefusal.TheVariants.{Damaged};
 ghost use Rattle.page_area.specs.Place.{bytes_of_page, IsNoPage, HasDiskCause};
@@ -54,6 +54,7 @@ pub fn load<D: Disk, const SLOTS: usize>(
     requires count { IsSlotCount SLOTS }
     ensures page { IfOk result (λ cells. IfSome (D.content disk.old Pages) (λ area. Spells page cells (bytes_of_page SLOTS page area))) }
     ensures typed { IfOk result AreTyped }
+    ensures rules { IfOk result (IsPage page) }
     ensures no_page { (at : ℕ) → IsErrOf result (Damaged at) → IfSome (D.content disk.old Pages) (λ area. IsNoPage SLOTS page (bytes_of_page SLOTS page area)) }
     ensures place { (at : ℕ) → IsErrOf result (Damaged at) → IfSome (D.content disk.old Pages) (λ area. FailsAt SLOTS page (bytes_of_page SLOTS page area) at) }
     ensures keeps { KeepsAll D.content D.may_leave disk.old disk.new }

@@ -12,6 +12,8 @@ mod host_disk;
 #[cfg(test)]
 mod log;
 #[cfg(test)]
+mod openings;
+#[cfg(test)]
 mod pages;
 #[cfg(test)]
 mod plain_machine;

@@ -1,0 +1,9 @@
+pub mod Refusals
+pub mod Looks
+pub mod Walks
+pub mod Firsts
+pub mod Walked
+pub mod Found
+pub mod Loaded
+pub mod Replayed
+pub mod Store

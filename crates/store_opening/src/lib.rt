@@ -1,0 +1,22 @@
+//! What a disk holds of a store is read, tested and replayed, and none of it is changed.
+//!
+//! The tests come in the order of the format: the super area, the first batch of the log and its version, the rest of the
+//! log by itself, the pages without an image, and then each record on the cells. For the third the log is walked once with a
+//! replay that awaits so many images of each page that it looks at no cell, and for the last a second time, with the pages.
+#![tactic(auto)]
+
+mod areas;
+mod cells;
+mod first;
+mod found;
+mod open_refusal;
+mod pages;
+mod refusal;
+mod replayed;
+mod store;
+mod walk;
+
+pub use cells::read_cells;
+pub use open_refusal::{OpenRefusal, Place};
+pub use replayed::ReplayedLog;
+pub use store::{FoundStore, read_store};
