@@ -107,6 +107,7 @@ goes_on-before {D} u v w same on = record {
   running = on.running;
   log_full = on.log_full ∙ ap (λ (x : LoggedView D). x.log_full) same;
   peak = on.peak ∙ ap (λ (x : LoggedView D). max x.peak (bytes_counted w)) same;
+  opened = on.opened ∙ ap (λ (x : LoggedView D). x.opened) same;
 }
 
 pub all_go_on-before : {D : Type 0} (u v w : LoggedView D) (r : Result Collect CollectRefusal) → v ≡ record u { journal = v.journal } → IfOk r (λ _. GoesOn v w) → IfOk r (λ _. GoesOn u w)

@@ -67,6 +67,7 @@ impl<const SLOTS: usize, D: Disk> FramedJournal<SLOTS, D> {
         ensures running { IfOk result (λ j. (j.failed ≡ None) × (j.log_full ≡ false)) }
         ensures log { IfOk result (λ j. (j.log ≡ fresh_log) × (j.peak ≡ 15)) }
         ensures disk { IfOk result (λ j. j.disk ≡ disk) }
+        ensures opened { IfOk result (λ j. j.opened ≡ D.faults disk) }
         ensures back { IfErr result (λ e. e.1 ≡ disk) }
     {
         let (logged, frames) = LoggedJournal::fresh(alloc, disk, pages, limits)?;

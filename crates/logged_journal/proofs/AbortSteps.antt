@@ -122,4 +122,4 @@ module _ {D : Type 0} (may_leave : D → Area → List ℕ → Type 0) (slots : 
   goes-on-stepped is =
       let less = counted-less is in
       let peak = (is.kept.standing is.running).peak in
-      record { running = is.running; log_full = refl; peak = omega (arith, less, peak) }
+      record { running = is.running; log_full = refl; peak = omega (arith, less, peak); opened = refl }

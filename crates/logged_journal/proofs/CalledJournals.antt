@@ -227,7 +227,7 @@ module _ {D : Type 0} (may_leave : D → Area → List ℕ → Type 0) where
   goes-on-refused slots v new pass c r kept running refused does =
       let peak = (kept.standing running).peak in
       let owed = refused-owed slots v.journal new pass c r refused does in
-      record { running = running; log_full = refl; peak = omega (arith, owed, peak) }
+      record { running = running; log_full = refl; peak = omega (arith, owed, peak); opened = refl }
 
 -- ---- granted calls
 

@@ -146,4 +146,4 @@ module _ {D : Type 0} (may_leave : D → Area → List ℕ → Type 0) (slots : 
   kept-collected is = kept-event may_leave v (collected v j room) (note_of (is.does.event is.event)) is.kept (has-event is)
 
   pub goes-on-collected : IsCollected → GoesOn v (collected v j room)
-  goes-on-collected is = record { running = is.running; log_full = refl; peak = refl }
+  goes-on-collected is = record { running = is.running; log_full = refl; peak = refl; opened = refl }

@@ -1,6 +1,6 @@
 -- A commit that is granted: what it logs, and what a journal with its log keeps when it is done or failed.
-use Rattle.std.proofs.Common.{◌≡◌, ⊎_elim, ℕ, ◌+◌, ◌-◌, ◌≤◌, false, List, [], ◌∷◌, ◌++◌, length, map, take, drop, Option, Some, None, Result, Ok, Err, refl, sym, ◌∙◌, ap, subst, arith}
-use Rattle.std.specs.Prelude.{is_ok, is_err, OnOk, if◌then◌else◌, unwrap_or}
+use Rattle.std.proofs.Common.{◌≡◌, ⊎_elim, ℕ, ◌+◌, ◌-◌, ◌≤◌, true, false, List, [], ◌∷◌, ◌++◌, length, map, take, drop, Option, Some, None, Result, Ok, Err, refl, sym, ◌∙◌, ap, subst, arith}
+use Rattle.std.specs.Prelude.{is_ok, is_err, OnOk, OnErr, if◌then◌else◌, unwrap_or}
 use Rattle.std.specs.Option.{option_map_or}
 use Rattle.std.proofs.lemmas.List.{length-append, take_all, drop_all}
 use Rattle.disk_model.specs.declared.area.Area.{Area}
@@ -73,6 +73,10 @@ was-ok (Err x) a b e = absurd (cc (e))
 pub on-ok : {E : Type 0} (r : Result (Unit {0}) E) (P : Type 0) → is_err r ≡ false → OnOk r P → P
 on-ok (Ok u) P e has = has
 on-ok (Err x) P e has = absurd (cc (e))
+
+pub on-err : {E : Type 0} (r : Result (Unit {0}) E) (P : Type 0) → is_err r ≡ true → OnErr r P → P
+on-err (Ok u) P e has = absurd (cc (e))
+on-err (Err x) P e has = has
 
 -- ---- the log with the record of the commit
 

@@ -16,12 +16,12 @@ use Rattle.logged_journal.specs.Records.{notes_bytes, first_of, HoldRecords, dur
 use Rattle.logged_journal.specs.Kept.{IsKept}
 
 -- the view of a fresh one
-abbrev pub fresh_view : {D : Type 0} → JournalView → LogState → D → ℕ → LoggedView D
-fresh_view j log disk count = record { journal = j; log = log; disk = disk; durable = count; failed = None; log_full = false; peak = 15 }
+abbrev pub fresh_view : {D : Type 0} → JournalView → LogState → D → ℕ → ℕ → LoggedView D
+fresh_view j log disk count opened = record { journal = j; log = log; disk = disk; durable = count; failed = None; log_full = false; peak = 15; opened = opened }
 
 module _ {D : Type 0} (may_leave : D → Area → List ℕ → Type 0) where
-  by-none : (slots pages : ℕ) (j : JournalView) (disk : D) → j.history ≡ fresh_history slots (8 * pages) → j.notes ≡ [] → AreEntries j → IsSafe j → HasFreshLog may_leave slots pages disk → IsKept may_leave (fresh_view j fresh_log disk 0)
-  by-none slots pages j disk history notes entries safe on =
+  by-none : (slots pages : ℕ) (j : JournalView) (disk : D) (opened : ℕ) → j.history ≡ fresh_history slots (8 * pages) → j.notes ≡ [] → AreEntries j → IsSafe j → HasFreshLog may_leave slots pages disk → IsKept may_leave (fresh_view j fresh_log disk 0 opened)
+  by-none slots pages j disk opened history notes entries safe on =
       let ids : (8 * pages) / 8 ≡ pages = omega (arith) in
       let first-is : first_of j ≡ first_body_of slots pages = ap (λ (h : History). first_body_of h.slots (h.ids / 8)) history ∙ ap (first_body_of slots) ids in
       let hold : HoldRecords j [] (first_body_of slots pages ∷ []) = ([], refl, ap (λ (l : List ℕ). l ∷ []) (sym first-is)) in
@@ -47,8 +47,8 @@ module _ {D : Type 0} (may_leave : D → Area → List ℕ → Type 0) where
         full = λ is. absurd (cc (is));
       }
 
-  pub kept-fresh : (slots pages : ℕ) (j : JournalView) (log : LogState) (disk : D) (count : ℕ) → j.history ≡ fresh_history slots (8 * pages) → j.notes ≡ [] → AreEntries j → IsSafe j → log ≡ fresh_log → count ≡ 0
-      → HasFreshLog may_leave slots pages disk → IsKept may_leave (fresh_view j log disk count)
-  kept-fresh slots pages j log disk count history notes entries safe is none on =
-      subst (λ (l : LogState). IsKept may_leave (fresh_view j l disk count)) (sym is)
-      (subst (λ (n : ℕ). IsKept may_leave (fresh_view j fresh_log disk n)) (sym none) (by-none slots pages j disk history notes entries safe on))
+  pub kept-fresh : (slots pages : ℕ) (j : JournalView) (log : LogState) (disk : D) (count opened : ℕ) → j.history ≡ fresh_history slots (8 * pages) → j.notes ≡ [] → AreEntries j → IsSafe j → log ≡ fresh_log → count ≡ 0
+      → HasFreshLog may_leave slots pages disk → IsKept may_leave (fresh_view j log disk count opened)
+  kept-fresh slots pages j log disk count opened history notes entries safe is none on =
+      subst (λ (l : LogState). IsKept may_leave (fresh_view j l disk count opened)) (sym is)
+      (subst (λ (n : ℕ). IsKept may_leave (fresh_view j fresh_log disk n opened)) (sym none) (by-none slots pages j disk opened history notes entries safe on))

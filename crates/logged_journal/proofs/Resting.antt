@@ -62,7 +62,7 @@ module _ {D : Type 0} (may_leave : D → Area → List ℕ → Type 0) where
   goes-on-same v j round marks room same running kept =
       let below : bytes_counted v ≤ v.peak = (kept.standing running).peak in
       let counted : bytes_counted (record v { journal = j }) ≡ bytes_counted v = ap (λ (k : JournalView). bytes_counted (record v { journal = k })) same in
-      record { running = running; log_full = refl; peak = omega (arith, below, counted) }
+      record { running = running; log_full = refl; peak = omega (arith, below, counted); opened = refl }
 
 -- a step that makes no event leaves the journal but for its marks
 pub at-rest : (slots : ℕ) (old new : JournalView) (result : Collect) → DoesCollect slots old new result → (is_past_limit old 1 ≡ true) ⊎ ((old.queue ≡ []) × (old.round ≡ Closed))

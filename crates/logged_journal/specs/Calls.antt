@@ -76,6 +76,7 @@ pub record GoesOn {D : Type 0} (old new : LoggedView D) : Type 0 where
   pub running : new.failed ≡ None
   pub log_full : new.log_full ≡ old.log_full
   pub peak : new.peak ≡ max old.peak (bytes_counted new)
+  pub opened : new.opened ≡ old.opened
 
 -- the disk failed a commit that is granted: the journal stays as it is, and is stopped with the disk's count of faults, which rose
 pub record FailsCommit {D : Type 0} (faults : D → ℕ) (old new : LoggedView D) (pass : ℕ) (c : TransactionCall) : Type 0 where
@@ -86,6 +87,7 @@ pub record FailsCommit {D : Type 0} (faults : D → ℕ) (old new : LoggedView D
   pub rose : Rose (faults old.disk) (faults new.disk)
   pub durable : new.durable ≡ old.durable
   pub marks : (new.log_full ≡ old.log_full) × (new.peak ≡ old.peak)
+  pub opened : new.opened ≡ old.opened
 
 -- ---- steps of an abort
 

@@ -1,6 +1,7 @@
 -- What a journal with its log keeps.
-use Rattle.std.specs.Prelude.{◌≡◌, ℕ, ◌+◌, ◌<◌, ◌≤◌, true, List, length, drop, None}
+use Rattle.std.specs.Prelude.{◌≡◌, ℕ, ◌+◌, ◌<◌, ◌≤◌, true, List, length, drop, None, IfSome}
 use Rattle.disk_model.specs.declared.area.Area.{Area}
+use Rattle.disk_model.specs.Causes.{Rose}
 use Rattle.disk_model.specs.Told.{EachImage}
 use Rattle.gate_log.specs.declared.stage.Stage.TheVariants.{Standing}
 use Rattle.gate_log.specs.Batches.{most_bytes}
@@ -35,8 +36,13 @@ pub record IsKept {D : Type 0} (may_leave : D → Area → List ℕ → Type 0) 
   -- a call was answered that the log is full, which was nearly so
   pub full : v.log_full ≡ true → v.journal.limits.log < v.peak + 520
 
+-- the disk's count of faults is not below that at the opening, and where the disk failed a commit it rose since
+abbrev pub IsCounted : {D : Type 0} → (D → ℕ) → LoggedView D → Type 0
+IsCounted faults v = (v.opened ≤ faults v.disk) × IfSome v.failed (λ f. Rose v.opened f.faults)
+
 -- and the buffer into which a record is spelled has room for the longest one
-pub record IsLoggedInside {D : Type 0} (may_leave : D → Area → List ℕ → Type 0) (slots : ℕ) (v : LoggedView D) (capacity : ℕ) : Type 0 where
+pub record IsLoggedInside {D : Type 0} (may_leave : D → Area → List ℕ → Type 0) (faults : D → ℕ) (slots : ℕ) (v : LoggedView D) (capacity : ℕ) : Type 0 where
   pub size : IsSlotCount slots
   pub spelling : 25 ≤ capacity
+  pub counted : IsCounted faults v
   pub kept : IsKept may_leave v

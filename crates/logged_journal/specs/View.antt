@@ -23,6 +23,8 @@ pub record LoggedView (D : Type 0) : Type 0 where
   pub log_full : Bool
   -- the most bytes that were in use and owed at the opening or after a call
   pub peak : ℕ
+  -- the disk's count of faults at the opening
+  pub opened : ℕ
 
 -- the history: where the disk failed a commit, that is its last entry
 abbrev pub history_of : {D : Type 0} → LoggedView D → History

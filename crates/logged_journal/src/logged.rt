@@ -2,6 +2,7 @@
 ghost use Rattle.std.specs.Prelude.{◌≡◌, ◌≢◌, ◌↔◌, ℕ, ◌+◌, ◌*◌, ◌<◌, ◌≤◌, [], true, false, is_some, length, IfOk, IfErr, IfSome, OnOk, IsErrOf, IsSome, Some, None, ◌⊎◌};
 ghost use Rattle.plain_model.specs.Machine.{IsInRange, refusal_of, transaction_of};
 ghost use Rattle.plain_model.specs.History.{end_of};
+ghost use Rattle.disk_model.specs.Causes.{Rose};
 ghost use Rattle.disk_model.specs.Told.{EachImage};
 ghost use Rattle.disk_model.specs.Time.{LeavesOnlyImages};
 ghost use Rattle.cell_page.specs.Format.{IsSlotCount};
@@ -51,6 +52,8 @@ pub struct LoggedJournal<const SLOTS: usize, D: Disk> {
     failed: Option<FailedCommit>,
     log_full: bool,
     peak: u64,
+    /// The disk's count of faults at the opening.
+    opened: u64,
     /// One record at a time is spelled here.
     spelling: Vec<u8>,
 }
@@ -70,9 +73,10 @@ impl<const SLOTS: usize, D: Disk> Model for LoggedJournal<SLOTS, D> {
       failed = s.failed;
       log_full = s.log_full;
       peak = s.peak;
+      opened = s.opened;
     } };
 
-    ghost invariant = { λ s. IsLoggedInside D.may_leave SLOTS (record {
+    ghost invariant = { λ s. IsLoggedInside D.may_leave D.faults SLOTS (record {
       journal = s.journal;
       log = s.log;
       disk = s.disk.value;
@@ -80,6 +84,7 @@ impl<const SLOTS: usize, D: Disk> Model for LoggedJournal<SLOTS, D> {
       failed = s.failed;
       log_full = s.log_full;
       peak = s.peak;
+      opened = s.opened;
     }) (vec_capacity s.spelling) };
 }
 
@@ -103,6 +108,7 @@ impl<const SLOTS: usize, D: Disk> LoggedJournal<SLOTS, D> {
         ensures running { IfOk result (λ r. (r.0.failed ≡ None) × (r.0.log_full ≡ false)) }
         ensures log { IfOk result (λ r. (r.0.log ≡ fresh_log) × (r.0.peak ≡ 15)) }
         ensures disk { IfOk result (λ r. r.0.disk ≡ disk) }
+        ensures opened { IfOk result (λ r. r.0.opened ≡ D.faults disk) }
         ensures back { IfErr result (λ e. e.1 ≡ disk) }
         ensures frames { IfOk result (λ r. AreFresh pages r.1.items) }
         ensures agree { IfOk result (λ r. AllAgree (cells_of r.0.journal) r.1.items) }
@@ -111,6 +117,7 @@ impl<const SLOTS: usize, D: Disk> LoggedJournal<SLOTS, D> {
         if let Err(memory) = spelling.reserve(LONGEST_RECORD) {
             return Err((memory, disk));
         }
+        let opened = disk.faults();
         let disk = match Box::new(alloc, disk) {
             Ok(disk) => disk,
             Err(AllocFailed { value }) => return Err((AllocError, value)),
@@ -126,6 +133,7 @@ impl<const SLOTS: usize, D: Disk> LoggedJournal<SLOTS, D> {
                     failed: None,
                     log_full: false,
                     peak: 15,
+                    opened,
                     spelling,
                 };
                 Ok((logged, frames))
@@ -166,6 +174,9 @@ impl<const SLOTS: usize, D: Disk> LoggedJournal<SLOTS, D> {
     /// The commit that the disk failed, if one was. Then no call does anything any more.
     pub fn failed(&self) -> Option<FailedCommit>
         ensures failed { result ≡ self.now.failed }
+
+        // Its count of faults is above that at the opening, or stands at its type's end.
+        ensures counted { IfSome result (λ f. Rose self.now.opened f.faults) }
     {
         self.failed
     }

@@ -64,9 +64,9 @@ fn the_log_of_a_commit(rt: HostRuntime) -> Result<(), Fail> {
 #[test]
 fn a_store_is_stopped_by_a_failed_commit(rt: HostRuntime) -> Result<(), Fail> {
     let alloc = rt.alloc();
-    // The commit's two syncs.
-    for sync in [21, 23] {
-        let mut journal = fresh(alloc, Vec::from_array(alloc, [sync])?, Limits::GREATEST)?;
+    // The commit's four calls of the disk.
+    for call in [20, 21, 22, 23] {
+        let mut journal = fresh(alloc, Vec::from_array(alloc, [call])?, Limits::GREATEST)?;
         expect_reply(&rt, commit_an_object(&mut journal), Reply::DiskFault);
         let faults = journal.logged().disk().faults();
         let next = journal.call(2, &Call::Begin);

@@ -20,7 +20,7 @@ use Rattle.logged_journal.proofs.logged.LoggedJournal.abort_step.Goals.{After-ab
 abbrev before : (g : Over) (c : After-abort_step-step g) → LoggedView g.row.D.Denot
 before g c =
     let s = c.self.inside in
-    record { journal = s.journal; log = s.log; disk = s.disk.value; durable = s.durable; failed = s.failed; log_full = s.log_full; peak = s.peak }
+    record { journal = s.journal; log = s.log; disk = s.disk.value; durable = s.durable; failed = s.failed; log_full = s.log_full; peak = s.peak; opened = s.opened }
 
 does : (g : Over) (c : After-abort_step-step g) → DoesAbortStep g.row.SLOTS c.self.inside.journal c.abort_step-step.new.self c.args.pass c.abort_step-step.result
 does g c =
@@ -77,6 +77,7 @@ invariant_of-self g c =
     record {
       size = c.self.invariant.size;
       spelling = c.append_last.ensures.spelling;
+      counted = c.self.invariant.counted;
       kept = subst (λ (log : LogState). IsKept g.D.Disk.may_leave (record (before g d) { journal = c.abort_step-step.new.self; log = log })) (sym c.append_last.ensures.log)
           (kept-stepped g.D.Disk.may_leave g.row.SLOTS (before g d) c.abort_step-step.new.self c.args.pass c.abort_step-step.result (stepped g d));
     }

@@ -1,11 +1,12 @@
-use Rattle.std.proofs.Common.{◌≡◌, ◌∙◌, ℕ, ◌+◌, ◌≤◌, false, List, length, None, refl, sym, map, ap, subst, arith}
-use Rattle.std.specs.Prelude.{is_err}
+use Rattle.std.proofs.Common.{◌≡◌, ◌∙◌, ℕ, ◌+◌, ◌≤◌, false, List, length, Option, None, refl, sym, map, ap, subst, arith}
+use Rattle.std.specs.Prelude.{is_err, IfSome}
 use Rattle.plain_model.specs.declared.calls.Call.TheVariants as call
 use Rattle.plain_model.specs.declared.calls.Reply.TheVariants as reply
 use Rattle.plain_model.specs.declared.calls.Entry.TheVariants.{Call}
 use Rattle.plain_model.specs.History.{end_of}
 use Rattle.disk_model.specs.declared.area.Area.{Area}
 use Rattle.disk_model.specs.Areas.{Bytes}
+use Rattle.disk_model.specs.Causes.{Rose}
 use Rattle.disk_model.specs.Time.{LeavesOnlyImages}
 use Rattle.disk_model.proofs.Moments.{at_exit}
 use Rattle.log_record.specs.Spelling.{cell_record_bytes}
@@ -22,11 +23,12 @@ use Rattle.core_store.specs.RoundView.{left_of}
 use Rattle.core_store.specs.Steppings.{IsEntered}
 use Rattle.core_store.proofs.SafeLaws.{durable-all}
 use Rattle.logged_journal.specs.declared.logged.LoggedJournal.TheInside.{Inside}
+use Rattle.logged_journal.specs.declared.failed.FailedCommit.{FailedCommit}
 use Rattle.logged_journal.specs.View.{LoggedView}
 use Rattle.logged_journal.specs.Records.{MayHave}
 use Rattle.logged_journal.specs.Calls.{IsOfJournal, IsGranted, DoesCall, KeepsFrames, GoesOn}
 use Rattle.logged_journal.specs.Kept.{IsStanding}
-use Rattle.logged_journal.proofs.CommitDone.{commit-done, commit-logged, commit-falls, commit-owed, was-ok, on-ok, with_record, record-on, note-holds, record-bounded, record-moments, kept-failed, HasCommitted, counted-falls, kept-done}
+use Rattle.logged_journal.proofs.CommitDone.{commit-done, commit-logged, commit-falls, commit-owed, was-ok, on-ok, on-err, with_record, record-on, note-holds, record-bounded, record-moments, kept-failed, HasCommitted, counted-falls, kept-done}
 use Rattle.logged_journal.proofs.logged.LoggedJournal.commit.Given.{Over}
 use Rattle.logged_journal.proofs.logged.LoggedJournal.commit.Goals as goal
 
@@ -48,6 +50,7 @@ view_of a = record {
   failed = a.failed;
   log_full = a.log_full;
   peak = a.peak;
+  opened = a.opened;
 }
 
 -- it runs, and grants the commit
@@ -86,6 +89,17 @@ invariant_of-self g c =
     record {
       size = c.self.invariant.size;
       spelling = c.append_record.ensures.spelling;
+      counted = (
+        let before = c.self.invariant.counted.0 in
+            let value = ap g.D.Disk.faults c.as_mut.ensures.value in
+            let cause = c.force.ensures.cause.later in
+            omega (arith, before, value, cause),
+        let before = c.self.invariant.counted.0 in
+            let value = ap g.D.Disk.faults c.as_mut.ensures.value in
+            let rose = on-err c.force.result _ (sym c.is_err.ensures.value ∙ c.if-is_err.true) c.force.ensures.cause.failed in
+            let told = c.faults.ensures ∙ ap g.D.Disk.faults c.deref.ensures in
+            omega (arith, before, value, rose, told),
+      );
       kept = kept-failed g.D.Disk.may_leave (view_of c.self.inside) _ c.args.pass c.faults.result c.self.invariant.kept
           (running c.self.inside c.args.self.now c.self.view_is c.requires.running) refl refl refl refl refl (at_exit g.D.Disk.may_leave g.D.Disk.counts_now moments);
     }
@@ -155,6 +169,7 @@ after g c = record {
   failed = c.self.inside.failed;
   log_full = c.self.inside.log_full;
   peak = c.self.inside.peak;
+  opened = c.self.inside.opened;
 }
 
 succeeded : (g : Over) (c : goal.After-self-2-1 g) → is_err c.force.result ≡ false
@@ -202,6 +217,13 @@ invariant_of-self-2 g c =
     record {
       size = c.self.invariant.size;
       spelling = c.append_record.ensures.spelling;
+      counted = (
+        let before = c.self.invariant.counted.0 in
+            let value = ap g.D.Disk.faults c.as_mut.ensures.value in
+            let cause = c.force.ensures.cause.later in
+            omega (arith, before, value, cause),
+        subst (λ (o : Option FailedCommit). IfSome o (λ f. Rose c.self.inside.opened f.faults)) (sym (running c.self.inside c.args.self.now c.self.view_is c.requires.running)) tt,
+      );
       kept = kept-done g.D.Disk.may_leave (view_of c.self.inside) (after g c) c.args.pass (note g c) _ c.self.invariant.kept
           (running c.self.inside c.args.self.now c.self.view_is c.requires.running) (committed g c);
     }
@@ -223,6 +245,7 @@ returns-clause-goes_on g c is =
       running = running c.self.inside c.args.self.now c.self.view_is c.requires.running;
       log_full = refl;
       peak = omega (arith, counted, peak);
+      opened = refl;
     })
 
 pub returns-clause-frames : goal.returns-clause-frames

@@ -25,7 +25,7 @@ use Rattle.logged_journal.proofs.logged.LoggedJournal.log_call.Goals as goal
 
 -- the journal with its log, at the call
 abbrev view_of : {slots : ℕ} {D : Type 0} → Inside slots D → LoggedView D
-view_of a = record { journal = a.journal; log = a.log; disk = a.disk.value; durable = a.durable; failed = a.failed; log_full = a.log_full; peak = a.peak }
+view_of a = record { journal = a.journal; log = a.log; disk = a.disk.value; durable = a.durable; failed = a.failed; log_full = a.log_full; peak = a.peak; opened = a.opened }
 
 running : {slots : ℕ} {D : Type 0} (a : Inside slots D) (now : LoggedView D) → view_of a ≡ now → now.failed ≡ None → a.failed ≡ None
 running a now is runs = subst (λ v. v.failed ≡ None) (sym is) runs
@@ -60,6 +60,7 @@ invariant_of-self g c =
     record {
       size = c.self.invariant.size;
       spelling = c.self.invariant.spelling;
+      counted = c.self.invariant.counted;
       kept = kept-reserved g.D.Disk.may_leave (view_of c.self.inside) c.reserve.new.self _ _ c.reserve.ensures.log c.self.invariant.kept;
     }
 
@@ -100,6 +101,7 @@ invariant_of-self-in-Memory g c =
     record {
       size = c.self.invariant.size;
       spelling = c.self.invariant.spelling;
+      counted = c.self.invariant.counted;
       kept = subst (λ (j : JournalView). IsKept g.D.Disk.may_leave (record v { journal = j; log = c.reserve.new.self })) (sym (c.apply.ensures.memory c.in-Memory.is).0)
           (kept-reserved g.D.Disk.may_leave v c.reserve.new.self _ _ c.reserve.ensures.log c.self.invariant.kept);
     }
@@ -210,6 +212,7 @@ invariant_of-self-in_default g c =
     record {
       size = c.self.invariant.size;
       spelling = c.append_last.ensures.spelling;
+      counted = c.self.invariant.counted;
       kept = subst (P c.append_last.new.log) (sym (peak-is g c))
           (subst (λ (l : LogState). P l (max c.self.inside.peak (used l + bytes_owed (end_of c.apply.new.self.history)))) (sym (log-is g c))
           (kept-called g.D.Disk.may_leave g.row.SLOTS v c.apply.new.self c.args.pass c.args.call.now c.apply.result c.self.invariant.kept is));
@@ -228,5 +231,5 @@ returns-in_default g c =
       same = λ is. ⊎_elim (λ full. (e.marked full).1) (λ memory. (e.memory memory).1) is;
       disk = record { disk = ap (λ (w : LoggedView g.row.D.Denot). w.disk) c.self.view_is; durable = ap (λ (w : LoggedView g.row.D.Denot). w.durable) c.self.view_is };
       goes_on = subst (λ (old : LoggedView g.row.D.Denot). GoesOn old w) c.self.view_is
-          (record { running = running c.self.inside c.args.self.now c.self.view_is c.requires.running; log_full = refl; peak = peak-is g c });
+          (record { running = running c.self.inside c.args.self.now c.self.view_is c.requires.running; log_full = refl; peak = peak-is g c; opened = refl });
     }

@@ -24,7 +24,7 @@ use Rattle.logged_journal.proofs.logged.LoggedJournal.log_step.Goals.{In_default
 abbrev before : (g : Over) (c : In_default g) → LoggedView g.row.D.Denot
 before g c =
     let s = c.self.inside in
-    record { journal = s.journal; log = s.log; disk = s.disk.value; durable = s.durable; failed = s.failed; log_full = s.log_full; peak = s.peak }
+    record { journal = s.journal; log = s.log; disk = s.disk.value; durable = s.durable; failed = s.failed; log_full = s.log_full; peak = s.peak; opened = s.opened }
 
 -- the room in the log behind the reservation
 abbrev room : (g : Over) (c : In_default g) → ℕ
@@ -77,11 +77,12 @@ after g c log peak log_is peak_is =
 pub invariant_of-self : goal.invariant_of-self
 invariant_of-self g c =
     let s = c.self.inside in
-    let v : LoggedView g.row.D.Denot = record { journal = s.journal; log = s.log; disk = s.disk.value; durable = s.durable; failed = s.failed; log_full = s.log_full; peak = s.peak } in
+    let v : LoggedView g.row.D.Denot = record { journal = s.journal; log = s.log; disk = s.disk.value; durable = s.durable; failed = s.failed; log_full = s.log_full; peak = s.peak; opened = s.opened } in
     let room = if is_ok c.reserve.result then max s.log.room (c.bytes_owed.result + c.bytes_to_collect.result) else s.log.room in
     record {
       size = c.self.invariant.size;
       spelling = c.self.invariant.spelling;
+      counted = c.self.invariant.counted;
       kept = subst (λ (log : LogState). IsKept g.D.Disk.may_leave (record v { log = log })) (sym c.reserve.ensures.log)
           (kept-same g.D.Disk.may_leave v s.journal s.journal.round s.journal.marks room refl (room-more (is_ok c.reserve.result) s.log.room (c.bytes_owed.result + c.bytes_to_collect.result)) c.self.invariant.kept);
     }
@@ -95,12 +96,13 @@ returns-then-is_err-clause-frames g c =
 pub invariant_of-self-in-Memory : goal.invariant_of-self-in-Memory
 invariant_of-self-in-Memory g c =
     let s = c.self.inside in
-    let v : LoggedView g.row.D.Denot = record { journal = s.journal; log = s.log; disk = s.disk.value; durable = s.durable; failed = s.failed; log_full = s.log_full; peak = s.peak } in
+    let v : LoggedView g.row.D.Denot = record { journal = s.journal; log = s.log; disk = s.disk.value; durable = s.durable; failed = s.failed; log_full = s.log_full; peak = s.peak; opened = s.opened } in
     let room = if is_ok c.reserve.result then max s.log.room (c.bytes_owed.result + c.bytes_to_collect.result) else s.log.room in
     let same = (c.collect_step.ensures.memory c.in-Memory.is).0 in
     record {
       size = c.self.invariant.size;
       spelling = c.self.invariant.spelling;
+      counted = c.self.invariant.counted;
       kept = subst (λ (log : LogState). IsKept g.D.Disk.may_leave (record v { journal = c.collect_step.new.self; log = log })) (sym c.reserve.ensures.log)
           (kept-same g.D.Disk.may_leave v c.collect_step.new.self s.journal.round s.journal.marks room same (room-more (is_ok c.reserve.result) s.log.room (c.bytes_owed.result + c.bytes_to_collect.result)) c.self.invariant.kept);
     }
@@ -140,6 +142,7 @@ invariant_of-self-in_default g c =
     record {
       size = c.self.invariant.size;
       spelling = c.append_last.ensures.spelling;
+      counted = c.self.invariant.counted;
       kept = subst (λ (w : LoggedView g.row.D.Denot). IsKept g.D.Disk.may_leave w) (sym (after g d c.append_last.new.log c.max-self-inside.result c.append_last.ensures.log peak))
           (kept-collected g.D.Disk.may_leave g.row.SLOTS v c.collect_step.new.self c.collect_step.result (room g d) (collected_is g d));
     }

@@ -39,7 +39,7 @@ apply-requires g c =
 abbrev before : (g : Over) (c : goal.After-apply g) → LoggedView g.row.D.Denot
 before g c =
     let s = c.self.inside in
-    record { journal = s.journal; log = s.log; disk = s.disk.value; durable = s.durable; failed = s.failed; log_full = s.log_full; peak = s.peak }
+    record { journal = s.journal; log = s.log; disk = s.disk.value; durable = s.durable; failed = s.failed; log_full = s.log_full; peak = s.peak; opened = s.opened }
 
 does : (g : Over) (c : goal.After-apply g) → DoesCall g.row.SLOTS c.self.inside.journal c.apply.new.self c.args.pass c.args.call.now c.apply.result
 does g c =
@@ -66,6 +66,7 @@ invariant_of-self g c =
     record {
       size = c.self.invariant.size;
       spelling = c.self.invariant.spelling;
+      counted = c.self.invariant.counted;
       kept = kept-refused g.D.Disk.may_leave g.row.SLOTS (before g c) c.apply.new.self c.args.pass c.args.call.now c.apply.result c.self.invariant.kept running (refused g c) (does g c);
     }
 

@@ -15,7 +15,7 @@ use Rattle.logged_journal.proofs.logged.LoggedJournal.rest.Goals as goal
 abbrev before : (g : Over) (c : goal.After-collect_step g) → LoggedView g.row.D.Denot
 before g c =
     let s = c.self.inside in
-    record { journal = s.journal; log = s.log; disk = s.disk.value; durable = s.durable; failed = s.failed; log_full = s.log_full; peak = s.peak }
+    record { journal = s.journal; log = s.log; disk = s.disk.value; durable = s.durable; failed = s.failed; log_full = s.log_full; peak = s.peak; opened = s.opened }
 
 does : (g : Over) (c : goal.After-collect_step g) → DoesCollect g.row.SLOTS c.self.inside.journal c.collect_step.new.self c.collect_step.result
 does g c =
@@ -55,6 +55,7 @@ invariant_of-self g c =
     record {
       size = c.self.invariant.size;
       spelling = c.self.invariant.spelling;
+      counted = c.self.invariant.counted;
       kept = kept-same g.D.Disk.may_leave (before g c) c.collect_step.new.self c.self.inside.journal.round (same g c).0 c.self.inside.log.room (same g c).1 (omega (arith)) c.self.invariant.kept;
     }
 

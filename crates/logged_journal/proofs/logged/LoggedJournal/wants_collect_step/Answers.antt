@@ -7,10 +7,11 @@ use Rattle.logged_journal.proofs.logged.LoggedJournal.wants_collect_step.Goals a
 pub invariant_of-self : goal.invariant_of-self
 invariant_of-self g c =
     let s = c.self.inside in
-    let v : LoggedView g.row.D.Denot = record { journal = s.journal; log = s.log; disk = s.disk.value; durable = s.durable; failed = s.failed; log_full = s.log_full; peak = s.peak } in
+    let v : LoggedView g.row.D.Denot = record { journal = s.journal; log = s.log; disk = s.disk.value; durable = s.durable; failed = s.failed; log_full = s.log_full; peak = s.peak; opened = s.opened } in
     record {
       size = c.self.invariant.size;
       spelling = c.self.invariant.spelling;
+      counted = c.self.invariant.counted;
       kept = kept-same g.D.Disk.may_leave v c.wants_collect_step.new.self c.wants_collect_step.new.self.round s.journal.marks s.log.room c.wants_collect_step.ensures.same (omega (arith)) c.self.invariant.kept;
     }
 
