@@ -97,7 +97,7 @@ impl MemoryDisk {
 }
 
 impl Disk for MemoryDisk {
-    ghost use Rattle.disk_model.specs.Stays.{reads_stay, counts, only};
+    ghost use Rattle.disk_model.specs.Stays.{reads_stay, told_all, counts, only};
 
     ghost content = { content_of };
 
@@ -106,6 +106,8 @@ impl Disk for MemoryDisk {
     ghost faults = { λ s. s.calls.faults };
 
     ghost reads_may_stay = { reads_stay };
+
+    ghost told_together = { told_all };
 
     ghost moment = { moment_of };
 

@@ -1,5 +1,5 @@
 -- The disk of the operating system.
-use Rattle.std.specs.Prelude.{ℕ, ◌≤◌, List, Bool, true, Option, None, IfSome}
+use Rattle.std.specs.Prelude.{ℕ, ◌≤◌, List, Bool, true, Option, None, IfSome, IsSome}
 use Rattle.disk_model.specs.declared.area.Area.{Area}
 use Rattle.disk_model.specs.declared.area.Area.TheVariants.{Pages}
 use Rattle.disk_model.specs.Areas.{Bytes}
@@ -40,6 +40,9 @@ untold_since _ _ _ = ⊥
 -- the laws of a disk, where nothing is told
 pub reads_untold : (s : HostState) (area : Area) → IfSome (untold_content s area) (untold_left s area)
 reads_untold s area = tt
+
+pub together_untold : (s : HostState) (area other : Area) → IfSome (untold_content s area) (λ _. IsSome (untold_content s other))
+together_untold s area other = tt
 
 pub counts_untold : (s : HostState) (t : ℕ) (b : Bytes) → t ≤ one_moment s → IsImage untold_left s b → untold_since s t b
 counts_untold s t b le image = image Pages

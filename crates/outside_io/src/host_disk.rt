@@ -103,7 +103,7 @@ impl<R: Files<File = File> + Drop> HostDisk<R> {
 }
 
 impl<R: Files<File = File> + Drop + Send> Disk for HostDisk<R> {
-    ghost use Rattle.outside_io.specs.HostDisk.{untold_content, untold_left, one_moment, untold_since, reads_untold, counts_untold, only_untold};
+    ghost use Rattle.outside_io.specs.HostDisk.{untold_content, untold_left, one_moment, untold_since, reads_untold, together_untold, counts_untold, only_untold};
 
     ghost content = { untold_content };
 
@@ -112,6 +112,8 @@ impl<R: Files<File = File> + Drop + Send> Disk for HostDisk<R> {
     ghost faults = { λ s. s.faults };
 
     ghost reads_may_stay = { reads_untold };
+
+    ghost told_together = { together_untold };
 
     ghost moment = { one_moment };
 
