@@ -7,6 +7,7 @@ use Rattle.plain_model.specs.Machine.{is_stored}
 use Rattle.plain_model.specs.History.{History, Moment, start_of, next}
 use Rattle.cell_model.specs.Cells.{Cell, cell_at, is_live}
 use Rattle.store_model.specs.Core.{Ref, Core, is_named}
+use Rattle.restart_laws.specs.Graph.{zeros_of}
 use Rattle.core_store.specs.declared.note.Note.{Note}
 use Rattle.core_store.specs.Logged.{after_logged}
 use Rattle.core_store.specs.References.{references_after}
@@ -34,9 +35,9 @@ after_note p n = record { slots = p.slots; cells = after_logged p.slots p.cells 
 abbrev pub after_notes : Point → List Note → Point
 after_notes p notes = fold after_note p notes
 
--- the point before the first note of a history that starts from these cells: nobody names anything, and no round is open
+-- the point before the first note of a history that starts from these cells: nobody names anything, what no strong pointer leads to is queued, and no round is open
 abbrev pub start_with : History → List Cell → Point
-start_with h cells = record { slots = h.slots; cells = cells; moment = start_of h; refs = []; left = 0; opening = record { cells = cells; moment = start_of h; refs = []; queue = []; round = None }; notes = [] }
+start_with h cells = record { slots = h.slots; cells = cells; moment = start_of h; refs = []; left = 0; opening = record { cells = cells; moment = start_of h; refs = []; queue = zeros_of cells; round = None }; notes = [] }
 
 -- the point before a journal's first note
 abbrev pub start_point : JournalView → Point

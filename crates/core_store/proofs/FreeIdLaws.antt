@@ -7,7 +7,7 @@ use Rattle.std.specs.BTreeMap.{is_at}
 use Rattle.std.proofs.lemmas.Bool.Decides.{nat_tests}
 use Rattle.std.proofs.lemmas.List.Folds.{list_any-append}
 use Rattle.plain_laws.proofs.Ids.{at_eq}
-use Rattle.core_store.specs.FreeIds.{all_free, IsFreeInside, IsLeastOf, Frees, Takes, AreFrom2}
+use Rattle.core_store.specs.FreeIds.{all_free, IsFreeInside, IsLeastOf, Frees, Takes}
 
 -- a range has the numbers from its first one on
 in_range : (k n a : ℕ) → list_any (is_at (nat_cmp k)) (range_with_len a n) ≡ (nat_le a k && nat_lt k (a + n))
@@ -143,10 +143,6 @@ least-next freed reached limit none some = record {
 pub none-free : (freed : List ℕ) (reached limit : ℕ) → freed ≡ [] → limit ≤ reached → all_free freed reached limit ≡ []
 unfolding all_free
 none-free freed reached limit none all = let z : limit - reached ≡ 0 = omega arith in ap (λ xs. xs ++ range_with_len (reached + 1) (limit - reached)) none ∙ ap (λ n. range_with_len (reached + 1) n) z
-
--- of a fresh store, those from 2 on
-pub free-fresh : (freed : List ℕ) (ids : ℕ) → freed ≡ [] → AreFrom2 ids (all_free freed 1 ids)
-free-fresh freed ids none id = free-at freed 1 ids id ∙ ap (λ xs. list_any (is_at (nat_cmp id)) xs || (nat_lt 1 id && nat_le id ids)) none
 
 -- ---- whether an id is free
 

@@ -1,55 +1,26 @@
--- The cells, the pages and the marks of a fresh store.
-use Rattle.std.proofs.Common.{◌≡◌, ◌≢◌, ℕ, zero, suc, ◌+◌, ◌-◌, ◌*◌, ◌<◌, Bool, true, false, List, [], ◌∷◌, ◌++◌, length, map, take, drop, get_or, replicate, Some, refl, sym, ap, ◌∙◌, subst, arith, add-one, cond, ne_eqb, ⊎_elim, Ordering}
-use Rattle.std.specs.Prelude.{◌&&◌, ◌||◌, not, nat_lt, nat_le, slice_get}
+-- The pages and the cells of a fresh store.
+use Rattle.std.proofs.Common.{◌≡◌, ◌≢◌, ℕ, zero, suc, ◌+◌, ◌-◌, ◌*◌, ◌<◌, Bool, true, false, List, [], ◌∷◌, ◌++◌, length, map, get_or, replicate, refl, sym, ap, ◌∙◌, subst, arith, cond, ne_eqb}
 use Rattle.std.specs.List.{flat_map}
-use Rattle.std.specs.Ordering.{is_eq}
-use Rattle.std.proofs.Math.Bool.{and-true}
-use Rattle.std.proofs.lemmas.Bool.{lt-ltb}
-use Rattle.std.proofs.Math.Seq.{take-append_seam, drop-append-add}
-use Rattle.std.proofs.lemmas.List.{map-append, replicate-append-replicate}
-use Rattle.std.proofs.lemmas.List.Concat.{flat_map-cons}
-use Rattle.std.proofs.lemmas.Option.{slice_get_cases, get_or_from_slice_get}
+use Rattle.std.proofs.lemmas.List.{replicate-append-replicate}
 use Rattle.plain_model.specs.declared.object.Object.{Object}
 use Rattle.plain_model.specs.Graphs.{root, blank}
+use Rattle.plain_model.specs.History.{History}
 use Rattle.cell_model.specs.Cells.{Pointer, Cell as StoredCell, blank_cell, object_of}
-use Rattle.store_model.specs.Fresh.{fresh_root, fresh_cells, fresh_moment}
-use Rattle.store_model.proofs.StepLaws.{cmp-above}
+use Rattle.cell_model.specs.Consistent.{AreConsistent}
+use Rattle.cell_model.specs.Graph.{graph_from, graph_of}
+use Rattle.store_model.specs.Fresh.{fresh_root, fresh_cells}
+use Rattle.store_model.proofs.FreshSound.{fresh-sound}
 use Rattle.store_model.proofs.MakeLaws.{blank-object}
+use Rattle.restart_laws.specs.Graph.{zeros_from, zeros_of}
 use Rattle.cell_page.specs.declared.cell.Cell.{Cell}
 use Rattle.cell_page.specs.Format.{IsPage, first_id, free_cell, fresh_cell, fresh_page}
-use Rattle.cell_page.specs.Stored.{cell_of, HoldsPage}
+use Rattle.cell_page.specs.Stored.{cell_of}
 use Rattle.cell_page.proofs.PointerLemmas.{pointers_from-replicate}
 use Rattle.core_store.specs.declared.frame.Frame.{Frame}
-use Rattle.cell_model.specs.Graph.{graph_from, graph_of}
-use Rattle.core_store.specs.Fresh.{AreFresh, store_of}
-use Rattle.core_store.specs.Frames.{AllAgree}
-use Rattle.core_store.specs.Changes.{has_no_strong}
-use Rattle.core_store.specs.Stands.{is_free}
+use Rattle.core_store.specs.Fresh.{fresh_history, AreFresh, store_of}
+use Rattle.core_store.specs.Opening.{ArePages, stored_in, opened_history}
 use Rattle.core_store.proofs.FreshPages.{fresh_page-rules}
-
--- ---- the cells of frames stand by their pages
-
-pages-cons : {slots : ℕ} (f : Frame slots) (fs : List (Frame slots)) → map cell_of (flat_map (λ f. f.page) (f ∷ fs)) ≡ map cell_of f.page ++ map cell_of (flat_map (λ f. f.page) fs)
-pages-cons f fs = ap (map cell_of) (flat_map-cons (λ f. f.page) f fs) ∙ map-append cell_of f.page (flat_map (λ f. f.page) fs)
-
--- eight cells, and those behind them
-take-eight : (xs ys : List StoredCell) → length xs ≡ 8 → take 8 (xs ++ ys) ≡ xs
-take-eight xs ys eight = subst (λ (n : ℕ). take n (xs ++ ys) ≡ xs) eight (take-append_seam xs ys)
-
-drop-eight : (n : ℕ) (xs ys : List StoredCell) → length xs ≡ 8 → drop (8 + n) (xs ++ ys) ≡ drop n ys
-drop-eight n xs ys eight = subst (λ (k : ℕ). drop (k + n) (xs ++ ys) ≡ drop n ys) eight (drop-append-add xs ys n)
-
--- each frame's cells stand at the place of its number
-at-number : {slots : ℕ} (frames : List (Frame slots)) (number : ℕ) (d : Frame slots) → ((i : ℕ) (e : Frame slots) → i < length frames → length (map cell_of (get_or frames i e).page) ≡ 8) → number < length frames
-    → take 8 (drop (8 * number) (map cell_of (flat_map (λ f. f.page) frames))) ≡ map cell_of (get_or frames number d).page
-at-number [] number d eights within = absurd (omega arith)
-at-number (f ∷ fs) zero d eights within = ap (take 8) (pages-cons f fs) ∙ take-eight (map cell_of f.page) (map cell_of (flat_map (λ f. f.page) fs)) (eights 0 f (omega arith))
-at-number (f ∷ fs) (suc number) d eights within =
-    let next : 8 * suc number ≡ 8 + 8 * number = omega arith in
-    ap (λ (n : ℕ). take 8 (drop n (map cell_of (flat_map (λ f. f.page) (f ∷ fs))))) next
-    ∙ ap (λ (cs : List StoredCell). take 8 (drop (8 + 8 * number) cs)) (pages-cons f fs)
-    ∙ ap (take 8) (drop-eight (8 * number) (map cell_of f.page) (map cell_of (flat_map (λ f. f.page) fs)) (eights 0 f (omega arith)))
-    ∙ at-number fs number d (λ i e l. eights (suc i) e (omega arith)) (omega arith)
+use Rattle.core_store.proofs.OpeningIds.{pages-cons}
 
 -- ---- what they are
 
@@ -111,47 +82,39 @@ module _ {slots : ℕ} (pages : ℕ) (frames : List (Frame slots)) (fresh : AreF
           ∙ ap (λ (cs : List StoredCell). fresh_root slots ∷ (replicate 7 (blank_cell false slots) ++ cs)) there
           ∙ ap (λ (cs : List StoredCell). fresh_root slots ∷ cs) (replicate-append-replicate 7 (8 * length fs) (blank_cell false slots) ∙ ap (λ (n : ℕ). replicate n (blank_cell false slots)) long))
 
-  page-long : (i : ℕ) (d : Frame slots) → i < length frames → length (map cell_of (get_or frames i d).page) ≡ 8
-  page-long i d l = ap (λ (cs : List (Cell slots)). length (map cell_of cs)) (fresh.each i d (omega (arith, l, fresh.count)))
+  -- each of its pages obeys the rules
+  pub fresh-pages : ArePages frames
+  fresh-pages = record { each = λ page d l. subst (λ (cs : List (Cell slots)). IsPage page cs) (sym (fresh.each page d (omega (arith, l, fresh.count)))) (fresh_page-rules slots page) }
 
-  -- its frames are its pages
-  pub fresh-agree : AllAgree (store_of (flat_map (λ f. f.page) frames)) frames
-  fresh-agree page frame is = ⊎_elim there (λ past. absurd (let no = past.1 in cc)) (slice_get_cases frames page).1
-    where
-      there : ((x : Frame slots) × (page < length frames) × (slice_get frames page ≡ Some x) × (get_or frames page x ≡ x)) → HoldsPage (store_of (flat_map (λ f. f.page) frames)) page frame.page
-      there h =
-          let same : frame ≡ get_or frames page frame = sym (get_or_from_slice_get frames page frame frame is) in
-          let fresh_is : frame.page ≡ fresh_page slots page = ap (λ (f : Frame slots). f.page) same ∙ fresh.each page frame (let l = h.1 in omega (arith, l, fresh.count)) in
-          record {
-            rules = subst (λ (cs : List (Cell slots)). IsPage page cs) (sym fresh_is) (fresh_page-rules slots page);
-            same = ap (λ (f : Frame slots). map cell_of f.page) same ∙ sym (ap (λ (n : ℕ). take 8 (drop n (store_of (flat_map (λ f. f.page) frames)))) (add-one (8 * page)) ∙ at-number frames page frame page-long h.1);
-          }
+  -- its cells are consistent
+  pub fresh-consistent : 0 < pages → AreConsistent slots (8 * length frames) (stored_in frames)
+  fresh-consistent above =
+      let more : suc (8 * pages - 1) ≡ 8 * length frames = omega (arith, above, fresh.count) in
+      subst (λ (cs : List StoredCell). AreConsistent slots (8 * length frames) cs) (sym (fresh-cells above))
+      (subst (λ n. AreConsistent slots n (fresh_cells slots (8 * pages - 1))) more (fresh-sound slots (8 * pages - 1)).consistent)
 
--- ---- its graph, its marks and its free ids
+-- ---- its graph and its queue
 
 no_graph : (slots id n : ℕ) → graph_from id (replicate n (blank_cell false slots)) ≡ []
 no_graph slots id zero = refl
 no_graph slots id (suc n) = no_graph slots (suc id) n
 
 -- the graph is the root alone
-pub fresh-graph : (slots more : ℕ) → graph_of (fresh_cells slots more) ≡ blank slots root ∷ []
+fresh-graph : (slots more : ℕ) → graph_of (fresh_cells slots more) ≡ blank slots root ∷ []
 fresh-graph slots more = ap (λ (os : List Object). object_of 1 (fresh_root slots) ∷ os) (no_graph slots 2 more) ∙ ap (λ (o : Object). o ∷ []) (blank-object slots 1)
 
-all-marked : (slots n : ℕ) → map has_no_strong (replicate n (blank_cell false slots)) ≡ replicate n true
-all-marked slots zero = refl
-all-marked slots (suc n) = ap (λ (bs : List Bool). true ∷ bs) (all-marked slots n)
+no_zeros : (slots id n : ℕ) → zeros_from id (replicate n (blank_cell false slots)) ≡ []
+no_zeros slots id zero = refl
+no_zeros slots id (suc n) = no_zeros slots (suc id) n
 
--- a strong pointer leads to the root alone
-pub fresh-marks : (slots more : ℕ) → map has_no_strong (fresh_cells slots more) ≡ true ∷ false ∷ replicate more true
-fresh-marks slots more = ap (λ (bs : List Bool). true ∷ false ∷ bs) (all-marked slots more)
+module _ {slots : ℕ} (pages : ℕ) (frames : List (Frame slots)) (fresh : AreFresh pages frames) (above : 0 < pages) where
+  -- its history
+  pub fresh-history : opened_history slots (8 * length frames) (stored_in frames) ≡ fresh_history slots (8 * pages)
+  fresh-history =
+      let graph : graph_of (stored_in frames) ≡ blank slots root ∷ [] = ap graph_of (fresh-cells pages frames fresh above) ∙ fresh-graph slots (8 * pages - 1) in
+      ap (λ n. opened_history slots (8 * n) (stored_in frames)) fresh.count
+      ∙ ap (λ (g : List Object). let h : History = record { ids = 8 * pages; slots = slots; opening = g; entries = [] } in h) graph
 
--- all ids but the root are free
-pub fresh-free_ids : (slots more id : ℕ) → is_free (fresh_moment slots more).state id ≡ (nat_lt 1 id && nat_le id (suc more))
-fresh-free_ids slots more zero = refl
-fresh-free_ids slots more (suc zero) = elim (nat_le 1 (suc more)) as (λ (b : Bool). (b && false) ≡ false) [ true ↦ refl | false ↦ refl ]
-fresh-free_ids slots more (suc (suc k)) =
-    let few = nat_le (suc (suc k)) (suc more) in
-    ap (λ (o : Ordering). nat_lt 0 (suc (suc k)) && few && not (is_eq o || false)) (cmp-above (suc (suc k)) 1 (omega arith))
-    ∙ ap (λ (b : Bool). b && few && true) (lt-ltb 0 (suc (suc k)) (omega arith))
-    ∙ and-true few
-    ∙ sym (ap (λ (b : Bool). b && few) (lt-ltb 1 (suc (suc k)) (omega arith)))
+  -- nothing is queued
+  pub fresh-queue : zeros_of (stored_in frames) ≡ []
+  fresh-queue = ap zeros_of (fresh-cells pages frames fresh above) ∙ no_zeros slots 2 (8 * pages - 1)

@@ -67,14 +67,6 @@ fresh_page-rules slots page = record { eight = refl; each = λ place d l. subst 
     at : (place : ℕ) (d : Cell slots) → place < 8 → get_or (fresh_page slots page) place d ≡ fresh_cell slots (first_id page + place)
     at place d l = get_or-map (λ p. fresh_cell slots (first_id page + p)) eight place 0 d l ∙ ap (λ (p : ℕ). fresh_cell slots (first_id page + p)) (number place l)
 
-module _ {slots : ℕ} (pages : ℕ) (frames : List (Frame slots)) (fresh : AreFresh pages frames) (number : ℕ) (frame : Frame slots) (is : frame ≡ get_or frames number frame) (within : number < length frames) where
-  -- a frame of a fresh store has the fresh page of its number
-  pub frame-page : frame.page ≡ fresh_page slots number
-  frame-page = ap (λ (f : Frame slots). f.page) is ∙ fresh.each number frame (omega (arith, within, fresh.count))
-
-  pub frame-rules : IsPage number frame.page
-  frame-rules = subst (λ (cs : List (Cell slots)). IsPage number cs) (sym frame-page) (fresh_page-rules slots number)
-
 -- ---- the cells of frames
 
 -- those of one frame more

@@ -6,9 +6,11 @@ use Rattle.plain_model.specs.declared.calls.Entry.{Entry}
 use Rattle.plain_model.specs.History.{start_of, moment_after, IsCrashConsistent}
 use Rattle.plain_laws.specs.Sound.{is_crash}
 use Rattle.store_model.specs.Core.{Core}
+use Rattle.cell_model.specs.Cells.{Cell}
 use Rattle.cell_model.specs.Records.{Record}
 use Rattle.store_model.proofs.Lists.{each-append}
 use Rattle.cell_model.specs.Graph.{graph_of}
+use Rattle.restart_laws.specs.Graph.{zeros_of}
 use Rattle.restart_laws.specs.Restored.{opened}
 use Rattle.restart_laws.specs.Restartable.{IsRestartable}
 use Rattle.restart_laws.specs.Settled.{acknowledges, IsUnpromised}
@@ -28,8 +30,8 @@ durable-all j entries h = record {
 
 -- an opening that is the same
 opened-as : (j k : JournalView) (es : List Entry) (rs : List (Option Record)) (c : Core) → k.opening ≡ j.opening → start_of k.history ≡ start_of j.history → IsRestartable (opening_of j) es rs c → IsRestartable (opening_of k) es rs c
-opened-as j k es rs c o m h = subst (λ cells. IsRestartable (record { cells = cells; moment = start_of k.history; refs = []; queue = []; round = None }) es rs c) (sym o)
-    (subst (λ m. IsRestartable (record { cells = j.opening; moment = m; refs = []; queue = []; round = None }) es rs c) (sym m) h)
+opened-as j k es rs c o m h = subst (λ (cells : List Cell). IsRestartable (record { cells = cells; moment = start_of k.history; refs = []; queue = zeros_of cells; round = None }) es rs c) (sym o)
+    (subst (λ m. IsRestartable (record { cells = j.opening; moment = m; refs = []; queue = zeros_of j.opening; round = None }) es rs c) (sym m) h)
 
 pub durable-kept : DurableKeptLaw
 durable-kept j k x «first» d n u = record {

@@ -3,15 +3,16 @@ use Rattle.std.specs.Prelude.{◌≡◌, ℕ, zero, suc, ◌+◌, ◌-◌, ◌�
 use Rattle.std.specs.List.{list_any, range_with_len}
 use Rattle.std.specs.Ordering.{nat_cmp}
 use Rattle.std.specs.BTreeMap.{is_at}
+use Rattle.cell_model.specs.Cells.{Cell, is_live}
 
 -- the free ids, ascending, of a store with the ids from 1 to `limit`
 pub record FreeView : Type 0 where
   pub ids : List ℕ
   pub limit : ℕ
 
--- the list has the ids from 2 to `ids`, and no others
-abbrev pub AreFrom2 : ℕ → List ℕ → Type 0
-AreFrom2 ids free = (id : ℕ) → list_any (is_at (nat_cmp id)) free ≡ (nat_lt 1 id && nat_le id ids)
+-- the list has the ids from 1 to `ids` whose cells aren't live, and no others
+abbrev pub AreFreeIn : List Cell → ℕ → List ℕ → Type 0
+AreFreeIn cells ids free = (id : ℕ) → list_any (is_at (nat_cmp id)) free ≡ (nat_lt 0 id && nat_le id ids && not (is_live cells id))
 
 -- the least id of the free ones
 pub record IsLeastOf (free : List ℕ) (id : ℕ) : Type 0 where
@@ -33,11 +34,11 @@ taken free (suc n) = taken free n ++ (if list_any (is_at (nat_cmp (suc n))) free
 
 -- ---- how they are kept
 
--- those that were freed, and those behind the greatest that was ever stored
+-- those up to the greatest that was ever stored, and those behind it
 unfoldable pub all_free : List ℕ → ℕ → ℕ → List ℕ
 all_free freed reached limit = freed ++ range_with_len (reached + 1) (limit - reached)
 
--- what was freed was stored before
+-- the former are no greater
 pub record IsFreeInside (freed : List ℕ) (reached limit : ℕ) : Type 0 where
   pub within : reached ≤ limit
   pub stored : (k : ℕ) → list_any (is_at (nat_cmp k)) freed ≡ true → k ≤ reached

@@ -1,15 +1,18 @@
 -- What the steps of a transaction make of the tables.
-use Rattle.std.specs.Prelude.{◌≡◌, ◌≢◌, ℕ, ◌+◌, Bool, true, false, not, ◌&&◌, ◌==◌, List, [], ◌∷◌, filter, length, replicate, get_or, Some, None, if◌then◌else◌}
+use Rattle.std.specs.Prelude.{◌≡◌, ◌≢◌, ℕ, ◌+◌, Bool, true, false, not, ◌&&◌, ◌==◌, List, [], filter, length, map, get_or, Some, None, if◌then◌else◌}
 use Rattle.std.specs.List.{list_any}
 use Rattle.std.specs.Ordering.{nat_cmp}
 use Rattle.std.specs.BTreeMap.{is_at}
 use Rattle.plain_model.specs.Graphs.{root}
+use Rattle.cell_model.specs.Cells.{Cell}
+use Rattle.restart_laws.specs.Graph.{zeros_of}
 use Rattle.strict_locks.specs.Locks.{DropsAll}
 use Rattle.ref_tables.specs.Queue.{has, joined}
+use Rattle.core_store.specs.Changes.{has_no_strong}
 use Rattle.core_store.specs.RoundView.{Closed, ids_in}
 use Rattle.core_store.specs.Queued.{all_joined, each_once}
 use Rattle.core_store.specs.Transactions.{Running, running_at}
-use Rattle.core_store.specs.FreeIds.{AreFrom2}
+use Rattle.core_store.specs.FreeIds.{AreFreeIn}
 use Rattle.core_store.specs.Tables.{TablesView}
 
 -- the client has no transaction, and every other client's is as before
@@ -65,14 +68,14 @@ pub record Ends (v w : TablesView) (pass : ℕ) : Type 0 where
   pub queue : (named : ℕ → Bool) → AreNames w.references named → w.queue ≡ all_joined v.queue (filter (is_queued v named) (each_once (v.references pass)))
   pub round : w.round ≡ v.round
 
--- a fresh store of so many ids: every id but the root is free, and no client is active
-pub record IsFreshOf (v : TablesView) (ids : ℕ) : Type 0 where
+-- a store of so many ids that has just opened to these cells: no client is active, and what no strong pointer leads to is queued
+pub record IsOpenedTo (v : TablesView) (ids : ℕ) (cells : List Cell) : Type 0 where
   pub same_ids : v.ids ≡ ids
-  pub free : AreFrom2 ids v.free
-  pub zeros : (more : ℕ) → ids ≡ more + 1 → v.zeros ≡ true ∷ false ∷ replicate more true
+  pub free : AreFreeIn cells ids v.free
+  pub zeros : v.zeros ≡ map has_no_strong cells
   pub locks : v.locks ≡ []
   pub transactions : v.transactions ≡ []
   pub owed : v.owed ≡ 0
   pub references : (pass : ℕ) → v.references pass ≡ []
-  pub queue : v.queue ≡ []
+  pub queue : v.queue ≡ zeros_of cells
   pub round : v.round ≡ Closed

@@ -1,10 +1,13 @@
 //! The ids that aren't stored.
-ghost use Rattle.std.specs.Prelude.{◌≡◌, ◌<◌, ◌≤◌, false, [], IfOk, OnOk, OnErr, MatchOption};
+ghost use Rattle.std.specs.Prelude.{◌≡◌, ℕ, ◌<◌, ◌≤◌, length, false, [], IfOk, OnOk, OnErr, MatchOption};
 ghost use Rattle.std.specs.List.{list_any};
 ghost use Rattle.std.specs.Ordering.{nat_cmp};
 ghost use Rattle.std.specs.BTreeMap.{is_at};
-ghost use Rattle.core_store.specs.FreeIds.{AreFrom2, IsLeastOf, Frees, Takes, taken};
+ghost use Rattle.cell_model.specs.Cells.{is_live};
+ghost use Rattle.core_store.specs.Fresh.{store_of};
+ghost use Rattle.core_store.specs.FreeIds.{AreFreeIn, IsLeastOf, Frees, Takes, taken};
 
+use cell_page::Cell;
 use plain_model::Memory;
 use std::alloc::Global;
 use std::collections::BTreeSet;
@@ -12,12 +15,13 @@ use std::marker::Model;
 
 /// The ids of a store that aren't stored, of all from 1 to a limit.
 ///
-/// Those that never were stored are no more than a range, so that a store begins without a step for each of them.
+/// Those behind the greatest that was stored since the opening are no more than a range, so that a fresh store takes no
+/// memory for them.
 #[derive(Debug, Drop)]
 pub(crate) struct FreeIds {
-    /// Those that were stored and are so no more.
+    /// Those up to the greatest that was stored since the opening.
     freed: BTreeSet<u32>,
-    /// The greatest id that was ever stored. All behind it are free.
+    /// The greatest id that was stored since the opening. All behind it are free.
     reached: u32,
     /// The greatest id of the store.
     limit: u32,
@@ -33,18 +37,43 @@ impl Model for FreeIds {
     ghost invariant = { λ a. IsFreeInside a.freed.keys a.reached a.limit };
 }
 
-impl FreeIds {
-    /// The free ids of a fresh store: those from 2 on.
-    pub(crate) fn fresh(alloc: Global, ids: u32) -> FreeIds
-        requires { 0 < ids }
-        ensures free { AreFrom2 ids result.ids }
-        ensures limit { result.limit ≡ ids }
-    {
-        FreeIds {
-            freed: BTreeSet::new(alloc),
-            reached: 1,
-            limit: ids,
+/// The greatest id whose cell is live, or 0, where the cells stand by their ids from 1 on.
+fn greatest_live<const SLOTS: usize>(cells: &[Cell<SLOTS>]) -> u32
+    requires { length cells.now ≤ 8192 }
+    ensures within { result ≤ length cells.now }
+    ensures above { (id : ℕ) → result < id → is_live (store_of cells.now) id ≡ false }
+{
+    let mut greatest = 0;
+    for (place, cell) in cells.iter().enumerate() {
+        if cell.live {
+            greatest = place as u32 + 1;
         }
+    }
+    greatest
+}
+
+impl FreeIds {
+    /// The free ids of a store with these cells, which stand by their ids from 1 on: those whose cells aren't live.
+    pub(crate) fn over<const SLOTS: usize>(
+        alloc: Global,
+        cells: &[Cell<SLOTS>],
+    ) -> Result<FreeIds, Memory>
+        requires { length cells.now ≤ 8192 }
+        ensures free { IfOk result (λ f. AreFreeIn (store_of cells.now) (length cells.now) f.ids) }
+        ensures limit { IfOk result (λ f. f.limit ≡ length cells.now) }
+    {
+        let reached = greatest_live(cells);
+        let mut freed = BTreeSet::new(alloc);
+        for place in 0..reached {
+            if !cells[place as usize].live {
+                freed.insert(place + 1)?;
+            }
+        }
+        Ok(FreeIds {
+            freed,
+            reached,
+            limit: cells.len() as u32,
+        })
     }
 
     /// Whether the id is free.

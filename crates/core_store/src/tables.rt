@@ -1,5 +1,5 @@
 //! What a journal keeps beside its history: the free ids, the marks, the locks, the transactions, what they name, the queue and the round.
-ghost use Rattle.std.specs.Prelude.{◌≡◌, ◌<◌, ◌≤◌, ◌^◌, IfOk, is_some};
+ghost use Rattle.std.specs.Prelude.{◌≡◌, ◌<◌, ◌≤◌, ◌^◌, length, IfOk, is_some};
 ghost use Rattle.store_model.specs.Core.{Core};
 ghost use Rattle.core_store.specs.Owed.{bytes_owed};
 ghost use Rattle.core_store.specs.Stands.{Stands};
@@ -9,8 +9,10 @@ ghost use Rattle.core_store.specs.RoundView.{touched_in};
 ghost use Rattle.core_store.specs.Transactions.{running_at};
 
 use crate::free_ids::FreeIds;
+use crate::opening;
 use crate::round::Round;
 use crate::transactions::Transactions;
+use cell_page::Cell;
 use plain_model::Memory;
 use red_walk::IdList;
 use ref_tables::{TempRefs, ZeroQueue};
@@ -51,27 +53,27 @@ pub(crate) struct Tables<const SLOTS: usize> {
 
 impl<const SLOTS: usize> Tables<SLOTS> {
     ghost use Rattle.core_store.specs.Views.{view_of};
-    ghost use Rattle.core_store.specs.Steps.{IsFreshOf};
+    ghost use Rattle.core_store.specs.Steps.{IsOpenedTo};
     ghost use Rattle.core_store.specs.FreeIds.{taken};
+    ghost use Rattle.core_store.specs.Fresh.{store_of};
 
-    /// The tables of a fresh store of so many ids: the root alone is stored.
-    pub(crate) fn fresh(alloc: Global, ids: u32) -> Result<Tables<SLOTS>, Memory>
+    /// The tables of a store that opens to these cells, which stand by their ids from 1 on.
+    pub(crate) fn over(alloc: Global, cells: &[Cell<SLOTS>]) -> Result<Tables<SLOTS>, Memory>
         requires size { IsSlotCount SLOTS }
-        requires few { (0 < ids) × (ids ≤ 8192) }
-        ensures { IfOk result (λ t. IsFreshOf (view_of t) ids) }
+        requires few { length cells.now ≤ 8192 }
+        ensures { IfOk result (λ t. IsOpenedTo (view_of t) (length cells.now) (store_of cells.now)) }
     {
-        let mut zeros = vec![in alloc; true; ids as usize + 1]?;
-        zeros[1] = false;
+        let ids = cells.len() as u32;
         Ok(Tables {
             alloc,
             ids,
-            free: FreeIds::fresh(alloc, ids),
-            zeros,
+            free: FreeIds::over(alloc, cells)?,
+            zeros: opening::zeros(alloc, cells)?,
             locks: LockTable::new(alloc),
             transactions: BTreeMap::new(alloc),
             owed: 0,
             references: TempRefs::new(alloc),
-            queue: ZeroQueue::new(alloc, ids)?,
+            queue: opening::queue(alloc, cells)?,
             round: Round::new(alloc, ids)?,
             named: IdList::new(alloc, ids)?,
         })

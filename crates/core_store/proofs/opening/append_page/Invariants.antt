@@ -1,5 +1,5 @@
 use Rattle.std.proofs.Common.{◌≡◌, ◌++◌, take}
-use Rattle.core_store.proofs.fresh.append_page.Given as goal
+use Rattle.core_store.proofs.opening.append_page.Given as goal
 
 -- the first cells of the page stand behind those that were there
 abbrev pub invariant-loop-place : goal.invariant-loop-place

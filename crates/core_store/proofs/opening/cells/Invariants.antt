@@ -1,6 +1,6 @@
 use Rattle.std.proofs.Common.{◌≡◌, take}
 use Rattle.std.specs.List.{flat_map}
-use Rattle.core_store.proofs.fresh.cells.Given as goal
+use Rattle.core_store.proofs.opening.cells.Given as goal
 
 -- the cells of the frames so far
 abbrev pub invariant-loop-number : goal.invariant-loop-number
