@@ -1,8 +1,8 @@
 //! The log.
-ghost use Rattle.std.specs.Prelude.{◌≡◌, ◌↔◌, ◌⊎◌, ◌+◌, ◌<◌, ◌≤◌, ◌^◌, ◌++◌, ◌∷◌, [], ℕ, List, max, length, option_map, is_ok, if◌then◌else◌, None, IfOk, IfSome, IfErr, OnOk, IsOk, IsErrOf};
+ghost use Rattle.std.specs.Prelude.{◌≡◌, ◌↔◌, ◌⊎◌, ◌+◌, ◌<◌, ◌≤◌, ◌^◌, ◌++◌, ◌∷◌, [], ℕ, List, max, length, option_map, is_ok, if◌then◌else◌, None, IfOk, IfSome, IfErr, OnOk, IsOk, IsErrOf, ⊤};
 ghost use Rattle.disk_model.specs.Causes.{HasCause};
 ghost use Rattle.disk_model.specs.Changes.{written, Torn};
-ghost use Rattle.disk_model.specs.Told.{Keeps, KeepsAll, KeepsOthers, Follows, Leaves, IsImage, EachImage};
+ghost use Rattle.disk_model.specs.Told.{Keeps, KeepsAll, KeepsOthers, Follows, Leaves, IsImage, IsImageBut, EachImage};
 ghost use Rattle.disk_model.specs.Time.{LeavesOnlyImages};
 ghost use Rattle.disk_model.specs.declared.area.Area.TheVariants.{Pages, Super};
 ghost use Rattle.gate_log.specs.declared.stage.Stage.TheVariants.{Reading, Standing};
@@ -197,6 +197,7 @@ impl GateLog {
             ≡ option_map (forced_area self.old.durable self.old.tail) (D.content disk.old self.old.area)) }
         ensures empty { self.old.tail ≡ [] → IsOk result × (disk.new ≡ disk.old) }
         ensures keeps { KeepsOthers D.content D.may_leave disk.old disk.new self.old.area }
+        ensures others { LeavesOnlyImages D.moment D.left_since disk.old disk.new (IsImageBut D.may_leave disk.old self.old.area (λ _. ⊤)) }
         ensures refusals { IfErr result (λ e. e ≡ Disk) }
         ensures cause { HasCause (D.faults disk.old) (D.faults disk.new) result }
     {

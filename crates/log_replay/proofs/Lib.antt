@@ -1,4 +1,4 @@
-mod PageLists
+pub mod PageLists
 mod WriteLists
 mod StepLaws
 mod TakenLaws

@@ -12,7 +12,7 @@ held_at {slots} pages id = slice_index_or (slice_index_or pages (page_of_id id) 
 
 -- and as the laws of a store see it; at 0, which is no id, stands a free one
 abbrev pub stored_at : {slots : ℕ} → List (List (Cell slots)) → ℕ → StoredCell
-stored_at pages id = if id == 0 then blank_cell false 0 else cell_of (held_at pages id)
+stored_at {slots} pages id = if id == 0 then blank_cell false slots else cell_of (held_at pages id)
 
 -- the cells of the pages, each at its id
 unfoldable pub cells_of_pages : {slots : ℕ} → List (List (Cell slots)) → List StoredCell

@@ -3,6 +3,7 @@
 #![tactic(auto)]
 
 mod cell_steps;
+mod cells;
 mod concerned;
 mod finish;
 mod pages;

@@ -1,7 +1,7 @@
 //! The pages of a store, as one list of cells.
 
-ghost use Rattle.std.specs.Prelude.{◌≡◌, ◌+◌, ◌*◌, ◌<◌, ◌≤◌, ℕ, [], cond, length, map, slice_index_or, slice_set};
-ghost use Rattle.cell_model.specs.Cells.{cell_at};
+ghost use Rattle.std.specs.Prelude.{◌≡◌, ◌+◌, ◌*◌, ◌<◌, ◌≤◌, ℕ, false, [], cond, length, map, slice_index_or, slice_set};
+ghost use Rattle.cell_model.specs.Cells.{blank_cell, cell_at};
 ghost use Rattle.restart_laws.specs.Local.{is_in_page, cell_in};
 ghost use Rattle.cell_page.specs.Format.{IsSlotCount, IsCell, IsPage};
 ghost use Rattle.cell_page.specs.Stored.{cell_of, HoldsPage};
@@ -47,6 +47,13 @@ impl<const SLOTS: usize> Pages<SLOTS> {
         self.pages.len()
     }
 
+    /// At 0, which is no id, stands a free cell.
+    pub(crate) fn know_first(&self)
+        ensures { cell_at self.now 0 ≡ blank_cell false SLOTS }
+    {
+        let _count = self.pages.len();
+    }
+
     /// The cell of an id.
     pub(crate) fn get(&self, id: u32) -> &Cell<SLOTS>
         requires above { 0 < id }
@@ -85,5 +92,13 @@ impl<const SLOTS: usize> Pages<SLOTS> {
         ensures cells { (x : ℕ) → cell_at self.new x ≡ cond (is_in_page p x) (cell_in p (map cell_of page.now) x) (cell_at self.old x) }
     {
         self.pages[p as usize] = *page;
+    }
+
+    /// The pages, in order.
+    pub(crate) fn into_pages(self) -> Vec<Page<SLOTS>>
+        ensures cells { cells_of_pages result.items ≡ self.entry }
+        ensures pages { AreStorePages result.items }
+    {
+        self.pages
     }
 }

@@ -27,7 +27,7 @@ pub struct Replay<const SLOTS: usize> {
     alloc: Global,
     pub(crate) pages: Pages<SLOTS>,
     /// For each page, how many images of it are still to come.
-    skip: Vec<u32>,
+    pub(crate) skip: Vec<u32>,
     pub(crate) unended: UnendedMap,
 }
 

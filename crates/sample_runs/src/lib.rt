@@ -21,3 +21,5 @@ mod plain_machine;
 mod records;
 #[cfg(test)]
 mod replays;
+#[cfg(test)]
+mod undos;

@@ -1,8 +1,9 @@
 -- A disk that is only looked at, call by call.
-use Rattle.std.proofs.Common.{ℕ, List, Option, refl}
+use Rattle.std.proofs.Common.{◌≡◌, ℕ, List, Option, false, refl, ◌∙◌}
+use Rattle.std.specs.Prelude.{Result, Ok, Err, is_err, OnOk}
 use Rattle.disk_model.specs.declared.area.Area.{Area}
 use Rattle.disk_model.specs.Areas.{Bytes}
-use Rattle.disk_model.specs.Told.{KeepsAll, IsImage}
+use Rattle.disk_model.specs.Told.{KeepsAll, IsImage, IsSettled}
 use Rattle.disk_model.specs.Time.{Elapses, LeavesOnlyImages}
 use Rattle.disk_model.proofs.Moments.{no_call, same_call, same_then, keeps_all}
 use Rattle.store_opening.specs.Looks.{IsLookedAt}
@@ -26,3 +27,12 @@ module _ {D : Type 0} (content : D → Area → Option (List ℕ)) {may_leave : 
   pub and_look : {before mid now : D} → IsLookedAt content may_leave moment left_since before mid → IsLookedAt content may_leave moment left_since mid now
       → IsLookedAt content may_leave moment left_since before now
   and_look a b = record { keeps = keeps_all a.keeps b.keeps; moments = same_then content a.moments a.keeps b.moments }
+
+  -- what was settled stays so
+  pub settled_kept : {before now : D} → IsLookedAt content may_leave moment left_since before now → ((area : Area) → IsSettled content may_leave before area) → (area : Area) → IsSettled content may_leave now area
+  settled_kept a settled area c may = (a.keeps area).same ∙ settled area c ((a.keeps area).no_more c may)
+
+-- what holds where a call was done holds where it wasn't refused
+pub was_ok : {T E : Type 0} (r : Result T E) (P : Type 0) → is_err r ≡ false → OnOk r P → P
+was_ok (Ok t) P e h = h
+was_ok (Err x) P e h = absurd cc

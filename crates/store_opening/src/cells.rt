@@ -1,7 +1,9 @@
 //! The cells of a store, from what its disk holds.
-ghost use Rattle.std.specs.Prelude.{◌≡◌, IfOk, IfErr};
+ghost use Rattle.std.specs.Prelude.{◌≡◌, ℕ, List, [], IfOk, IfErr, OnOk};
 ghost use Rattle.disk_model.specs.Areas.{Bytes};
+ghost use Rattle.disk_model.specs.Told.{IsSettled};
 ghost use Rattle.cell_page.specs.Format.{IsSlotCount};
+ghost use Rattle.gate_log.specs.OnDisk.{IsOn};
 ghost use Rattle.gate_log.specs.declared.stage.Stage.TheVariants.{Standing};
 ghost use Rattle.store_opening.specs.Looks.{IsLookedAt};
 ghost use Rattle.store_opening.specs.Store.{Reads, Refuses, AreCellsFound, HasOpenCause};
@@ -24,8 +26,10 @@ pub fn read_cells<D: Disk, const SLOTS: usize>(
     requires count { IsSlotCount SLOTS }
     ensures read { IfOk result (λ found. (image : Bytes) → Reads D.content disk.old image
         → AreCellsFound D.may_leave SLOTS image found.replay found.log disk.new) }
+    ensures on { IfOk result (λ found. (batches : List (List ℕ)) × IsOn D.may_leave found.log disk.new batches) }
     ensures refused { (image : Bytes) → Reads D.content disk.old image → IfErr result (Refuses SLOTS image) }
-    ensures stands { IfOk result (λ found. found.log.stage ≡ Standing) }
+    ensures stands { IfOk result (λ found. (found.log.stage ≡ Standing) × (found.log.tail ≡ [])) }
+    ensures settled { OnOk result ((area : _) → IsSettled D.content D.may_leave disk.new area) }
     ensures looks { IsLookedAt D.content D.may_leave D.moment D.left_since disk.old disk.new }
     ensures cause { HasOpenCause (D.faults disk.old) (D.faults disk.new) result }
 {

@@ -45,6 +45,7 @@ pub(crate) fn read_first<D: Disk, const SLOTS: usize>(
     ensures damaged { (at : ℕ) → IsErrOf result (Damaged at) → IfSome (D.content disk.old log.old.area) (λ bytes. IsDamagedLog SLOTS bytes at) }
     ensures reading { IfOk result (λ pages. log.new.stage ≡ Reading) }
     ensures area { log.new.area ≡ log.old.area }
+    ensures tail { log.new.tail ≡ log.old.tail }
     ensures looks { IsLookedAt D.content D.may_leave D.moment D.left_since disk.old disk.new }
     ensures cause { IsCaused (D.faults disk.old) (D.faults disk.new) result }
 {

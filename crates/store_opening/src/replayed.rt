@@ -49,7 +49,7 @@ pub fn replay_log<D: Disk, const SLOTS: usize>(
     requires images { length images.items ≡ length pages.items }
     requires first { IsRead D.content D.may_leave (log_at area) disk.old [] }
     ensures done { IfOk result (λ done. HasReplayed D.content D.may_leave SLOTS (replay_start pages.entry.items images.items) done.replay done.log disk.new) }
-    ensures stands { IfOk result (λ done. (done.log.stage ≡ Standing) × (done.log.area ≡ area)) }
+    ensures stands { IfOk result (λ done. (done.log.stage ≡ Standing) × (done.log.area ≡ area) × (done.log.tail ≡ [])) }
     ensures version { (byte : ℕ) → IsErrOf result (UnknownVersion byte) → IfSome (D.content disk.old area) (IsOfVersion SLOTS byte) }
     ensures damaged { (at : ℕ) → IsErrOf result (Damaged at) → IfSome (D.content disk.old area) (StopsReplay SLOTS (replay_start pages.entry.items images.items) at) }
     ensures replayed { IfOk result (λ done. (image : Bytes) → Reads D.content disk.old image

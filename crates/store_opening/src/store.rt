@@ -1,6 +1,7 @@
 //! The log and the pages of a store, read and not yet put together.
-ghost use Rattle.std.specs.Prelude.{◌≡◌, [], length, IfOk, IfErr};
+ghost use Rattle.std.specs.Prelude.{◌≡◌, [], length, IfOk, IfErr, OnOk};
 ghost use Rattle.disk_model.specs.Areas.{Bytes};
+ghost use Rattle.disk_model.specs.Told.{IsSettled};
 ghost use Rattle.cell_page.specs.Format.{IsSlotCount};
 ghost use Rattle.gate_log.specs.declared.stage.Stage.TheVariants.{Standing};
 ghost use Rattle.gate_log.specs.State.{log_at};
@@ -83,6 +84,7 @@ pub fn read_store<D: Disk, const SLOTS: usize>(
     ensures pages { IfOk result (λ store. AreStorePages store.pages.items × (length store.images.items ≡ length store.pages.items)) }
     ensures stands { IfOk result (λ store. (store.log.stage ≡ Standing) × (store.log.area ≡ store.area)) }
     ensures first { IfOk result (λ store. IsRead D.content D.may_leave (log_at store.area) disk.new []) }
+    ensures settled { OnOk result ((area : _) → IsSettled D.content D.may_leave disk.new area) }
     ensures looks { IsLookedAt D.content D.may_leave D.moment D.left_since disk.old disk.new }
     ensures cause { HasOpenCause (D.faults disk.old) (D.faults disk.new) result }
 {

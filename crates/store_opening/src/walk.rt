@@ -113,6 +113,7 @@ fn walk_batch<D: Disk, const SLOTS: usize>(
     ensures goes_on { IfOk result (λ more. IsTrue more → (log.new.stage ≡ Reading) × (log.old.durable < log.new.durable) × (log.new.durable < 2 ^ 64)) }
     ensures ends { IfOk result (λ more. (more ≡ false) → log.new ≡ record log.old { stage = Standing }) }
     ensures area { log.new.area ≡ log.old.area }
+    ensures tail { log.new.tail ≡ log.old.tail }
     ensures same { walk.new.awaited.items ≡ walk.new.replay.skips }
     ensures looks { IsLookedAt D.content D.may_leave D.moment D.left_since disk.old disk.new }
     ensures cause { IsCaused (D.faults disk.old) (D.faults disk.new) result }
@@ -150,6 +151,7 @@ pub(crate) fn walk_log<D: Disk, const SLOTS: usize>(
     ensures refusals { IfErr result IsOfWalk }
     ensures stands { OnOk result (log.new.stage ≡ Standing) }
     ensures area { log.new.area ≡ log.old.area }
+    ensures tail { log.new.tail ≡ log.old.tail }
     ensures same { walk.new.awaited.items ≡ walk.new.replay.skips }
     ensures looks { IsLookedAt D.content D.may_leave D.moment D.left_since disk.old disk.new }
     ensures cause { IsCaused (D.faults disk.old) (D.faults disk.new) result }

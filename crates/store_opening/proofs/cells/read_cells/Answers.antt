@@ -4,7 +4,7 @@ use Rattle.disk_model.specs.Areas.{in_area}
 use Rattle.opened_images.specs.LogRecords.{IsOfVersion}
 use Rattle.store_opening.specs.Replayed.{IsReady, IsReplayed}
 use Rattle.store_opening.specs.Store.{Refuses}
-use Rattle.store_opening.proofs.LookLaws.{and_look}
+use Rattle.store_opening.proofs.LookLaws.{and_look, settled_kept}
 use Rattle.store_opening.proofs.StoreLaws.{told_of, refuses_replay}
 use Rattle.store_opening.proofs.cells.read_cells.Goals as goal
 
@@ -37,3 +37,9 @@ returns-clause-refused g c image reads =
     (refuses_replay g.row.SLOTS image area c.in-Err-replay_log.refusal c.in-Ok.ensures.first.area ready.read.read.named
     (λ number e. told_of (g.D.Disk.content c.read_store.new.disk area) (in_area image area) (IsOfVersion g.row.SLOTS number) (told area) (c.in-Err-replay_log.ensures.version number (ap Err e)))
     (λ at e. c.in-Err-replay_log.ensures.unfit at (ap Err e) image told ready))
+
+pub returns-in-Ok-replay_log-clause-on : goal.returns-in-Ok-replay_log-clause-on
+returns-in-Ok-replay_log-clause-on g c = let done = c.in-Ok-replay_log.ensures.done.ends in (_, done.is_on)
+
+pub returns-in-Ok-replay_log-clause-settled : goal.returns-in-Ok-replay_log-clause-settled
+returns-in-Ok-replay_log-clause-settled g c = settled_kept g.D.Disk.content c.replay_log.ensures.looks c.in-Ok.ensures.settled

@@ -9,7 +9,7 @@ use Rattle.opened_images.specs.LogRecords.{IsOfVersion, IsDamagedLog}
 use Rattle.opened_images.specs.Opened.{no_store}
 use Rattle.store_opening.specs.Loaded.{AreLoaded, IsFirstDamaged}
 use Rattle.store_opening.specs.Store.{Refuses}
-use Rattle.store_opening.proofs.LookLaws.{and_look}
+use Rattle.store_opening.proofs.LookLaws.{and_look, settled_kept, was_ok}
 use Rattle.store_opening.proofs.StoreLaws.{told_of, refuses_log, refuses_pages, opens_damaged, log_told, counts_told, store_read}
 use Rattle.store_opening.proofs.store.read_store.Goals as goal
 
@@ -71,3 +71,7 @@ returns-in-Err-load_pages-clause-refused g c image reads =
     (log_told g.D.Disk.content g.D.Disk.may_leave g.row.SLOTS c.in-Ok.found.pages c.in-Ok.found.images.items log c.read_log.new.disk image found (told log.area) naming) found.number
     (counts_told g.D.Disk.content g.D.Disk.may_leave g.row.SLOTS c.in-Ok.found.pages c.in-Ok.found.images.items log c.read_log.new.disk image found (told log.area))
     (subst (λ (l : List ℕ). IsFirstDamaged g.row.SLOTS l page at image.pages) c.deref.ensures.value first)))
+
+pub returns-in-Ok-load_pages-clause-settled : goal.returns-in-Ok-load_pages-clause-settled
+returns-in-Ok-load_pages-clause-settled g c =
+    settled_kept g.D.Disk.content c.load_pages.ensures.looks (settled_kept g.D.Disk.content c.read_log.ensures.looks (settled_kept g.D.Disk.content c.named_area.ensures.looks (was_ok c.sync_areas.result _ (sym c.is_err.ensures.value ∙ c.if-is_err.false) c.sync_areas.ensures.settled)))

@@ -1,0 +1,138 @@
+use Rattle.std.proofs.Common.{◌≡◌, ℕ, ◌*◌, ◌∷◌, List, length, Some, ap, ◌∙◌, subst}
+use Rattle.disk_model.specs.declared.area.Area.{Area}
+use Rattle.disk_model.specs.declared.area.Area.TheVariants.{Pages, Super}
+use Rattle.disk_model.specs.Areas.{in_area}
+use Rattle.gate_log.specs.Batches.{IsLog, most_bytes}
+use Rattle.gate_log.specs.OnDisk.{IsOn, named_by, with_batch}
+use Rattle.opened_images.specs.LogRecords.{body_of, bodies_of, first_records}
+use Rattle.opened_store.proofs.OpenLaws.{opens-after, opens-itself, within-most, pages-apart, same-pages}
+use Rattle.std.specs.Prelude.{◌⊎◌}
+use Rattle.std.proofs.Common.{inl, inr, ⊎_elim, ◌<◌, arith}
+use Rattle.disk_model.specs.Told.{IsImage}
+use Rattle.disk_model.specs.Time.{LeavesOnlyImages}
+use Rattle.disk_model.proofs.Moments.{weaken, and_then}
+use Rattle.gate_log.specs.OnDisk.{HasEither}
+use Rattle.opened_images.specs.Opened.{Opened, OpensTo}
+use Rattle.opened_store.proofs.MomentLaws.{both-moments, moment-opens}
+use Rattle.std.proofs.Common.{List, sym}
+use Rattle.gate_log.specs.Batches.{AreBodies}
+use Rattle.opened_images.specs.GoesOn.{IsBegun}
+use Rattle.opened_store.proofs.BegunLaws.{left-there, reads-left, keeps-then, same-batches, begun-after}
+use Rattle.opened_store.proofs.open.open_cells.Goals as goal
+
+pub returns-in-Err-restart-clause-refused : goal.returns-in-Err-restart-clause-refused
+returns-in-Err-restart-clause-refused g c =
+    λ image reads.
+    let f = c.in-Ok.ensures.read image reads in
+    c.in-Err-restart.ensures.refused image (record { area = c.in-Ok.found.log.area; count = f.count; batches = f.batches; replayed = f.replayed })
+
+pub returns-in-Ok-force_undo-clause-opens : goal.returns-in-Ok-force_undo-clause-opens
+returns-in-Ok-force_undo-clause-opens g c =
+    λ image reads.
+    let f = c.in-Ok.ensures.read image reads in
+    opens-itself g.row.SLOTS image c.in-Ok.found.log.area f.count f.batches c.in-Ok.found.replay c.restart.new.replay c.in-Ok-restart.bytes.items (8 * length c.in-Ok.found.replay.skips) f.replayed c.in-Ok-restart.ensures.rules c.in-Ok-restart.ensures.done
+
+pub returns-in-Ok-force_undo-clause-images : goal.returns-in-Ok-force_undo-clause-images
+returns-in-Ok-force_undo-clause-images g c =
+    λ image reads other may.
+    let f = c.in-Ok.ensures.read image reads in
+    let first = body_of (first_records g.row.SLOTS f.count) ∷ bodies_of f.batches in
+    let log = c.in-Ok.found.log in
+    let new = c.force_undo.new.log in
+    let fits : new.durable < most_bytes = (let bounded = c.in-Ok-force_undo.ensures.bounded in omega (arith, bounded)) in
+    let bytes = c.in-Ok-restart.bytes.items in
+    let on : IsOn g.D.Disk.may_leave new c.force_undo.new.disk (with_batch first bytes) = subst (λ (bs : List ℕ). IsOn g.D.Disk.may_leave new c.force_undo.new.disk (with_batch first bs)) c.deref.ensures.value (c.in-Ok-force_undo.ensures.on first f.is_on) in
+    let named : named_by other.super_area ≡ Some log.area = on.named other.super_area (may Super) ∙ ap (λ (a : Area). Some a) c.force_undo.ensures.area in
+    let there : IsLog most_bytes (with_batch first bytes) (in_area other log.area) =
+    subst (λ (a : Area). IsLog most_bytes (with_batch first bytes) (in_area other a)) c.force_undo.ensures.area (within-most new (with_batch first bytes) (in_area other new.area) fits (on.logs (in_area other new.area) (may new.area))) in
+    let kept = c.force_undo.ensures.keeps Pages (pages-apart log.area f.is_on.area) in
+    let pages : other.pages ≡ image.pages =
+    same-pages (g.D.Disk.content c.read_cells.new.disk Pages) (g.D.Disk.content c.args.disk.now Pages) other.pages image.pages (c.in-Ok.ensures.settled Pages other.pages (kept.no_more other.pages (may Pages))) (reads Pages) (c.read_cells.ensures.looks.keeps Pages).same in
+    opens-after g.row.SLOTS image other log.area f.count f.batches c.in-Ok.found.replay c.restart.new.replay bytes (8 * length c.in-Ok.found.replay.skips) f.replayed c.in-Ok-restart.ensures.rules c.in-Ok-restart.ensures.done pages named there
+
+pub returns-in-Err-clause-moments : goal.returns-in-Err-clause-moments
+returns-in-Err-clause-moments g c = λ image cells reads opened. weaken (λ other. IsImage g.D.Disk.may_leave c.args.disk.now other ⊎ Opened g.row.SLOTS other (OpensTo cells)) (λ other may. inl may) c.read_cells.ensures.looks.moments
+
+pub returns-in-Err-restart-clause-moments : goal.returns-in-Err-restart-clause-moments
+returns-in-Err-restart-clause-moments g c = λ image cells reads opened. weaken (λ other. IsImage g.D.Disk.may_leave c.args.disk.now other ⊎ Opened g.row.SLOTS other (OpensTo cells)) (λ other may. inl may) c.read_cells.ensures.looks.moments
+
+pub returns-in-Ok-force_undo-clause-moments : goal.returns-in-Ok-force_undo-clause-moments
+returns-in-Ok-force_undo-clause-moments g c =
+    λ image cells reads opened.
+    let f = c.in-Ok.ensures.read image reads in
+    let first = body_of (first_records g.row.SLOTS f.count) ∷ bodies_of f.batches in
+    let v = c.in-Ok.found.replay in
+    let w = c.restart.new.replay in
+    let log = c.in-Ok.found.log in
+    let disk = c.read_cells.new.disk in
+    let bytes = c.in-Ok-restart.bytes.items in
+    let u = c.in-Ok-restart.ensures.done in
+    let forced : LeavesOnlyImages g.D.Disk.moment g.D.Disk.left_since disk c.force_undo.new.disk (λ other. IsImage g.D.Disk.may_leave disk other ⊎ HasEither first (with_batch first bytes) other) =
+    subst (λ (bs : List ℕ). LeavesOnlyImages g.D.Disk.moment g.D.Disk.left_since disk c.force_undo.new.disk (λ other. IsImage g.D.Disk.may_leave disk other ⊎ HasEither first (with_batch first bs) other)) c.deref.ensures.value (c.in-Ok-force_undo.ensures.moments first f.is_on) in
+    and_then (λ other. IsImage g.D.Disk.may_leave c.args.disk.now other ⊎ Opened g.row.SLOTS other (OpensTo cells)) (λ other may. inl may) (λ other either. either) c.read_cells.ensures.looks.moments
+    (both-moments (λ other. IsImage g.D.Disk.may_leave c.args.disk.now other ⊎ Opened g.row.SLOTS other (OpensTo cells))
+    (λ other either but. ⊎_elim (λ may. inl (λ area. (c.read_cells.ensures.looks.keeps area).no_more (in_area other area) (may area))) (λ has. inr (moment-opens g.D.Disk.content g.D.Disk.may_leave g.row.SLOTS image cells v w log disk c.args.disk.now bytes (8 * length v.skips) c.requires.count f c.in-Ok-restart.ensures.rules u opened c.in-Ok.ensures.settled
+    (c.read_cells.ensures.looks.keeps Pages).same (reads Pages) other has but)) either) forced c.in-Ok-force_undo.ensures.others)
+
+pub returns-in-Err-force_undo-clause-moments : goal.returns-in-Err-force_undo-clause-moments
+returns-in-Err-force_undo-clause-moments g c =
+    λ image cells reads opened.
+    let f = c.in-Ok.ensures.read image reads in
+    let first = body_of (first_records g.row.SLOTS f.count) ∷ bodies_of f.batches in
+    let v = c.in-Ok.found.replay in
+    let w = c.restart.new.replay in
+    let log = c.in-Ok.found.log in
+    let disk = c.read_cells.new.disk in
+    let bytes = c.in-Ok-restart.bytes.items in
+    let u = c.in-Ok-restart.ensures.done in
+    let forced : LeavesOnlyImages g.D.Disk.moment g.D.Disk.left_since disk c.force_undo.new.disk (λ other. IsImage g.D.Disk.may_leave disk other ⊎ HasEither first (with_batch first bytes) other) =
+    subst (λ (bs : List ℕ). LeavesOnlyImages g.D.Disk.moment g.D.Disk.left_since disk c.force_undo.new.disk (λ other. IsImage g.D.Disk.may_leave disk other ⊎ HasEither first (with_batch first bs) other)) c.deref.ensures.value (c.in-Err-force_undo.ensures.moments first f.is_on) in
+    and_then (λ other. IsImage g.D.Disk.may_leave c.args.disk.now other ⊎ Opened g.row.SLOTS other (OpensTo cells)) (λ other may. inl may) (λ other either. either) c.read_cells.ensures.looks.moments
+    (both-moments (λ other. IsImage g.D.Disk.may_leave c.args.disk.now other ⊎ Opened g.row.SLOTS other (OpensTo cells))
+    (λ other either but. ⊎_elim (λ may. inl (λ area. (c.read_cells.ensures.looks.keeps area).no_more (in_area other area) (may area))) (λ has. inr (moment-opens g.D.Disk.content g.D.Disk.may_leave g.row.SLOTS image cells v w log disk c.args.disk.now bytes (8 * length v.skips) c.requires.count f c.in-Ok-restart.ensures.rules u opened c.in-Ok.ensures.settled
+    (c.read_cells.ensures.looks.keeps Pages).same (reads Pages) other has but)) either) forced c.in-Err-force_undo.ensures.others)
+
+pub returns-in-Err-clause-unwritten : goal.returns-in-Err-clause-unwritten
+returns-in-Err-clause-unwritten g c = inr c.read_cells.ensures.looks
+
+pub returns-in-Err-restart-clause-unwritten : goal.returns-in-Err-restart-clause-unwritten
+returns-in-Err-restart-clause-unwritten g c = inr c.read_cells.ensures.looks
+
+pub returns-in-Err-force_undo-clause-unwritten : goal.returns-in-Err-force_undo-clause-unwritten
+returns-in-Err-force_undo-clause-unwritten g c = inl c.in-Err-force_undo.ensures.refusals
+
+pub returns-in-Ok-force_undo-clause-begun : goal.returns-in-Ok-force_undo-clause-begun
+returns-in-Ok-force_undo-clause-begun g c =
+    let was = c.in-Ok.ensures.on in
+    let log = c.in-Ok.found.log in
+    let new = c.force_undo.new.log in
+    let mid = c.read_cells.new.disk in
+    let disk = c.force_undo.new.disk in
+    let bytes = c.in-Ok-restart.bytes.items in
+    let on : IsOn g.D.Disk.may_leave new disk (with_batch was.0 bytes) = subst (λ (bs : List ℕ). IsOn g.D.Disk.may_leave new disk (with_batch was.0 bs)) c.deref.ensures.value (c.in-Ok-force_undo.ensures.on was.0 was.1) in (
+      with_batch was.0 bytes,
+      on,
+      λ image reads.
+          let f = c.in-Ok.ensures.read image reads in
+          let first = body_of (first_records g.row.SLOTS f.count) ∷ bodies_of f.batches in
+          let there = reads-left g.D.Disk.content g.D.Disk.may_leave g.D.Disk.reads_may_stay mid log.area (in_area image log.area) ((c.read_cells.ensures.looks.keeps log.area).same ∙ reads log.area) in
+          let same : first ≡ was.0 = same-batches g.D.Disk.may_leave log mid first was.0 (in_area image log.area) there f.is_on was.1 in
+          let kept = (c.force_undo.ensures.keeps Pages (pages-apart log.area f.is_on.area)).same ∙ (c.read_cells.ensures.looks.keeps Pages).same ∙ reads Pages in
+          let left = left-there g.D.Disk.content g.D.Disk.told_together g.D.Disk.may_leave g.D.Disk.reads_may_stay disk new.area image.pages kept in
+          let formed : AreBodies (with_batch first bytes) = subst (λ (b : List (List ℕ)). AreBodies (with_batch b bytes)) (sym same) (on.logs left.0 left.1).bodies in
+          subst (λ (b : List (List ℕ)). IsBegun g.row.SLOTS (length c.restart.new.replay.skips) image.pages (with_batch b bytes) c.restart.new.replay.cells) same
+          (begun-after g.D.Disk.may_leave g.row.SLOTS image c.in-Ok.found.replay c.restart.new.replay log mid bytes (8 * length c.in-Ok.found.replay.skips) f c.in-Ok-restart.ensures.rules c.in-Ok-restart.ensures.done formed),
+    )
+
+pub returns-in-Ok-force_undo-clause-pages : goal.returns-in-Ok-force_undo-clause-pages
+returns-in-Ok-force_undo-clause-pages g c =
+    keeps-then g.D.Disk.content g.D.Disk.may_leave c.args.disk.now c.read_cells.new.disk c.force_undo.new.disk Pages (c.read_cells.ensures.looks.keeps Pages) (c.force_undo.ensures.keeps Pages (pages-apart c.in-Ok.found.log.area c.in-Ok.ensures.on.1.area))
+
+pub returns-in-Err-force_undo-clause-pages : goal.returns-in-Err-force_undo-clause-pages
+returns-in-Err-force_undo-clause-pages g c =
+    keeps-then g.D.Disk.content g.D.Disk.may_leave c.args.disk.now c.read_cells.new.disk c.force_undo.new.disk Pages (c.read_cells.ensures.looks.keeps Pages) (c.force_undo.ensures.keeps Pages (pages-apart c.in-Ok.found.log.area c.in-Ok.ensures.on.1.area))
+
+pub returns-in-Ok-force_undo-clause-settled : goal.returns-in-Ok-force_undo-clause-settled
+returns-in-Ok-force_undo-clause-settled g c =
+    let kept = c.force_undo.ensures.keeps Pages (pages-apart c.in-Ok.found.log.area c.in-Ok.ensures.on.1.area) in
+    λ bytes may. kept.same ∙ c.in-Ok.ensures.settled Pages bytes (kept.no_more bytes may)

@@ -1,0 +1,71 @@
+//! The cells of a store, opened from its disk.
+ghost use Rattle.std.specs.Prelude.{◌≡◌, ℕ, ◌*◌, ◌<◌, ◌≤◌, ◌⊎◌, List, [], length, IfOk, IfErr, OnOk};
+ghost use Rattle.cell_model.specs.Consistent.{AreConsistent};
+ghost use Rattle.cell_page.specs.Format.{IsSlotCount};
+ghost use Rattle.disk_model.specs.declared.area.Area.TheVariants.{Pages};
+ghost use Rattle.disk_model.specs.Areas.{Bytes};
+ghost use Rattle.disk_model.specs.Told.{EachImage, IsImage, IsSettled, Keeps};
+ghost use Rattle.disk_model.specs.Time.{LeavesOnlyImages};
+ghost use Rattle.cell_model.specs.Cells.{Cell};
+ghost use Rattle.opened_store.specs.Steps.{IsLate};
+ghost use Rattle.gate_log.specs.Batches.{most_bytes};
+ghost use Rattle.gate_log.specs.declared.stage.Stage.TheVariants.{Standing};
+ghost use Rattle.gate_log.specs.State.{used};
+ghost use Rattle.gate_log.specs.OnDisk.{IsOn};
+ghost use Rattle.opened_images.specs.GoesOn.{IsBegun};
+ghost use Rattle.opened_images.specs.Opened.{Opened, OpensTo};
+ghost use Rattle.store_opening.specs.Looks.{IsLookedAt};
+ghost use Rattle.store_opening.specs.Store.{Reads, Refuses, HasOpenCause};
+
+use crate::force::force_undo;
+use crate::tested::restart;
+use disk_model::Disk;
+use std::alloc::Global;
+use store_opening::{OpenRefusal, ReplayedLog, read_cells};
+
+/// Opens the cells of the store that the disk holds: reads it, tests it, and undoes for good what had not ended.
+///
+/// Of a disk that is told, the cells are those that the four areas open to, and each refusal but [`OpenRefusal::Disk`] and
+/// [`OpenRefusal::Memory`] is what they open to. Whatever a power loss leaves at each moment of the call is what it may
+/// have left before, or opens to these cells, and so does all that it leaves afterwards.
+/// Before a refusal that tells something of the store nothing is written. [`OpenRefusal::Disk`] comes only where the disk's
+/// count of faults rose in this call.
+pub(crate) fn open_cells<D: Disk, const SLOTS: usize>(
+    alloc: Global,
+    disk: &mut D,
+) -> Result<ReplayedLog<SLOTS>, OpenRefusal>
+    requires count { IsSlotCount SLOTS }
+    ensures opens { IfOk result (λ found. (image : Bytes) → Reads D.content disk.old image → Opened SLOTS image (OpensTo found.replay.cells)) }
+    ensures refused { (image : Bytes) → Reads D.content disk.old image → IfErr result (Refuses SLOTS image) }
+    ensures ended { IfOk result (λ found. found.replay.unended ≡ []) }
+    ensures rules { IfOk result (λ found. AreConsistent SLOTS (8 * length found.replay.skips) found.replay.cells) }
+    ensures stands { IfOk result (λ found. (found.log.stage ≡ Standing) × (found.log.tail ≡ [])) }
+    ensures images { IfOk result (λ found. (image : Bytes) → Reads D.content disk.old image
+        → EachImage D.may_leave disk.new (λ other. Opened SLOTS other (OpensTo found.replay.cells))) }
+    ensures moments { (image : Bytes) (cells : List Cell) → Reads D.content disk.old image → Opened SLOTS image (OpensTo cells)
+        → LeavesOnlyImages D.moment D.left_since disk.old disk.new (λ other. IsImage D.may_leave disk.old other ⊎ Opened SLOTS other (OpensTo cells)) }
+    ensures bounded { IfOk result (λ found. used found.log ≤ most_bytes) }
+    ensures begun { IfOk result (λ found. (batches : List (List ℕ)) × IsOn D.may_leave found.log disk.new batches
+        × ((image : Bytes) → Reads D.content disk.old image → IsBegun SLOTS (length found.replay.skips) image.pages batches found.replay.cells)) }
+    ensures settled { OnOk result (IsSettled D.content D.may_leave disk.new Pages) }
+    ensures pages { Keeps D.content D.may_leave disk.old disk.new Pages }
+    ensures unwritten { IfErr result (λ e. IsLate e ⊎ IsLookedAt D.content D.may_leave D.moment D.left_since disk.old disk.new) }
+    ensures cause { HasOpenCause (D.faults disk.old) (D.faults disk.new) result }
+{
+    let found = match read_cells::<D, SLOTS>(alloc, disk) {
+        Ok(found) => found,
+        Err(refusal) => return Err(refusal),
+    };
+    let ReplayedLog {
+        mut replay,
+        mut log,
+    } = found;
+    let bytes = match restart(alloc, &mut replay) {
+        Ok(bytes) => bytes,
+        Err(refusal) => return Err(refusal),
+    };
+    match force_undo(&mut log, disk, &bytes) {
+        Ok(()) => Ok(ReplayedLog { replay, log }),
+        Err(refusal) => Err(refusal),
+    }
+}

@@ -1,0 +1,81 @@
+//! The store rules and the undo, with their refusals.
+ghost use Rattle.std.specs.Prelude.{◌≡◌, ℕ, ◌*◌, length, IfOk, IfErr, OnOk};
+ghost use Rattle.cell_model.specs.Consistent.{AreConsistent};
+ghost use Rattle.cell_page.specs.Format.{IsSlotCount};
+ghost use Rattle.disk_model.specs.Areas.{Bytes};
+ghost use Rattle.log_replay.specs.Finishes.{AreNoneAwaited};
+ghost use Rattle.opened_store.specs.Steps.{IsStoreOf, IsNoDisk};
+ghost use Rattle.store_opening.specs.Store.{Refuses};
+ghost use Rattle.store_undo.specs.Undone.{IsUndone};
+
+use log_replay::Replay;
+use std::alloc::Global;
+use store_opening::OpenRefusal;
+use store_rules::first_broken;
+use store_undo::{UndoRefusal, undo_all};
+
+/// Tests the first four store rules on the cells of a replayed log.
+///
+/// Of an image for which the replay stands, a refusal but [`OpenRefusal::Memory`] is what it opens to.
+pub fn test_rules<const SLOTS: usize>(
+    alloc: Global,
+    replay: &Replay<SLOTS>,
+) -> Result<(), OpenRefusal>
+    ensures rules { OnOk result (AreConsistent SLOTS (8 * length replay.now.skips) replay.now.cells) }
+    ensures refused { (image : Bytes) → IsStoreOf SLOTS image replay.now → IfErr result (Refuses SLOTS image) }
+    ensures no_disk { IfErr result IsNoDisk }
+{
+    let _last = replay.last_id();
+    match first_broken(alloc, replay) {
+        Ok(None) => Ok(()),
+        Ok(Some(broken)) => Err(OpenRefusal::Unsound {
+            id: broken.id,
+            rule: broken.rule,
+        }),
+        Err(_) => Err(OpenRefusal::Memory),
+    }
+}
+
+/// Undoes what has not ended, and answers the records of it as bytes.
+///
+/// Of an image for which the replay stands, a refusal but [`OpenRefusal::Memory`] is what it opens to.
+pub fn undo<const SLOTS: usize>(
+    alloc: Global,
+    replay: &mut Replay<SLOTS>,
+) -> Result<Vec<u8>, OpenRefusal>
+    requires size { IsSlotCount SLOTS }
+    requires skips { AreNoneAwaited replay.old.skips }
+    requires rules { AreConsistent SLOTS (8 * length replay.old.skips) replay.old.cells }
+    ensures done { IfOk result (λ bytes. IsUndone SLOTS replay.old bytes.items replay.new) }
+    ensures refused { (image : Bytes) → IsStoreOf SLOTS image replay.old → IfErr result (Refuses SLOTS image) }
+    ensures no_disk { IfErr result IsNoDisk }
+{
+    match undo_all(alloc, replay) {
+        Ok(bytes) => Ok(bytes),
+        Err(UndoRefusal::Unsound { id }) => Err(OpenRefusal::Unsound { id, rule: 5 }),
+        Err(UndoRefusal::Memory) => Err(OpenRefusal::Memory),
+    }
+}
+
+/// Tests the rules on the cells of a replayed log, and undoes what has not ended.
+///
+/// Of an image for which the replay stands, a refusal but [`OpenRefusal::Memory`] is what it opens to. That comes too where
+/// the log was told to have images that it had no more when it was replayed, as no disk does whose areas are told.
+pub fn restart<const SLOTS: usize>(
+    alloc: Global,
+    replay: &mut Replay<SLOTS>,
+) -> Result<Vec<u8>, OpenRefusal>
+    requires size { IsSlotCount SLOTS }
+    ensures rules { OnOk result (AreConsistent SLOTS (8 * length replay.old.skips) replay.old.cells) }
+    ensures done { IfOk result (λ bytes. IsUndone SLOTS replay.old bytes.items replay.new) }
+    ensures refused { (image : Bytes) → IsStoreOf SLOTS image replay.old → IfErr result (Refuses SLOTS image) }
+    ensures no_disk { IfErr result IsNoDisk }
+{
+    if !replay.has_all_images() {
+        return Err(OpenRefusal::Memory);
+    }
+    match test_rules(alloc, replay) {
+        Ok(()) => undo(alloc, replay),
+        Err(refusal) => Err(refusal),
+    }
+}

@@ -1,0 +1,19 @@
+-- An area that was lengthened.
+use Rattle.std.specs.Prelude.{◌≡◌, ◌-◌, ◌≤◌, ℕ, List, ◌++◌, length, replicate, Result, Err}
+use Rattle.disk_model.specs.Causes.{Rose}
+use Rattle.page_lengths.specs.declared.behind.LengthRefusal.{LengthRefusal}
+use Rattle.page_lengths.specs.declared.behind.LengthRefusal.TheVariants.{Disk}
+
+-- these bytes, and any behind them
+pub record Extends (before now : List ℕ) : Type 0 where
+  pub rest : List ℕ
+  pub are : now ≡ before ++ rest
+
+-- these bytes, and behind them zero bytes up to so many
+abbrev pub lengthened : ℕ → List ℕ → List ℕ
+lengthened wanted bytes = bytes ++ replicate (wanted - length bytes) 0
+
+-- a refusal `Disk` comes only where the disk's count of faults rose, and that never falls
+pub record HasLengthCause {T : Type 0} (before now : ℕ) (result : Result T LengthRefusal) : Type 0 where
+  pub later : before ≤ now
+  pub failed : result ≡ Err Disk → Rose before now
