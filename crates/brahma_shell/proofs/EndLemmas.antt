@@ -25,6 +25,7 @@ use Rattle.core_store.specs.Safe.{IsDurable}
 use Rattle.core_store.specs.Limited.{WasFull}
 use Rattle.logged_journal.specs.declared.failed.FailedCommit.{FailedCommit}
 use Rattle.logged_journal.specs.View.{LoggedView, history_of}
+use Rattle.logged_journal.specs.Opens.{OpensAfter}
 use Rattle.logged_journal.specs.Records.{MayBeLeft, durable_notes}
 use Rattle.script_lines.specs.Output.{AppendsFront, EndsWith, refused_line}
 use Rattle.script_lines.proofs.OutputLemmas.{Appends-trans, AppendsFront-longer, AppendsFront-after}
@@ -147,10 +148,10 @@ pub record AtEnd {D : Type 0} (may_leave : D → Area → List ℕ → Type 0) (
 pub at-end : {D : Type 0} (may_leave : D → Area → List ℕ → Type 0) (faults : D → ℕ) (old v : LoggedView D) (before after : Outside) (count : ℕ)
     → IsFreshStore old → IsSameStart old.journal v.journal → FailedGranted v
     → IsLegal v.journal.history → is_stopped (end_of v.journal.history) ≡ false → graph_of v.journal.opening ≡ v.journal.history.opening → entries_in v.journal.notes ≡ v.journal.history.entries
-    → IsSound (core_of v.journal) → AreLed 6 (opening_of v.journal) v.journal.notes (core_of v.journal) → IsDurable v.journal (durable_notes v) → EachImage may_leave v.disk (MayBeLeft v)
+    → IsSound (core_of v.journal) → AreLed 6 (opening_of v.journal) v.journal.notes (core_of v.journal) → IsDurable v.journal (durable_notes v) → EachImage may_leave v.disk (MayBeLeft v) → EachImage may_leave v.disk (OpensAfter 6 (history_of v))
     → (v.journal.marks.trace ≡ true → WasFull v.journal) → (v.log_full ≡ true → WasLogFull v)
     → before.read_faults ≤ after.read_faults → (before.write_faults ≤ count) × (count ≤ after.write_faults) → (before.disk_faults ≡ faults old.disk) × (after.disk_faults ≡ faults v.disk) → AtEnd may_leave faults old v before after count
-at-end may_leave faults old v before after count fresh same granted legal running opening entries sound led lasting images full log_full reads writes disk =
+at-end may_leave faults old v before after count fresh same granted legal running opening entries sound led lasting images opens full log_full reads writes disk =
     let of = of_fresh old.journal v.journal fresh.history fresh.limits same opening in
     let whole = legal-history v legal running granted in
     let first : (history_of v).opening ≡ blank 6 root ∷ [] = same-opening v granted ∙ ap (λ (h : History). h.opening) of.history in
@@ -165,6 +166,7 @@ at-end may_leave faults old v before after count fresh same granted legal runnin
         led = led;
         lasting = lasting;
         images = images;
+        opens = opens;
       };
       fresh = fresh;
       full = full;

@@ -4,9 +4,10 @@ ghost use Rattle.std.specs.Prelude.{◌≡◌, ◌<◌, ◌≤◌, ◌*◌, ℕ,
 ghost use Rattle.plain_model.specs.Machine.{IsInRange, transaction_of};
 ghost use Rattle.plain_model.specs.History.{IsLegal, end_of, is_stopped, left_to_undo};
 ghost use Rattle.plain_laws.specs.Serializable.{IsSerializable};
-ghost use Rattle.disk_model.specs.Told.{EachImage};
+ghost use Rattle.disk_model.specs.Told.{EachImage, Leaves};
+ghost use Rattle.disk_model.specs.declared.area.Area.TheVariants.{Pages};
 ghost use Rattle.store_model.specs.Sound.{IsSound};
-ghost use Rattle.restart_store.specs.Fresh.{HasFreshLog};
+ghost use Rattle.restart_store.specs.Fresh.{HasFreshLog, fresh_pages_of};
 ghost use Rattle.core_store.specs.JournalView.{core_of, opening_of};
 ghost use Rattle.core_store.specs.Leads.{AreLed};
 ghost use Rattle.cell_model.specs.Graph.{graph_of};
@@ -15,7 +16,9 @@ ghost use Rattle.core_store.specs.Limited.{WasFull};
 ghost use Rattle.core_store.specs.Safe.{IsDurable};
 ghost use Rattle.core_store.specs.Steppings.{IsEntered, IsEvent, pops};
 ghost use Rattle.logged_journal.specs.Calls.{IsOfJournal};
+ghost use Rattle.logged_journal.specs.Opens.{OpensAfter};
 ghost use Rattle.logged_journal.specs.Records.{MayBeLeft, durable_notes};
+ghost use Rattle.logged_journal.specs.View.{history_of};
 ghost use Rattle.script_lines.specs.Grammar.{IsClient};
 ghost use Rattle.brahma_shell.specs.Points.{point_of, entries_in, MayRest, IsExactAt};
 ghost use Rattle.brahma_shell.specs.Growth.{GrowsBy, GrowsByEvent, BecomesFull};
@@ -57,6 +60,7 @@ impl<D: Disk> Store<D> {
     /// back.
     pub(crate) fn fresh(alloc: Global, disk: D) -> Result<Store<D>, (Memory, D)>
         requires log { HasFreshLog D.may_leave 6 PAGES disk }
+        requires pages { Leaves D.may_leave disk Pages (λ area. area ≡ fresh_pages_of 6 PAGES) }
         ensures history { IfOk result (λ s. (s.journal.history ≡ fresh_history 6 (8 * PAGES)) × (s.journal.notes ≡ [])) }
         ensures limits { IfOk result (λ s. s.journal.limits ≡ record { trace = 1048576; log = 1071644672 }) }
         ensures unmarked { IfOk result (λ s. (s.journal.marks.trace ≡ false) × (s.log_full ≡ false)) }
@@ -81,6 +85,7 @@ impl<D: Disk> Store<D> {
         ensures log_full { self.now.log_full ≡ true → WasLogFull self.now }
         ensures lasting { IsDurable self.now.journal (durable_notes self.now) }
         ensures images { EachImage D.may_leave self.now.disk (MayBeLeft self.now) }
+        ensures opens { EachImage D.may_leave self.now.disk (OpensAfter 6 (history_of self.now)) }
     {
         let logged = self.framed.logged();
         let journal = logged.journal();

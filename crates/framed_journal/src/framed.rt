@@ -1,15 +1,25 @@
 //! A journal with its log, and the frames of its pages.
-ghost use Rattle.std.specs.Prelude.{◌≡◌, ◌≢◌, ◌↔◌, ℕ, ◌*◌, ◌≤◌, [], true, false, length, IfOk, IfErr, IfSome, IsErrOf, OnOk, IsSome, Some, None};
+ghost use Rattle.std.specs.Prelude.{◌≡◌, ◌≢◌, ◌↔◌, ℕ, ◌*◌, ◌≤◌, List, [], true, false, length, IfOk, IfErr, IfSome, IsErrOf, OnOk, IsSome, Some, None};
 ghost use Rattle.plain_model.specs.Machine.{IsInRange, refusal_of, transaction_of};
 ghost use Rattle.plain_model.specs.History.{with_entry, end_of, left_to_undo};
+ghost use Rattle.cell_model.specs.Consistent.{AreConsistent};
+ghost use Rattle.restart_laws.specs.Graph.{zeros_of};
+ghost use Rattle.disk_model.specs.declared.area.Area.TheVariants.{Pages};
+ghost use Rattle.disk_model.specs.Told.{Leaves};
 ghost use Rattle.disk_model.specs.Time.{LeavesOnlyImages};
 ghost use Rattle.cell_page.specs.Format.{IsSlotCount};
-ghost use Rattle.gate_log.specs.State.{fresh_log};
-ghost use Rattle.restart_store.specs.Fresh.{HasFreshLog};
+ghost use Rattle.gate_log.specs.declared.stage.Stage.TheVariants.{Standing};
+ghost use Rattle.gate_log.specs.Batches.{most_bytes};
+ghost use Rattle.gate_log.specs.State.{used, fresh_log};
+ghost use Rattle.gate_log.specs.OnDisk.{IsOn};
+ghost use Rattle.restart_store.specs.Fresh.{HasFreshLog, fresh_pages_of};
+ghost use Rattle.opened_images.specs.GoesOn.{IsBegun};
 ghost use Rattle.core_store.specs.RoundView.{Closed};
 ghost use Rattle.core_store.specs.Limited.{AreLimits};
 ghost use Rattle.core_store.specs.Fresh.{fresh_history};
+ghost use Rattle.core_store.specs.Opening.{ArePages, stored_in, opened_history};
 ghost use Rattle.logged_journal.specs.Records.{MayHave};
+ghost use Rattle.logged_journal.specs.Opens.{OpensDuring};
 ghost use Rattle.logged_journal.specs.Calls.{IsOfJournal, IsGranted, IsPastLog, DoesCall, KeepsDisk, GoesOn, FailsCommit, DoesAbortStep};
 ghost use Rattle.framed_journal.specs.Holding.{AreFramesOf};
 ghost use Rattle.framed_journal.specs.Steps.{CollectsNext, CollectsOnFrames, FillsLog, UndoesAll, with_undos};
@@ -17,6 +27,7 @@ ghost use Rattle.framed_journal.specs.Steps.{CollectsNext, CollectsOnFrames, Fil
 use crate::holding::{hold_for_abort_step, hold_for_call, hold_for_collect_step, put_back};
 use core_store::{AbortStep, Collect, Frame, Limits, Three};
 use disk_model::Disk;
+use gate_log::GateLog;
 use logged_journal::{CollectRefusal, LoggedJournal, Stopped};
 use plain_model::{Call, Entry, Memory, Reply};
 use std::alloc::Global;
@@ -60,6 +71,7 @@ impl<const SLOTS: usize, D: Disk> FramedJournal<SLOTS, D> {
         requires pages { (1 ≤ pages) × (pages ≤ 1024) }
         requires limits { AreLimits limits }
         requires log { HasFreshLog D.may_leave SLOTS pages disk }
+        requires page_area { Leaves D.may_leave disk Pages (λ area. area ≡ fresh_pages_of SLOTS pages) }
         ensures history { IfOk result (λ j. j.journal.history ≡ fresh_history SLOTS (8 * pages)) }
         ensures notes { IfOk result (λ j. (j.journal.notes ≡ []) × (j.durable ≡ 0)) }
         ensures limits { IfOk result (λ j. (j.journal.limits ≡ limits) × (j.journal.marks ≡ record { disk = false; trace = false; log = false })) }
@@ -71,6 +83,43 @@ impl<const SLOTS: usize, D: Disk> FramedJournal<SLOTS, D> {
         ensures back { IfErr result (λ e. e.1 ≡ disk) }
     {
         let (logged, frames) = LoggedJournal::fresh(alloc, disk, pages, limits)?;
+        Ok(FramedJournal {
+            logged,
+            frames,
+            held: Three::new(),
+        })
+    }
+
+    /// The store that opens with these frames, one for each page from 0 on, on a disk on which its log stands: the pages
+    /// and the log are what it opened to, and its log tells of no transaction that hasn't ended. In it no transaction is
+    /// active, and the log goes on behind what it has. Where there is no memory the disk is handed back.
+    pub fn resume(
+        alloc: Global,
+        disk: D,
+        log: GateLog,
+        frames: Vec<Frame<SLOTS>>,
+        limits: Limits,
+    ) -> Result<FramedJournal<SLOTS, D>, (Memory, D)>
+        requires size { IsSlotCount SLOTS }
+        requires few { (1 ≤ length frames.items) × (length frames.items ≤ 1024) }
+        requires pages { ArePages frames.items }
+        requires consistent { AreConsistent SLOTS (8 * length frames.items) (stored_in frames.items) }
+        requires limits { AreLimits limits }
+        requires standing { (log.stage ≡ Standing) × (log.tail ≡ []) × (used log ≤ most_bytes) }
+        requires begun { (batches : List (List ℕ)) × IsOn D.may_leave log disk batches
+            × Leaves D.may_leave disk Pages (λ area. IsBegun SLOTS (length frames.items) area batches (stored_in frames.items)) }
+        ensures opening { IfOk result (λ j. j.journal.opening ≡ stored_in frames.entry.items) }
+        ensures history { IfOk result (λ j. j.journal.history ≡ opened_history SLOTS (8 * length frames.entry.items) (stored_in frames.entry.items)) }
+        ensures notes { IfOk result (λ j. (j.journal.notes ≡ []) × (j.durable ≡ 0)) }
+        ensures limits { IfOk result (λ j. (j.journal.limits ≡ limits) × (j.journal.marks ≡ record { disk = false; trace = false; log = false })) }
+        ensures collector { IfOk result (λ j. (j.journal.queue ≡ zeros_of (stored_in frames.entry.items)) × (j.journal.round ≡ Closed)) }
+        ensures running { IfOk result (λ j. (j.failed ≡ None) × (j.log_full ≡ false)) }
+        ensures log { IfOk result (λ j. (j.log ≡ log) × (j.peak ≡ used log)) }
+        ensures disk { IfOk result (λ j. j.disk ≡ disk) }
+        ensures opened { IfOk result (λ j. j.opened ≡ D.faults disk) }
+        ensures back { IfErr result (λ e. e.1 ≡ disk) }
+    {
+        let logged = LoggedJournal::resume(alloc, disk, log, frames.as_slice(), limits)?;
         Ok(FramedJournal {
             logged,
             frames,
@@ -122,6 +171,10 @@ impl<const SLOTS: usize, D: Disk> FramedJournal<SLOTS, D> {
         // At each moment of the call a power loss leaves a log of what was there for good before, or, where it is a commit,
         // of all that was done and this commit.
         ensures moments { LeavesOnlyImages D.moment D.left_since self.old.disk self.new.disk (MayHave self.old client) }
+
+        // So at each of them the store opens, to a graph that a crash before the call may leave, or, where it is a commit that
+        // is granted, a crash after the disk failed it.
+        ensures opens { LeavesOnlyImages D.moment D.left_since self.old.disk self.new.disk (OpensDuring SLOTS self.old client call.now) }
     {
         let frames = self.frames.as_slice();
         hold_for_call(self.logged.journal(), frames, &mut self.held, client, call);

@@ -23,11 +23,11 @@ use Rattle.core_store.specs.Replaced.{next_to_restore}
 use Rattle.core_store.specs.RoundView.{left_of}
 use Rattle.core_store.proofs.BytesOwed.{undo-owes, end-owes}
 use Rattle.logged_journal.specs.View.{LoggedView, bytes_counted}
-use Rattle.logged_journal.specs.Records.{note_bytes, last_bytes}
+use Rattle.logged_journal.specs.Records.{note_bytes, last_bytes, IsLastTyped}
 use Rattle.logged_journal.specs.Kept.{IsKept}
 use Rattle.logged_journal.specs.Calls.{DoesAbortStep, GoesOn}
 use Rattle.logged_journal.proofs.RecordLengths.{size-is, at-most-25}
-use Rattle.logged_journal.proofs.NoteBytes.{last-push}
+use Rattle.logged_journal.proofs.NoteBytes.{last-push, last-typed}
 use Rattle.logged_journal.proofs.Kept.{HasEvent, kept-event}
 use Rattle.logged_journal.proofs.Ascending.{ascends}
 use Rattle.logged_journal.proofs.CollectorEvents.{bytes-length}
@@ -88,8 +88,8 @@ module _ {D : Type 0} (may_leave : D → Area → List ℕ → Type 0) (slots : 
       let long = length-append v.log.tail (last_bytes j.notes) in
       omega (arith, owed, long)
 
-  has-event : (is : IsStepped) → HasEvent v (stepped v j) (has-owed slots v.journal j pass step is.active is.does).note
-  has-event is =
+  has-event : IsLastTyped j.notes → (is : IsStepped) → HasEvent v (stepped v j) (has-owed slots v.journal j pass step is.active is.does).note
+  has-event typed is =
       let has = has-owed slots v.journal j pass step is.active is.does in
       let stands = is.kept.standing is.running in
       let owed = last-owed v.journal j has in
@@ -109,14 +109,15 @@ module _ {D : Type 0} (may_leave : D → Area → List ℕ → Type 0) (slots : 
         running = (is.running, is.running);
         log_full = refl;
         unpromised = has.unpromised;
+        typed = last-typed v.journal.notes j.notes has.note has.noted typed;
         room = omega (arith, owed, room);
         bounded = omega (arith, less, bounded);
         peak = omega (arith, less, peak);
         higher = omega (arith);
       }
 
-  pub kept-stepped : IsStepped → IsKept may_leave (stepped v j)
-  kept-stepped is = kept-event may_leave v (stepped v j) (has-owed slots v.journal j pass step is.active is.does).note is.kept (has-event is)
+  pub kept-stepped : IsLastTyped j.notes → IsStepped → IsKept may_leave (stepped v j)
+  kept-stepped typed is = kept-event may_leave v (stepped v j) (has-owed slots v.journal j pass step is.active is.does).note is.kept (has-event typed is)
 
   pub goes-on-stepped : IsStepped → GoesOn v (stepped v j)
   goes-on-stepped is =

@@ -1,17 +1,19 @@
 -- Calls that are granted or not, and what a call has done that asked nothing of the disk.
-use Rattle.std.proofs.Common.{◌≡◌, ◌≢◌, ◌⊎◌, inl, inr, ℕ, Bool, true, false, Option, Some, None, sym, ◌∙◌, ap, subst, refl, ◌≤◌, List, [], arith}
+use Rattle.std.proofs.Common.{◌≡◌, ◌≢◌, ◌⊎◌, inl, inr, ⊎_elim, ℕ, Bool, true, false, Option, Some, None, sym, ◌∙◌, ap, subst, refl, ◌≤◌, List, [], arith}
 use Rattle.std.specs.Prelude.{not, ◌&&◌, is_none, IfSome}
 use Rattle.disk_model.specs.declared.area.Area.{Area}
 use Rattle.disk_model.specs.Areas.{Bytes}
 use Rattle.disk_model.specs.Told.{IsImage}
 use Rattle.disk_model.specs.Time.{LeavesOnlyImages}
-use Rattle.disk_model.proofs.Moments.{no_call}
+use Rattle.disk_model.proofs.Moments.{no_call, weaken}
 use Rattle.plain_model.specs.declared.calls.Call.{Call as TransactionCall}
 use Rattle.plain_model.specs.declared.calls.Call.TheVariants as call
 use Rattle.plain_model.specs.declared.calls.Reply.{Reply}
 use Rattle.plain_model.specs.declared.calls.Reply.TheVariants as reply
 use Rattle.plain_model.specs.Machine.{refusal_of, transaction_of}
-use Rattle.plain_model.specs.History.{end_of}
+use Rattle.plain_model.specs.declared.calls.Entry.TheVariants.{Call}
+use Rattle.plain_model.specs.History.{with_entry, end_of}
+use Rattle.log_record.specs.Spelling.{IsPass}
 use Rattle.core_store.specs.JournalView.{JournalView}
 use Rattle.core_store.specs.Limited.{is_past_limit}
 use Rattle.core_store.specs.Owed.{entries_needed}
@@ -19,10 +21,11 @@ use Rattle.core_store.specs.Steppings.{IsEntered, bytes_at, bytes_to_collect}
 use Rattle.core_store.specs.RoundView.{RoundView, Closed, asked}
 use Rattle.core_store.specs.declared.round_at.RoundAt.{RoundAt}
 use Rattle.core_store.specs.declared.round_at.RoundAt.TheVariants as at
-use Rattle.logged_journal.specs.View.{LoggedView}
-use Rattle.logged_journal.specs.Records.{MayHave}
+use Rattle.logged_journal.specs.View.{LoggedView, history_of}
+use Rattle.logged_journal.specs.Records.{HasRecords, MayBeLeft, MayHave, with_commit}
 use Rattle.logged_journal.specs.Calls.{IsGranted, IsOfJournal, DoesCall}
-use Rattle.logged_journal.specs.Kept.{IsKept}
+use Rattle.logged_journal.specs.Opens.{OpensAfter, OpensDuring, as_before, as_failed}
+use Rattle.logged_journal.specs.Kept.{CanCommit, IsKept}
 use Rattle.logged_journal.proofs.CalledJournals.{commit-refused, refused-so}
 
 -- the disk was asked for nothing
@@ -32,6 +35,26 @@ pub still : {D : Type 0} (may_leave : D → Area → List ℕ → Type 0) (momen
 still {D} may_leave moment left_since only_now v pass now same kept =
     subst (λ (d : D). LeavesOnlyImages moment left_since v.disk d (MayHave v pass)) (sym same)
     (no_call may_leave (MayHave v pass) only_now (λ image may. inl (kept.images image may)))
+
+-- then an image opens to what a crash before may leave
+pub opens-still : {D : Type 0} (may_leave : D → Area → List ℕ → Type 0) (moment : D → ℕ) (left_since : D → ℕ → Bytes → Type 0)
+    → ((disk : D) (image : Bytes) → left_since disk (moment disk) image → IsImage may_leave disk image)
+    → (slots pass : ℕ) (c : TransactionCall) (v w : LoggedView D) (now : D) → v ≡ w → IsKept may_leave v → now ≡ w.disk → ((image : Bytes) → MayBeLeft w image → OpensAfter slots (history_of w) image)
+    → LeavesOnlyImages moment left_since w.disk now (OpensDuring slots w pass c)
+opens-still {D} may_leave moment left_since only_now slots pass c v w now same kept is opens =
+    subst (λ (d : D). LeavesOnlyImages moment left_since w.disk d (OpensDuring slots w pass c)) (sym is)
+    (no_call may_leave (OpensDuring slots w pass c) only_now
+    (λ image may. as_before (opens image (subst (λ (x : LoggedView D). MayBeLeft x image) same (kept.images image (subst (λ (x : LoggedView D). IsImage may_leave x.disk image) (sym same) may))))))
+
+-- and while a commit is made, or to what a crash may leave after the disk failed it
+pub opens-commit : {D : Type 0} (moment : D → ℕ) (left_since : D → ℕ → Bytes → Type 0) (slots pass : ℕ) (c : TransactionCall) (w : LoggedView D) (before now : D)
+    → c ≡ call.Commit → w.failed ≡ None → IsPass pass → IsGranted w.journal pass call.Commit
+    → ((image : Bytes) → MayBeLeft w image → OpensAfter slots (history_of w) image)
+    → ((pass : ℕ) (image : Bytes) → CanCommit w.journal pass → HasRecords w.journal (with_commit w.journal.notes pass) image → OpensAfter slots (with_entry w.journal.history (Call pass call.Commit reply.DiskFault)) image)
+    → LeavesOnlyImages moment left_since before now (MayHave w pass) → LeavesOnlyImages moment left_since before now (OpensDuring slots w pass c)
+opens-commit moment left_since slots pass c w before now is running client granted left failing run =
+    weaken (OpensDuring slots w pass c)
+    (λ image has. ⊎_elim (λ may. as_before (left image may)) (λ all. as_failed is running granted (failing pass image (record { client = client; granted = granted.granted }) all)) has) run
 
 -- what the test of a call tells
 pub not-granted : (j : JournalView) (pass : ℕ) (c : TransactionCall) (b : Bool) → b ≡ (not (is_past_limit j (entries_needed c)) && is_none (refusal_of (end_of j.history).state pass c)) → b ≡ false → IsGranted j pass c → ⊥

@@ -1,6 +1,6 @@
 -- What a journal with its log keeps at a call that is no commit that was done.
 use Rattle.std.proofs.Common.{◌≡◌, ◌≢◌, ℕ, ◌+◌, ◌≤◌, ◌<◌, max, Bool, true, false, ◌||◌, List, [], ◌++◌, length, Option, Some, None, refl, sym, ◌∙◌, ap, subst, arith}
-use Rattle.std.specs.Prelude.{if◌then◌else◌}
+use Rattle.std.specs.Prelude.{if◌then◌else◌, IfSome}
 use Rattle.std.specs.Option.{option_map_or}
 use Rattle.std.proofs.lemmas.List.{append-nil}
 use Rattle.disk_model.specs.declared.area.Area.{Area}
@@ -22,7 +22,7 @@ use Rattle.gate_log.specs.Batches.{most_bytes}
 use Rattle.gate_log.specs.State.{LogState, used, appended}
 use Rattle.log_record.specs.declared.cell_record.CellRecord.{CellRecord}
 use Rattle.log_record.specs.declared.cell_record.CellRecord.TheVariants as logs
-use Rattle.log_record.specs.Spelling.{cell_record_bytes}
+use Rattle.log_record.specs.Spelling.{cell_record_bytes, IsTypedCellRecord}
 use Rattle.core_store.specs.declared.act.Act.TheVariants.{Other}
 use Rattle.core_store.specs.declared.marks.Marks.{Marks}
 use Rattle.core_store.specs.declared.note.Note.{Note}
@@ -35,12 +35,13 @@ use Rattle.core_store.specs.Steppings.{IsEntered}
 use Rattle.core_store.proofs.BytesOwed.{call-owes, refused-owes}
 use Rattle.core_store.proofs.PlanLaws.{refusal-in, refusal-out}
 use Rattle.logged_journal.specs.View.{LoggedView, IsPast, bytes_counted}
-use Rattle.logged_journal.specs.Records.{note_bytes, last_bytes, HasRecords, MayBeLeft, durable, failed}
+use Rattle.logged_journal.specs.Records.{note_bytes, last_bytes, IsLastTyped, HasRecords, MayBeLeft, durable, failed}
 use Rattle.logged_journal.specs.Kept.{IsKept}
 use Rattle.logged_journal.specs.Calls.{IsOfJournal, IsGranted, DoesCall, GoesOn}
 use Rattle.logged_journal.proofs.Kept.{kept-event, on-same}
-use Rattle.logged_journal.proofs.NoteBytes.{last-push}
+use Rattle.logged_journal.proofs.NoteBytes.{last-push, last-typed}
 use Rattle.logged_journal.proofs.RecordLengths.{logged_length, call-length}
+use Rattle.logged_journal.proofs.Resting.{granted-rested}
 
 -- ---- replies
 
@@ -150,6 +151,8 @@ module _ {D : Type 0} (may_leave : D → Area → List ℕ → Type 0) where
         inside = kept.inside;
         lasting = let d = kept.lasting in record { rest = d.rest; split = d.split; core = d.core; safe = d.safe; unpromised = d.unpromised };
         images = λ image may. left image (kept.images image may);
+        granted = granted-rested v.failed v.journal (record v.journal { marks = marks }) refl kept.granted;
+        typed = kept.typed;
         full = kept.full;
       }
     where
@@ -178,6 +181,8 @@ module _ {D : Type 0} (may_leave : D → Area → List ℕ → Type 0) where
         inside = kept.inside;
         lasting = kept.lasting;
         images = λ image may. left image (kept.images image may);
+        granted = kept.granted;
+        typed = kept.typed;
         full = λ is. let peak = (kept.standing running).peak in omega (arith, few, past, peak);
       }
     where
@@ -216,6 +221,7 @@ module _ {D : Type 0} (may_leave : D → Area → List ℕ → Type 0) where
             unpromised = undone-unpromised pass c r (λ f done.
                 commit-refused (end_of v.journal.history).state pass (transaction_of (end_of v.journal.history).state pass) refl
                 (subst (λ (c : TransactionCall). refusal_of (end_of v.journal.history).state pass c ≡ Some reply.Done) f (is ∙ ap (λ (q : Reply). Some q) done)));
+            typed = subst (λ (o : Option CellRecord). IfSome o IsTypedCellRecord) (sym logged) tt;
             room = omega (arith, owed, enough);
             bounded = omega (arith, owed, bounded);
             peak = omega (arith, owed, peak);
@@ -301,8 +307,8 @@ called-bounded slots v new pass c r h =
     not-past counted limit none = omega (arith, none)
 
 module _ {D : Type 0} (may_leave : D → Area → List ℕ → Type 0) where
-  pub kept-called : (slots : ℕ) (v : LoggedView D) (new : JournalView) (pass : ℕ) (c : TransactionCall) (r : Reply) → IsKept may_leave v → IsCalled slots v new pass c r → IsKept may_leave (after_call v new c)
-  kept-called slots v new pass c r kept h =
+  pub kept-called : (slots : ℕ) (v : LoggedView D) (new : JournalView) (pass : ℕ) (c : TransactionCall) (r : Reply) → IsKept may_leave v → IsLastTyped new.notes → IsCalled slots v new pass c r → IsKept may_leave (after_call v new c)
+  kept-called slots v new pass c r kept typed h =
       let e = called-entered slots v new pass c r h in
       let owes = called-owes slots v new pass c r h in
       kept-event may_leave v (after_call v new c) (note_of slots v.journal new pass c r) kept
@@ -318,6 +324,7 @@ module _ {D : Type 0} (may_leave : D → Area → List ℕ → Type 0) where
         running = (h.running, h.running);
         log_full = refl;
         unpromised = other-unpromised pass c r h.other;
+        typed = last-typed v.journal.notes new.notes (note_of slots v.journal new pass c r) (h.does.noted e) typed;
         room = omega (arith, owes);
         bounded = called-bounded slots v new pass c r h;
         peak = omega (arith);

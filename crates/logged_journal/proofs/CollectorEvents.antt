@@ -18,11 +18,11 @@ use Rattle.core_store.specs.Owed.{bytes_owed}
 use Rattle.core_store.specs.RoundView.{Closed, left_of}
 use Rattle.core_store.specs.Steppings.{IsEvent, MakesEvent, bytes_to_collect}
 use Rattle.logged_journal.specs.View.{LoggedView, bytes_counted, IsPast}
-use Rattle.logged_journal.specs.Records.{note_bytes, last_bytes}
+use Rattle.logged_journal.specs.Records.{note_bytes, last_bytes, IsLastTyped}
 use Rattle.logged_journal.specs.Kept.{IsKept}
 use Rattle.logged_journal.specs.Calls.{DoesCollect, GoesOn}
 use Rattle.logged_journal.proofs.RecordLengths.{logged_length, collect-length}
-use Rattle.logged_journal.proofs.NoteBytes.{last-push}
+use Rattle.logged_journal.proofs.NoteBytes.{last-push, last-typed}
 use Rattle.logged_journal.proofs.Kept.{HasEvent, kept-event}
 
 -- ---- of the record alone
@@ -115,8 +115,8 @@ module _ {D : Type 0} (may_leave : D → Area → List ℕ → Type 0) (slots : 
     pub does : DoesCollect slots v.journal j result
     pub event : IsEvent result
 
-  has-event : (is : IsCollected) → HasEvent v (collected v j room) (note_of (is.does.event is.event))
-  has-event is =
+  has-event : IsLastTyped j.notes → (is : IsCollected) → HasEvent v (collected v j room) (note_of (is.does.event is.event))
+  has-event typed is =
       let makes = is.does.event is.event in
       let owed = owed-same makes in
       let most = last-collected makes in
@@ -136,14 +136,15 @@ module _ {D : Type 0} (may_leave : D → Area → List ℕ → Type 0) (slots : 
         running = (is.running, is.running);
         log_full = refl;
         unpromised = unpromised makes.logged;
+        typed = last-typed v.journal.notes j.notes (note_of makes) makes.noted typed;
         room = omega (arith, owed, most, taken);
         bounded = omega (arith, owed, most, limit, fits, long);
         peak = omega (arith);
         higher = omega (arith);
       }
 
-  pub kept-collected : IsCollected → IsKept may_leave (collected v j room)
-  kept-collected is = kept-event may_leave v (collected v j room) (note_of (is.does.event is.event)) is.kept (has-event is)
+  pub kept-collected : IsLastTyped j.notes → IsCollected → IsKept may_leave (collected v j room)
+  kept-collected typed is = kept-event may_leave v (collected v j room) (note_of (is.does.event is.event)) is.kept (has-event typed is)
 
   pub goes-on-collected : IsCollected → GoesOn v (collected v j room)
   goes-on-collected is = record { running = is.running; log_full = refl; peak = refl; opened = refl }

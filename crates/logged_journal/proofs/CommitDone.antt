@@ -1,13 +1,13 @@
 -- A commit that is granted: what it logs, and what a journal with its log keeps when it is done or failed.
-use Rattle.std.proofs.Common.{◌≡◌, ⊎_elim, ℕ, ◌+◌, ◌-◌, ◌≤◌, true, false, List, [], ◌∷◌, ◌++◌, length, map, take, drop, Option, Some, None, Result, Ok, Err, refl, sym, ◌∙◌, ap, subst, arith}
-use Rattle.std.specs.Prelude.{is_ok, is_err, OnOk, OnErr, if◌then◌else◌, unwrap_or}
+use Rattle.std.proofs.Common.{◌≡◌, ⊎_elim, ℕ, ◌+◌, ◌-◌, ◌≤◌, true, false, List, [], ◌∷◌, ◌++◌, length, take, drop, Option, Some, None, Result, Ok, Err, refl, sym, ◌∙◌, ap, subst, arith}
+use Rattle.std.specs.Prelude.{⊤, is_ok, is_err, IfSome, OnOk, OnErr, if◌then◌else◌, unwrap_or}
 use Rattle.std.specs.Option.{option_map_or}
 use Rattle.std.proofs.lemmas.List.{length-append, take_all, drop_all}
 use Rattle.disk_model.specs.declared.area.Area.{Area}
 use Rattle.disk_model.specs.Areas.{Bytes}
-use Rattle.disk_model.specs.Told.{EachImage}
+use Rattle.disk_model.specs.declared.area.Area.TheVariants.{Pages}
+use Rattle.disk_model.specs.Told.{EachImage, Leaves, IsImageBut}
 use Rattle.disk_model.specs.Time.{LeavesOnlyImages}
-use Rattle.disk_model.proofs.Moments.{weaken}
 use Rattle.plain_model.specs.declared.calls.Call.TheVariants as call
 use Rattle.plain_model.specs.declared.calls.Reply.{Reply}
 use Rattle.plain_model.specs.declared.calls.Reply.TheVariants as reply
@@ -18,7 +18,7 @@ use Rattle.plain_model.specs.History.{History, with_entry, end_of, next}
 use Rattle.cell_model.specs.Cells.{Cell}
 use Rattle.log_record.specs.declared.cell_record.CellRecord.{CellRecord}
 use Rattle.log_record.specs.declared.cell_record.CellRecord.TheVariants as logs
-use Rattle.log_record.specs.Spelling.{cell_record_bytes}
+use Rattle.log_record.specs.Spelling.{cell_record_bytes, IsTypedCellRecord}
 use Rattle.gate_log.specs.Batches.{most_bytes}
 use Rattle.gate_log.specs.State.{LogState, used, appended, forced, batch_length}
 use Rattle.gate_log.specs.OnDisk.{IsOn, HasLog, HasEither, with_batch}
@@ -29,13 +29,15 @@ use Rattle.core_store.specs.Logged.{logged_by, record_in}
 use Rattle.core_store.specs.Owed.{bytes_owed}
 use Rattle.core_store.specs.Safe.{IsDurable, HasNote}
 use Rattle.core_store.proofs.BytesOwed.{commit-owes}
+use Rattle.plain_model.proofs.GraphLemmas.{AllByRecursion-push}
 use Rattle.plain_model.proofs.HistoryLemmas.{end_of-with_entry}
+use Rattle.logged_journal.specs.declared.failed.FailedCommit.{FailedCommit}
 use Rattle.logged_journal.specs.View.{LoggedView, bytes_counted}
-use Rattle.logged_journal.specs.Records.{note_bytes, notes_bytes, HoldRecords, HasRecords, with_commit, durable_notes, MayBeLeft, durable, failed, MayHave}
-use Rattle.logged_journal.specs.Kept.{IsKept, IsStanding}
+use Rattle.logged_journal.specs.Records.{note_bytes, notes_bytes, IsTypedNote, AreTypedNotes, HoldRecords, HasRecords, with_commit, durable_notes, MayBeLeft, durable, failed, MayHave}
+use Rattle.logged_journal.specs.Kept.{CanCommit, IsKept, IsStanding}
 use Rattle.logged_journal.proofs.Ascending.{ascends}
-use Rattle.logged_journal.proofs.Commits.{commit-some, holds-commit, holds-note, forced-image}
-use Rattle.logged_journal.proofs.Kept.{on-same, first-same}
+use Rattle.logged_journal.proofs.Commits.{commit-some, holds-commit, holds-note, forced-image, pages-apart, both}
+use Rattle.logged_journal.proofs.Kept.{on-same, hold-same}
 
 -- ---- what the machine says of it
 
@@ -95,17 +97,17 @@ module _ {D : Type 0} (may_leave : D → Area → List ℕ → Type 0) where
 
   -- and has all records of the journal and the commit's, once the tail is forced
   pub record-holds : (v : LoggedView D) (log : LogState) (pass : ℕ) (stands : IsStanding may_leave v) → log ≡ with_record v.log pass
-      → HoldRecords v.journal (with_commit v.journal.notes pass) (with_batch stands.batches log.tail)
-  record-holds v log pass stands is =
-      holds-commit v.journal v.durable pass stands.batches log.tail stands.hold
+      → Leaves may_leave v.disk Pages (λ area. HoldRecords v.journal area (with_commit v.journal.notes pass) (with_batch stands.batches log.tail))
+  record-holds v log pass stands is = λ area may.
+      holds-commit v.journal area v.durable pass stands.batches log.tail (stands.hold area may)
       (ap (λ l. l.tail) is ∙ ap (λ (l : List ℕ). l ++ cell_record_bytes (logs.Commit pass)) stands.tail)
 
   -- so it has with this note of the commit
   pub note-holds : (v : LoggedView D) (log : LogState) (pass : ℕ) (n : Note) (stands : IsStanding may_leave v) → log ≡ with_record v.log pass → n.logged ≡ Some (logs.Commit pass)
-      → HoldRecords v.journal (v.journal.notes ++ n ∷ []) (with_batch stands.batches log.tail)
-  note-holds v log pass n stands is logged =
+      → Leaves may_leave v.disk Pages (λ area. HoldRecords v.journal area (v.journal.notes ++ n ∷ []) (with_batch stands.batches log.tail))
+  note-holds v log pass n stands is logged = λ area may.
       let bytes : note_bytes n ≡ cell_record_bytes (logs.Commit pass) = ap (λ (o : Option CellRecord). option_map_or cell_record_bytes o []) logged in
-      holds-note v.journal v.durable n stands.batches log.tail stands.hold (subst (λ (l : List ℕ). 1 ≤ length l) (sym bytes) (commit-some pass))
+      holds-note v.journal area v.durable n stands.batches log.tail (stands.hold area may) (subst (λ (l : List ℕ). 1 ≤ length l) (sym bytes) (commit-some pass))
       (ap (λ l. l.tail) is ∙ ap (λ (l : List ℕ). l ++ cell_record_bytes (logs.Commit pass)) stands.tail
       ∙ ap (λ (l : List ℕ). notes_bytes (drop v.durable v.journal.notes) ++ l) (sym bytes))
 
@@ -120,10 +122,15 @@ module _ {D : Type 0} (may_leave : D → Area → List ℕ → Type 0) where
   pub record-moments : (v : LoggedView D) (moment : D → ℕ) (left_since : D → ℕ → Bytes → Type 0) (log : LogState) (now : D) (pass : ℕ) (stands : IsStanding may_leave v) → 7 ≤ bytes_owed (end_of v.journal.history)
       → log ≡ with_record v.log pass
       → ((batches : List (List ℕ)) → IsOn may_leave log v.disk batches → used log ≤ most_bytes → LeavesOnlyImages moment left_since v.disk now (HasEither batches (with_batch batches log.tail)))
+      → LeavesOnlyImages moment left_since v.disk now (IsImageBut may_leave v.disk log.area (λ _. ⊤))
       → LeavesOnlyImages moment left_since v.disk now (MayHave v pass)
-  record-moments v moment left_since log now pass stands owed is run =
-      weaken (MayHave v pass) (forced-image v pass stands.batches (with_batch stands.batches log.tail) stands.hold (record-holds v log pass stands is))
-      (run stands.batches (record-on v log pass stands is) (record-bounded v log pass stands owed is))
+  record-moments v moment left_since log now pass stands owed is run others =
+      let on = record-on v log pass stands is in
+      both (MayHave v pass)
+      (λ image has but.
+      let may = but.others Pages (pages-apart log.area on.area) in
+      forced-image v pass stands.batches (with_batch stands.batches log.tail) image (stands.hold image.pages may) (record-holds v log pass stands is image.pages may) has)
+      (run stands.batches on (record-bounded v log pass stands owed is)) others
 
   -- ---- what is kept where the disk fails it
 
@@ -142,13 +149,15 @@ module _ {D : Type 0} (may_leave : D → Area → List ℕ → Type 0) where
       before (failed f is more) = absurd (cc (running, is))
 
   pub kept-failed : (v w : LoggedView D) (pass faults : ℕ) → IsKept may_leave v → v.failed ≡ None → w.journal ≡ v.journal → w.durable ≡ v.durable → w.failed ≡ Some (record { pass = pass; faults = faults })
-      → w.log_full ≡ v.log_full → w.peak ≡ v.peak → EachImage may_leave w.disk (MayHave v pass) → IsKept may_leave w
-  kept-failed v w pass faults kept running journal count told full peak images =
+      → w.log_full ≡ v.log_full → w.peak ≡ v.peak → CanCommit v.journal pass → EachImage may_leave w.disk (MayHave v pass) → IsKept may_leave w
+  kept-failed v w pass faults kept running journal count told full peak can images =
       record {
         standing = λ is. absurd (cc (told, is));
         inside = subst (λ (d : ℕ). d ≤ length w.journal.notes) (sym count) (subst (λ (j : JournalView). v.durable ≤ length j.notes) (sym journal) kept.inside);
         lasting = subst (λ (d : ℕ). IsDurable w.journal (take d w.journal.notes)) (sym count) (subst (λ (j : JournalView). IsDurable j (take v.durable j.notes)) (sym journal) kept.lasting);
         images = λ image may. failed-image v w pass faults image running journal count told (images image may);
+        granted = subst (λ (o : Option FailedCommit). IfSome o (λ f. CanCommit w.journal f.pass)) (sym told) (subst (λ (j : JournalView). CanCommit j pass) (sym journal) can);
+        typed = subst (λ (j : JournalView). AreTypedNotes j.notes) (sym journal) kept.typed;
         full = λ is.
             let before = kept.full (sym full ∙ is) in
             let limit = ap (λ (j : JournalView). j.limits.log) journal in
@@ -165,9 +174,10 @@ module _ {D : Type 0} (may_leave : D → Area → List ℕ → Type 0) where
     pub log : w.log ≡ forced (with_record v.log pass)
     pub on : IsOn may_leave w.log w.disk batches
     pub have : EachImage may_leave w.disk (HasLog batches)
-    pub hold : HoldRecords v.journal (v.journal.notes ++ n ∷ []) batches
+    pub hold : Leaves may_leave w.disk Pages (λ area. HoldRecords v.journal area (v.journal.notes ++ n ∷ []) batches)
     pub all : w.durable ≡ length w.journal.notes
     pub lasting : IsDurable w.journal w.journal.notes
+    pub running : w.failed ≡ None
     pub others : (w.log_full ≡ v.log_full) × (w.peak ≡ v.peak)
     pub falls : bytes_owed (end_of w.journal.history) + 7 ≤ bytes_owed (end_of v.journal.history)
 
@@ -186,8 +196,8 @@ module _ {D : Type 0} (may_leave : D → Area → List ℕ → Type 0) where
       let stands = kept.standing running in
       let notes = w.journal.notes in
       let some : durable_notes w ≡ notes = take_all w.durable notes (let k = e.all in omega (arith, k)) in
-      let hold : HoldRecords w.journal (durable_notes w) batches =
-      (e.hold.0, e.hold.1 ∙ sym e.note.noted ∙ sym some, e.hold.2 ∙ ap (λ (l : List ℕ). l ∷ map notes_bytes e.hold.0) (sym (first-same may_leave v.journal w.journal n e.note))) in
+      let hold : Leaves may_leave w.disk Pages (λ area. HoldRecords w.journal area (durable_notes w) batches) =
+      λ area may. hold-same v.journal w.journal n area (durable_notes w) batches e.note (subst (λ (l : List Note). HoldRecords v.journal area l batches) (sym e.note.noted ∙ sym some) (e.hold area may)) in
       let counted = counted-falls v w pass e.log e.falls in
       let peak = e.others.1 in
       record {
@@ -207,7 +217,9 @@ module _ {D : Type 0} (may_leave : D → Area → List ℕ → Type 0) where
         };
         inside = let k = e.all in omega (arith, k);
         lasting = subst (λ (l : List Note). IsDurable w.journal l) (sym some) e.lasting;
-        images = λ image may. durable (record { batches = batches; log = e.have image may; hold = hold });
+        images = λ image may. durable (record { batches = batches; log = e.have image may; hold = hold image.pages (may Pages) });
+        granted = subst (λ (o : Option FailedCommit). IfSome o (λ f. CanCommit w.journal f.pass)) (sym e.running) tt;
+        typed = subst AreTypedNotes (sym e.note.noted) (AllByRecursion-push IsTypedNote v.journal.notes n kept.typed (subst (λ (o : Option CellRecord). IfSome o IsTypedCellRecord) (sym e.logged) tt));
         full = λ is.
             let before = kept.full (sym e.others.0 ∙ is) in
             let limit = ap (λ l. l.log) e.limits in

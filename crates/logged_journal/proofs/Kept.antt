@@ -1,12 +1,15 @@
 -- What a journal with its log keeps at an event.
-use Rattle.std.proofs.Common.{◌≡◌, ℕ, ◌+◌, ◌≤◌, ◌/◌, max, false, ◌||◌, List, [], ◌∷◌, ◌++◌, length, map, take, drop, Some, None, sym, ◌∙◌, ap, subst, arith}
+use Rattle.std.proofs.Common.{◌≡◌, ℕ, ◌+◌, ◌≤◌, max, false, ◌||◌, List, [], ◌∷◌, ◌++◌, length, take, drop, Option, Some, None, sym, ◌∙◌, ap, subst, arith}
+use Rattle.std.specs.Prelude.{IfSome}
 use Rattle.std.proofs.lemmas.List.{length-append, take-append-le, drop-append-le}
 use Rattle.disk_model.specs.declared.area.Area.{Area}
-use Rattle.disk_model.specs.declared.area.Area.TheVariants.{Super}
+use Rattle.disk_model.specs.declared.area.Area.TheVariants.{Pages, Super}
 use Rattle.disk_model.specs.Areas.{Bytes}
 use Rattle.disk_model.specs.Told.{EachImage}
 use Rattle.plain_laws.specs.Sound.{is_crash}
 use Rattle.plain_model.specs.History.{end_of}
+use Rattle.plain_model.proofs.GraphLemmas.{AllByRecursion-push}
+use Rattle.cell_model.specs.Cells.{Cell}
 use Rattle.restart_laws.specs.Settled.{acknowledges}
 use Rattle.gate_log.specs.Batches.{most_bytes, IsLog}
 use Rattle.gate_log.specs.State.{LogState, IsLogArea}
@@ -17,8 +20,10 @@ use Rattle.core_store.specs.Owed.{bytes_owed}
 use Rattle.core_store.specs.Safe.{IsDurable, HasNote}
 use Rattle.core_store.proofs.SafeLaws.{durable-kept}
 use Rattle.logged_journal.specs.View.{LoggedView, bytes_counted}
-use Rattle.logged_journal.specs.Records.{note_bytes, notes_bytes, first_of, HasRecords, durable_notes, MayBeLeft, durable, failed}
-use Rattle.logged_journal.specs.Kept.{IsKept}
+use Rattle.opened_images.specs.GoesOn.{IsBegun}
+use Rattle.logged_journal.specs.declared.failed.FailedCommit.{FailedCommit}
+use Rattle.logged_journal.specs.Records.{note_bytes, notes_bytes, IsTypedNote, AreTypedNotes, OpenedWith, HoldRecords, HasRecords, durable_notes, MayBeLeft, durable, failed}
+use Rattle.logged_journal.specs.Kept.{CanCommit, IsKept}
 use Rattle.logged_journal.proofs.NoteBytes.{bytes-push}
 
 -- one note more, whose record joined the tail
@@ -35,18 +40,28 @@ pub record HasEvent {D : Type 0} (v w : LoggedView D) (n : Note) : Type 0 where
   pub running : (v.failed ≡ None) × (w.failed ≡ None)
   pub log_full : w.log_full ≡ v.log_full
   pub unpromised : (acknowledges n.entry || is_crash n.entry) ≡ false
+  pub typed : IsTypedNote n
   -- its room and its bytes
   pub room : bytes_owed (end_of w.journal.history) ≤ w.log.room
   pub bounded : bytes_counted w ≤ most_bytes
   pub peak : bytes_counted w ≤ w.peak
   pub higher : v.peak ≤ w.peak
 
-module _ {D : Type 0} (may_leave : D → Area → List ℕ → Type 0) where
-  -- what the log begins with doesn't depend on the notes
-  pub first-same : (j k : JournalView) (n : Note) → HasNote j k n → first_of k ≡ first_of j
-  first-same j k n has = ap (λ h. Rattle.restart_store.specs.Fresh.first_body_of h.slots (h.ids / 8)) has.entry
+-- what the log begins with doesn't depend on the notes
+pub opened-same : (j k : JournalView) (area : List ℕ) (begun : List (List ℕ)) → k.history.ids ≡ j.history.ids → k.history.slots ≡ j.history.slots → k.opening ≡ j.opening → OpenedWith j area begun → OpenedWith k area begun
+opened-same j k area begun ids slots opening has = (
+  has.0,
+  ids ∙ has.1,
+  subst (λ (s : ℕ). IsBegun s has.0 area begun k.opening) (sym slots) (subst (λ (cells : List Cell). IsBegun j.history.slots has.0 area begun cells) (sym opening) has.2),
+)
 
-  -- nor do the first notes
+-- so a log that has the records of some notes has them after one note more
+pub hold-same : (j k : JournalView) (n : Note) (area : List ℕ) (notes : List Note) (batches : List (List ℕ)) → HasNote j k n → HoldRecords j area notes batches → HoldRecords k area notes batches
+hold-same j k n area notes batches has hold =
+    (hold.0, hold.1, opened-same j k area hold.0 (ap (λ h. h.ids) has.entry) (ap (λ h. h.slots) has.entry) has.opening hold.2, hold.3, hold.4)
+
+module _ {D : Type 0} (may_leave : D → Area → List ℕ → Type 0) where
+  -- the durable notes are the same
   pub durable-same : (v w : LoggedView D) (n : Note) → HasNote v.journal w.journal n → w.durable ≡ v.durable → v.durable ≤ length v.journal.notes → durable_notes w ≡ durable_notes v
   durable-same v w n has same inside =
       ap (λ (d : ℕ). take d w.journal.notes) same
@@ -54,8 +69,7 @@ module _ {D : Type 0} (may_leave : D → Area → List ℕ → Type 0) where
       ∙ take-append-le v.durable v.journal.notes (n ∷ []) inside
 
   pub records-same : (j k : JournalView) (n : Note) («first» : List Note) (image : Bytes) → HasNote j k n → HasRecords j «first» image → HasRecords k «first» image
-  records-same j k n «first» image has is =
-      record { batches = is.batches; log = is.log; hold = (is.hold.0, is.hold.1, is.hold.2 ∙ ap (λ (l : List ℕ). l ∷ map notes_bytes is.hold.0) (sym (first-same j k n has))) }
+  records-same j k n «first» image has is = record { batches = is.batches; log = is.log; hold = hold-same j k n image.pages «first» is.batches has is.hold }
 
   -- the images of the disk are what the durable notes have
   pub left-same : (v w : LoggedView D) (n : Note) (image : Bytes) → HasNote v.journal w.journal n → w.durable ≡ v.durable → v.durable ≤ length v.journal.notes → v.failed ≡ None → MayBeLeft v image → MayBeLeft w image
@@ -83,7 +97,8 @@ module _ {D : Type 0} (may_leave : D → Area → List ℕ → Type 0) where
           stage = e.stage ∙ stands.stage;
           batches = stands.batches;
           on = on-same v.log w.log v.disk w.disk stands.batches e.area e.offset e.disk stands.on;
-          hold = (stands.hold.0, stands.hold.1 ∙ sym same, stands.hold.2 ∙ ap (λ (l : List ℕ). l ∷ map notes_bytes stands.hold.0) (sym (first-same v.journal w.journal n e.note)));
+          hold = λ area may. hold-same v.journal w.journal n area (durable_notes w) stands.batches e.note
+              (subst (λ (l : List Note). HoldRecords v.journal area l stands.batches) (sym same) (stands.hold area (subst (λ (d : D). may_leave d Pages area) e.disk may)));
           tail = e.tail ∙ ap (λ (l : List ℕ). l ++ note_bytes n) stands.tail ∙ sym (bytes-push (drop v.durable v.journal.notes) n)
               ∙ ap notes_bytes (sym (ap (λ (d : ℕ). drop d w.journal.notes) e.durable ∙ ap (λ (l : List Note). drop v.durable l) e.note.noted ∙ drop-append-le v.durable v.journal.notes (n ∷ []) kept.inside));
           room = e.room;
@@ -93,6 +108,8 @@ module _ {D : Type 0} (may_leave : D → Area → List ℕ → Type 0) where
         inside = subst (λ (d : ℕ). d ≤ length w.journal.notes) (sym e.durable) (let more = ap (λ (l : List Note). length l) e.note.noted ∙ length-append v.journal.notes (n ∷ []) in omega (arith, more, kept.inside));
         lasting = subst (λ (l : List Note). IsDurable w.journal l) (sym same) (durable-kept v.journal w.journal n (durable_notes v) kept.lasting e.note e.unpromised);
         images = subst (λ (d : D). EachImage may_leave d (MayBeLeft w)) (sym e.disk) (λ image may. left-same v w n image e.note e.durable kept.inside e.running.0 (kept.images image may));
+        granted = subst (λ (o : Option FailedCommit). IfSome o (λ f. CanCommit w.journal f.pass)) (sym e.running.1) tt;
+        typed = subst AreTypedNotes (sym e.note.noted) (AllByRecursion-push IsTypedNote v.journal.notes n kept.typed e.typed);
         full = λ is.
             let limit = ap (λ l. l.log) e.limits in
             let before = kept.full (sym e.log_full ∙ is) in

@@ -3,10 +3,13 @@ pub mod NoteBytes
 pub mod Kept
 pub mod Commits
 pub mod CalledJournals
-pub mod FreshLogs
+pub mod BegunLogs
 pub mod Ascending
 pub mod CommitDone
 pub mod Resting
 pub mod CollectorEvents
 pub mod AbortSteps
 pub mod AppliedCalls
+pub mod NoteRecords
+pub mod ImagesOpen
+pub mod FreshPages

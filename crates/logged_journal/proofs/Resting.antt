@@ -1,17 +1,21 @@
 -- What a journal with its log keeps where no event is made.
-use Rattle.std.proofs.Common.{◌≡◌, ◌⊎◌, ⊎_elim, ℕ, ◌≤◌, max, Bool, true, false, List, [], None, refl, sym, ap, subst, arith}
-use Rattle.std.specs.Prelude.{if◌then◌else◌}
+use Rattle.std.proofs.Common.{◌≡◌, ◌⊎◌, ⊎_elim, ℕ, ◌≤◌, max, Bool, true, false, List, [], Option, Some, None, refl, sym, ◌∙◌, ap, subst, arith}
+use Rattle.std.specs.Prelude.{if◌then◌else◌, IfSome}
 use Rattle.disk_model.specs.declared.area.Area.{Area}
 use Rattle.disk_model.specs.Areas.{Bytes}
+use Rattle.plain_model.specs.declared.calls.Call.TheVariants.{Commit}
+use Rattle.plain_model.specs.Machine.{refusal_of}
+use Rattle.plain_model.specs.History.{end_of}
 use Rattle.core_store.specs.declared.collect.Collect.{Collect}
 use Rattle.core_store.specs.declared.note.Note.{Note}
 use Rattle.core_store.specs.declared.marks.Marks.{Marks}
 use Rattle.core_store.specs.JournalView.{JournalView}
 use Rattle.core_store.specs.Limited.{is_past_limit}
 use Rattle.core_store.specs.RoundView.{RoundView, Closed}
+use Rattle.logged_journal.specs.declared.failed.FailedCommit.{FailedCommit}
 use Rattle.logged_journal.specs.View.{LoggedView, bytes_counted}
 use Rattle.logged_journal.specs.Records.{HasRecords, MayBeLeft, durable, failed}
-use Rattle.logged_journal.specs.Kept.{IsKept, IsStanding}
+use Rattle.logged_journal.specs.Kept.{CanCommit, IsKept, IsStanding}
 use Rattle.logged_journal.specs.Calls.{DoesCollect, GoesOn}
 use Rattle.logged_journal.proofs.Kept.{on-same}
 
@@ -25,6 +29,11 @@ records-rested j round marks notes image is = record { batches = is.batches; log
 left-rested : {D : Type 0} (v : LoggedView D) (round : RoundView) (marks : Marks) (room : ℕ) (image : Bytes) → MayBeLeft v image → MayBeLeft (rested v round marks room) image
 left-rested v round marks room image (durable is) = durable (records-rested v.journal round marks _ image is)
 left-rested v round marks room image (failed f is more) = failed f is (records-rested v.journal round marks _ image more)
+
+-- a commit that isn't refused at a history's end isn't at the end of another journal of this history
+pub granted-rested : (o : Option FailedCommit) (j k : JournalView) → k.history ≡ j.history → IfSome o (λ f. CanCommit j f.pass) → IfSome o (λ f. CanCommit k f.pass)
+granted-rested None j k same can = tt
+granted-rested (Some f) j k same can = record { client = can.client; granted = ap (λ h. refusal_of (end_of h).state f.pass Commit) same ∙ can.granted }
 
 -- room that was taken isn't less than before
 pub room-more : (done : Bool) (room more : ℕ) → room ≤ (if done then max room more else room)
@@ -50,6 +59,8 @@ module _ {D : Type 0} (may_leave : D → Area → List ℕ → Type 0) where
         inside = kept.inside;
         lasting = record { rest = kept.lasting.rest; split = kept.lasting.split; core = kept.lasting.core; safe = kept.lasting.safe; unpromised = kept.lasting.unpromised };
         images = λ image may. left-rested v round marks room image (kept.images image may);
+        granted = granted-rested v.failed v.journal (record v.journal { round = round; marks = marks }) refl kept.granted;
+        typed = kept.typed;
         full = kept.full;
       }
 

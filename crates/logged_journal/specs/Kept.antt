@@ -1,29 +1,40 @@
 -- What a journal with its log keeps.
 use Rattle.std.specs.Prelude.{◌≡◌, ℕ, ◌+◌, ◌<◌, ◌≤◌, true, List, length, drop, None, IfSome}
 use Rattle.disk_model.specs.declared.area.Area.{Area}
+use Rattle.disk_model.specs.declared.area.Area.TheVariants.{Pages}
 use Rattle.disk_model.specs.Causes.{Rose}
-use Rattle.disk_model.specs.Told.{EachImage}
+use Rattle.disk_model.specs.Told.{EachImage, Leaves}
 use Rattle.gate_log.specs.declared.stage.Stage.TheVariants.{Standing}
 use Rattle.gate_log.specs.Batches.{most_bytes}
 use Rattle.gate_log.specs.OnDisk.{IsOn}
+use Rattle.plain_model.specs.declared.calls.Call.TheVariants.{Commit}
+use Rattle.plain_model.specs.Machine.{refusal_of}
 use Rattle.plain_model.specs.History.{end_of}
 use Rattle.cell_page.specs.Format.{IsSlotCount}
+use Rattle.log_record.specs.Spelling.{IsPass}
+use Rattle.core_store.specs.JournalView.{JournalView}
 use Rattle.core_store.specs.Owed.{bytes_owed}
 use Rattle.core_store.specs.Safe.{IsDurable}
 use Rattle.logged_journal.specs.View.{LoggedView, bytes_counted}
-use Rattle.logged_journal.specs.Records.{notes_bytes, HoldRecords, durable_notes, MayBeLeft}
+use Rattle.logged_journal.specs.Records.{notes_bytes, AreTypedNotes, HoldRecords, durable_notes, MayBeLeft}
 
--- The log stands on the disk: its batches hold the records of the durable notes, its tail those of the notes behind them,
--- and it has room for what the active transactions owe.
+-- The log stands on the disk: with whatever pages a power loss leaves, its batches hold the records of the durable notes
+-- behind what the store opened with, its tail those of the notes behind them, and it has room for what the active
+-- transactions owe.
 pub record IsStanding {D : Type 0} (may_leave : D → Area → List ℕ → Type 0) (v : LoggedView D) : Type 0 where
   pub stage : v.log.stage ≡ Standing
   pub batches : List (List ℕ)
   pub on : IsOn may_leave v.log v.disk batches
-  pub hold : HoldRecords v.journal (durable_notes v) batches
+  pub hold : Leaves may_leave v.disk Pages (λ area. HoldRecords v.journal area (durable_notes v) batches)
   pub tail : v.log.tail ≡ notes_bytes (drop v.durable v.journal.notes)
   pub room : bytes_owed (end_of v.journal.history) ≤ v.log.room
   pub bounded : bytes_counted v ≤ most_bytes
   pub peak : bytes_counted v ≤ v.peak
+
+-- this client's commit isn't refused at the journal's end
+pub record CanCommit (j : JournalView) (pass : ℕ) : Type 0 where
+  pub client : IsPass pass
+  pub granted : refusal_of (end_of j.history).state pass Commit ≡ None
 
 pub record IsKept {D : Type 0} (may_leave : D → Area → List ℕ → Type 0) (v : LoggedView D) : Type 0 where
   -- unless the disk failed a commit
@@ -33,6 +44,10 @@ pub record IsKept {D : Type 0} (may_leave : D → Area → List ℕ → Type 0) 
   pub lasting : IsDurable v.journal (durable_notes v)
   -- whatever a power loss leaves, also after a failure
   pub images : EachImage may_leave v.disk (MayBeLeft v)
+  -- the disk failed no commit but one that was granted
+  pub granted : IfSome v.failed (λ f. CanCommit v.journal f.pass)
+  -- the numbers of each record are in the ranges of their types
+  pub typed : AreTypedNotes v.journal.notes
   -- a call was answered that the log is full, which was nearly so
   pub full : v.log_full ≡ true → v.journal.limits.log < v.peak + 520
 

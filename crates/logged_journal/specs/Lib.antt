@@ -1,4 +1,5 @@
 pub mod View
 pub mod Records
+pub mod Opens
 pub mod Kept
 pub mod Calls

@@ -1,15 +1,15 @@
 -- The records of notes, as they stand in a log.
-use Rattle.std.specs.Prelude.{◌≡◌, ◌⊎◌, ℕ, ◌/◌, ◌∷◌, [], List, map, Some, None, take}
-use Rattle.std.specs.List.{flat_map, last_or}
+use Rattle.std.specs.Prelude.{◌≡◌, ◌⊎◌, ℕ, ◌*◌, [], ◌++◌, List, map, Some, None, take, IfSome}
+use Rattle.std.specs.List.{flat_map, last_or, AllByRecursion}
 use Rattle.std.specs.Option.{option_map_or}
 use Rattle.plain_model.specs.declared.calls.Call.TheVariants.{Commit}
 use Rattle.plain_model.specs.declared.calls.Reply.TheVariants.{DiskFault}
 use Rattle.plain_model.specs.declared.calls.Entry.TheVariants.{Call}
 use Rattle.disk_model.specs.Areas.{Bytes}
 use Rattle.log_record.specs.declared.cell_record.CellRecord.TheVariants as logs
-use Rattle.log_record.specs.Spelling.{cell_record_bytes}
+use Rattle.log_record.specs.Spelling.{cell_record_bytes, IsTypedCellRecord}
 use Rattle.gate_log.specs.OnDisk.{HasLog}
-use Rattle.restart_store.specs.Fresh.{first_body_of}
+use Rattle.opened_images.specs.GoesOn.{IsBegun}
 use Rattle.core_store.specs.declared.act.Act.TheVariants.{Other}
 use Rattle.core_store.specs.declared.note.Note.{Note}
 use Rattle.core_store.specs.JournalView.{JournalView, with_note}
@@ -24,23 +24,33 @@ note_bytes n = option_map_or cell_record_bytes n.logged []
 abbrev pub notes_bytes : List Note → List ℕ
 notes_bytes notes = flat_map note_bytes notes
 
--- what the log of the journal's store begins with
-abbrev pub first_of : JournalView → List ℕ
-first_of j = first_body_of j.history.slots (j.history.ids / 8)
+-- the numbers of the note's record are in the ranges of their types
+abbrev pub IsTypedNote : Note → Type 0
+IsTypedNote n = IfSome n.logged IsTypedCellRecord
+
+-- so are those of all records
+abbrev pub AreTypedNotes : List Note → Type 0
+AreTypedNotes notes = AllByRecursion IsTypedNote notes
+
+-- with these bytes in the pages area, these are the batches of the log that the journal's store opened with
+abbrev pub OpenedWith : JournalView → List ℕ → List (List ℕ) → Type 0
+OpenedWith j area begun = (count : ℕ) × (j.history.ids ≡ 8 * count) × IsBegun j.history.slots count area begun j.opening
 
 -- the notes of these parts, one part behind another
 abbrev pub notes_in : List (List Note) → List Note
 notes_in parts = flat_map (λ (part : List Note). part) parts
 
--- these batches are what the log begins with, and behind it one for each part of the notes, in order: the records of that part, byte for byte
-abbrev pub HoldRecords : JournalView → List Note → List (List ℕ) → Type 0
-HoldRecords j notes batches = (parts : List (List Note)) × (notes_in parts ≡ notes) × (batches ≡ first_of j ∷ map notes_bytes parts)
+-- With these bytes in the pages area, these batches are those that the store opened with, and behind them one for each
+-- part of the notes, in order: the records of that part, byte for byte.
+abbrev pub HoldRecords : JournalView → List ℕ → List Note → List (List ℕ) → Type 0
+HoldRecords j area notes batches =
+    (begun : List (List ℕ)) × (parts : List (List Note)) × OpenedWith j area begun × (notes_in parts ≡ notes) × (batches ≡ begun ++ map notes_bytes parts)
 
--- in this image of the disk the log holds the records of these notes, and no others
+-- in this image of the disk the log holds the records of these notes behind what the store opened with, and no others
 pub record HasRecords (j : JournalView) (notes : List Note) (image : Bytes) : Type 0 where
   pub batches : List (List ℕ)
   pub log : HasLog batches image
-  pub hold : HoldRecords j notes batches
+  pub hold : HoldRecords j image.pages notes batches
 
 -- the notes with the commit of this client, which the disk failed
 abbrev pub with_commit : List Note → ℕ → List Note
@@ -63,3 +73,7 @@ MayHave v pass image = MayBeLeft v image ⊎ HasRecords v.journal (with_commit v
 -- the record of the last note, spelled
 abbrev pub last_bytes : List Note → List ℕ
 last_bytes notes = option_map_or note_bytes (last_or None notes) []
+
+-- its numbers are in the ranges of their types
+abbrev pub IsLastTyped : List Note → Type 0
+IsLastTyped notes = IfSome (last_or None notes) IsTypedNote

@@ -8,6 +8,7 @@ mod collect;
 mod failed;
 mod logged;
 mod spell;
+mod typed;
 
 pub use collect::CollectRefusal;
 pub use failed::{FailedCommit, Stopped};

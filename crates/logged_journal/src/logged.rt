@@ -1,14 +1,23 @@
 //! The journal with its log.
-ghost use Rattle.std.specs.Prelude.{◌≡◌, ◌≢◌, ◌↔◌, ℕ, ◌+◌, ◌*◌, ◌<◌, ◌≤◌, [], true, false, is_some, length, IfOk, IfErr, IfSome, OnOk, IsErrOf, IsSome, Some, None, ◌⊎◌};
+ghost use Rattle.std.specs.Prelude.{◌≡◌, ◌≢◌, ◌↔◌, ℕ, ◌+◌, ◌*◌, ◌<◌, ◌≤◌, List, [], true, false, is_some, length, IfOk, IfErr, IfSome, OnOk, IsErrOf, IsSome, Some, None, ◌⊎◌};
 ghost use Rattle.plain_model.specs.Machine.{IsInRange, refusal_of, transaction_of};
-ghost use Rattle.plain_model.specs.History.{end_of};
+ghost use Rattle.plain_model.specs.History.{with_entry, end_of};
+ghost use Rattle.cell_model.specs.Consistent.{AreConsistent};
+ghost use Rattle.restart_laws.specs.Graph.{zeros_of};
+ghost use Rattle.disk_model.specs.declared.area.Area.TheVariants.{Pages};
+ghost use Rattle.disk_model.specs.Areas.{Bytes};
 ghost use Rattle.disk_model.specs.Causes.{Rose};
-ghost use Rattle.disk_model.specs.Told.{EachImage};
+ghost use Rattle.disk_model.specs.Told.{EachImage, Leaves};
 ghost use Rattle.disk_model.specs.Time.{LeavesOnlyImages};
 ghost use Rattle.cell_page.specs.Format.{IsSlotCount};
-ghost use Rattle.gate_log.specs.State.{fresh_log};
-ghost use Rattle.restart_store.specs.Fresh.{HasFreshLog};
+ghost use Rattle.gate_log.specs.declared.stage.Stage.TheVariants.{Standing};
+ghost use Rattle.gate_log.specs.Batches.{most_bytes};
+ghost use Rattle.gate_log.specs.State.{used, fresh_log};
+ghost use Rattle.gate_log.specs.OnDisk.{IsOn};
+ghost use Rattle.restart_store.specs.Fresh.{HasFreshLog, fresh_pages_of};
+ghost use Rattle.opened_images.specs.GoesOn.{IsBegun};
 ghost use Rattle.core_store.specs.Fresh.{AreFresh, fresh_history};
+ghost use Rattle.core_store.specs.Opening.{ArePages, stored_in, opened_history};
 ghost use Rattle.core_store.specs.Frames.{Agree, AllAgree, IsNext, pages_held};
 ghost use Rattle.core_store.specs.JournalView.{cells_of};
 ghost use Rattle.core_store.specs.Limited.{AreLimits, is_past_limit, pages_for_call, pages_for_collector};
@@ -18,8 +27,10 @@ ghost use Rattle.core_store.specs.Replaced.{next_to_restore};
 ghost use Rattle.core_store.specs.RoundView.{Closed, left_of};
 ghost use Rattle.core_store.specs.Safe.{IsDurable};
 ghost use Rattle.core_store.specs.Steppings.{IsReadyForCollector, OnlyLooks, bytes_to_collect};
-ghost use Rattle.logged_journal.specs.View.{IsPast, bytes_counted};
-ghost use Rattle.logged_journal.specs.Records.{MayBeLeft, MayHave, durable_notes};
+ghost use Rattle.logged_journal.specs.View.{IsPast, history_of, bytes_counted};
+ghost use Rattle.logged_journal.specs.Records.{OpenedWith, HasRecords, MayBeLeft, MayHave, durable_notes, with_commit};
+ghost use Rattle.logged_journal.specs.Opens.{OpensAfter, OpensDuring};
+ghost use Rattle.logged_journal.specs.Kept.{CanCommit};
 ghost use Rattle.logged_journal.specs.Calls.{IsOfJournal, IsGranted, IsPastLog, DoesCall, KeepsFrames, KeepsDisk, GoesOn, FailsCommit, DoesAbortStep, IsPastLogToCollect, DoesCollect};
 
 use crate::collect::CollectRefusal;
@@ -29,7 +40,7 @@ use core_store::{AbortStep, Collect, Frame, Journal, Limits, Marks, Three, Want,
 use disk_model::Disk;
 use gate_log::GateLog;
 use log_record::CellRecord;
-use plain_model::{Call, Memory, Reply};
+use plain_model::{Call, Entry, Memory, Reply};
 use std::alloc::{AllocError, AllocFailed, Global};
 use std::marker::Model;
 
@@ -38,7 +49,8 @@ const LONGEST_RECORD: usize = 25;
 
 /// A journal whose events stand in a log on a disk, which it holds.
 ///
-/// Each event with a record appends it to the tail of the log at the same event. A commit makes the tail last before its
+/// It begins with a fresh store, or goes on with one that was opened, behind what the log has then. Each event with a
+/// record appends it to the tail of the log at the same event. A commit makes the tail last before its
 /// event, and is answered after that. Where the disk fails that, the store is stopped: each later call answers so and does
 /// nothing, and the store has to be opened again.
 #[derive(Drop)]
@@ -101,6 +113,7 @@ impl<const SLOTS: usize, D: Disk> LoggedJournal<SLOTS, D> {
         requires pages { (1 ≤ pages) × (pages ≤ 1024) }
         requires limits { AreLimits limits }
         requires log { HasFreshLog D.may_leave SLOTS pages disk }
+        requires page_area { Leaves D.may_leave disk Pages (λ area. area ≡ fresh_pages_of SLOTS pages) }
         ensures history { IfOk result (λ r. r.0.journal.history ≡ fresh_history SLOTS (8 * pages)) }
         ensures notes { IfOk result (λ r. (r.0.journal.notes ≡ []) × (r.0.durable ≡ 0)) }
         ensures limits { IfOk result (λ r. (r.0.journal.limits ≡ limits) × (r.0.journal.marks ≡ record { disk = false; trace = false; log = false })) }
@@ -113,6 +126,70 @@ impl<const SLOTS: usize, D: Disk> LoggedJournal<SLOTS, D> {
         ensures frames { IfOk result (λ r. AreFresh pages r.1.items) }
         ensures agree { IfOk result (λ r. AllAgree (cells_of r.0.journal) r.1.items) }
     {
+        match Journal::fresh(alloc, pages, limits) {
+            Ok((journal, frames)) => {
+                let _ = journal.history();
+                let logged = LoggedJournal::begin(alloc, journal, disk, GateLog::fresh(alloc))?;
+                Ok((logged, frames))
+            }
+            Err(memory) => Err((memory, disk)),
+        }
+    }
+
+    /// The store that opens with these frames, one for each page from 0 on, on a disk on which its log stands: the pages
+    /// and the log are what it opened to, and its log tells of no transaction that hasn't ended. In it no transaction is
+    /// active, and the log goes on behind what it has. Where there is no memory the disk is handed back.
+    pub fn resume(
+        alloc: Global,
+        disk: D,
+        log: GateLog,
+        frames: &[Frame<SLOTS>],
+        limits: Limits,
+    ) -> Result<LoggedJournal<SLOTS, D>, (Memory, D)>
+        requires size { IsSlotCount SLOTS }
+        requires few { (1 ≤ length frames.now) × (length frames.now ≤ 1024) }
+        requires pages { ArePages frames.now }
+        requires consistent { AreConsistent SLOTS (8 * length frames.now) (stored_in frames.now) }
+        requires limits { AreLimits limits }
+        requires standing { (log.stage ≡ Standing) × (log.tail ≡ []) × (used log ≤ most_bytes) }
+        requires begun { (batches : List (List ℕ)) × IsOn D.may_leave log disk batches
+            × Leaves D.may_leave disk Pages (λ area. IsBegun SLOTS (length frames.now) area batches (stored_in frames.now)) }
+        ensures opening { IfOk result (λ r. r.journal.opening ≡ stored_in frames.now) }
+        ensures history { IfOk result (λ r. r.journal.history ≡ opened_history SLOTS (8 * length frames.now) (stored_in frames.now)) }
+        ensures notes { IfOk result (λ r. (r.journal.notes ≡ []) × (r.durable ≡ 0)) }
+        ensures limits { IfOk result (λ r. (r.journal.limits ≡ limits) × (r.journal.marks ≡ record { disk = false; trace = false; log = false })) }
+        ensures collector { IfOk result (λ r. (r.journal.queue ≡ zeros_of (stored_in frames.now)) × (r.journal.round ≡ Closed)) }
+        ensures running { IfOk result (λ r. (r.failed ≡ None) × (r.log_full ≡ false)) }
+        ensures log { IfOk result (λ r. (r.log ≡ log) × (r.peak ≡ used log)) }
+        ensures disk { IfOk result (λ r. r.disk ≡ disk) }
+        ensures opened { IfOk result (λ r. r.opened ≡ D.faults disk) }
+        ensures back { IfErr result (λ e. e.1 ≡ disk) }
+        ensures agree { IfOk result (λ r. AllAgree (cells_of r.journal) frames.now) }
+    {
+        match Journal::resume(alloc, frames, limits) {
+            Ok(journal) => LoggedJournal::begin(alloc, journal, disk, log),
+            Err(memory) => Err((memory, disk)),
+        }
+    }
+
+    /// The journal of a store that has just opened, with its log, which stands on the disk and has an empty tail.
+    fn begin(
+        alloc: Global,
+        journal: Journal<SLOTS>,
+        disk: D,
+        log: GateLog,
+    ) -> Result<LoggedJournal<SLOTS, D>, (Memory, D)>
+        requires size { IsSlotCount SLOTS }
+        requires notes { journal.notes ≡ [] }
+        requires standing { (log.stage ≡ Standing) × (log.tail ≡ []) × (used log ≤ most_bytes) }
+        requires begun { (batches : List (List ℕ)) × IsOn D.may_leave log disk batches × Leaves D.may_leave disk Pages (λ area. OpenedWith journal area batches) }
+        ensures journal { IfOk result (λ r. (r.journal ≡ journal.entry) × (r.durable ≡ 0)) }
+        ensures running { IfOk result (λ r. (r.failed ≡ None) × (r.log_full ≡ false)) }
+        ensures log { IfOk result (λ r. (r.log ≡ log) × (r.peak ≡ used log)) }
+        ensures disk { IfOk result (λ r. r.disk ≡ disk) }
+        ensures opened { IfOk result (λ r. r.opened ≡ D.faults disk) }
+        ensures back { IfErr result (λ e. e.1 ≡ disk) }
+    {
         let mut spelling = Vec::new(alloc);
         if let Err(memory) = spelling.reserve(LONGEST_RECORD) {
             return Err((memory, disk));
@@ -122,24 +199,20 @@ impl<const SLOTS: usize, D: Disk> LoggedJournal<SLOTS, D> {
             Ok(disk) => disk,
             Err(AllocFailed { value }) => return Err((AllocError, value)),
         };
-        match Journal::fresh(alloc, pages, limits) {
-            Ok((journal, frames)) => {
-                let durable = journal.history().len();
-                let logged = LoggedJournal {
-                    journal,
-                    disk,
-                    log: GateLog::fresh(alloc),
-                    durable,
-                    failed: None,
-                    log_full: false,
-                    peak: 15,
-                    opened,
-                    spelling,
-                };
-                Ok((logged, frames))
-            }
-            Err(memory) => Err((memory, Box::into_inner(disk))),
-        }
+        let durable = journal.history().len();
+        let peak = log.used();
+        let logged = LoggedJournal {
+            journal,
+            disk,
+            log,
+            durable,
+            failed: None,
+            log_full: false,
+            peak,
+            opened,
+            spelling,
+        };
+        Ok(logged)
     }
 
     /// The journal: all that was done, but for a commit that the disk failed.
@@ -164,11 +237,25 @@ impl<const SLOTS: usize, D: Disk> LoggedJournal<SLOTS, D> {
         // A crash that keeps the records of just these notes is safe, and each commit that was done is among them.
         ensures lasting { IsDurable self.now.journal (durable_notes self.now) }
 
-        // In each image of the disk the log has the records of these notes, byte for byte, and no others; where the disk
-        // failed a commit, those or the records of all notes and of that commit.
+        // In each image of the disk the log has, behind what the store opened with, the records of these notes, byte for
+        // byte, and no others; where the disk failed a commit, those or the records of all notes and of that commit.
         ensures images { EachImage D.may_leave self.now.disk (MayBeLeft self.now) }
+
+        // And each image opens, to a graph that a crash may leave: each commit that was done is in it, and none in part.
+        ensures opens { EachImage D.may_leave self.now.disk (OpensAfter SLOTS (history_of self.now)) }
     {
+        self.know_images();
         self.durable
+    }
+
+    /// An image whose log has what a power loss may leave of it opens to a graph that a crash may leave; where it has the
+    /// records of all notes and of one commit more, to one that a crash may leave after the disk failed that.
+    fn know_images(&self)
+        ensures left { (image : Bytes) → MayBeLeft self.now image → OpensAfter SLOTS (history_of self.now) image }
+        ensures failing { (pass : ℕ) (image : Bytes) → CanCommit self.now.journal pass → HasRecords self.now.journal (with_commit self.now.journal.notes pass) image
+            → OpensAfter SLOTS (with_entry self.now.journal.history (Entry.Call pass Call.Commit Reply.DiskFault)) image }
+    {
+        let _ = self.journal.history();
     }
 
     /// The commit that the disk failed, if one was. Then no call does anything any more.
@@ -342,7 +429,12 @@ impl<const SLOTS: usize, D: Disk> LoggedJournal<SLOTS, D> {
         // At each moment of the call a power loss leaves a log of what was there for good before, or, where it is a commit,
         // of all that was done and this commit.
         ensures moments { LeavesOnlyImages D.moment D.left_since self.old.disk self.new.disk (MayHave self.old pass) }
+
+        // So at each of them the store opens, to a graph that a crash before the call may leave, or, where it is a commit that
+        // is granted, a crash after the disk failed it.
+        ensures opens { LeavesOnlyImages D.moment D.left_since self.old.disk self.new.disk (OpensDuring SLOTS self.old pass call.now) }
     {
+        self.know_images();
         if let Some(failed) = self.failed {
             return Reply::Stopped {
                 faults: failed.faults,

@@ -133,13 +133,13 @@ place_formed {slots} pages area rs id whole low high none =
 
 -- ---- one record after another
 
-items-append : {slots : ℕ} (rs ss : List (Record slots)) → items_of (rs ++ ss) ≡ items_of rs ++ items_of ss
+pub items-append : {slots : ℕ} (rs ss : List (Record slots)) → items_of (rs ++ ss) ≡ items_of rs ++ items_of ss
 items-append [] ss = refl
 items-append (OfCells r ∷ rs) ss = ap (λ (is : List Item). CellsItem (record_of r) ∷ is) (items-append rs ss)
 items-append (Image page cells ∷ rs) ss = ap (λ (is : List Item). ImageItem page (map cell_of cells) ∷ is) (items-append rs ss)
 items-append (Turn version pages ∷ rs) ss = items-append rs ss
 
-after_more : {slots : ℕ} (area : List ℕ) (done : List (Record slots)) (r : Record slots) (id : ℕ) → cell_after slots area (done ++ r ∷ []) id ≡ fold (after_item slots id) (cell_after slots area done id) (items_of (r ∷ []))
+pub after_more : {slots : ℕ} (area : List ℕ) (done : List (Record slots)) (r : Record slots) (id : ℕ) → cell_after slots area (done ++ r ∷ []) id ≡ fold (after_item slots id) (cell_after slots area done id) (items_of (r ∷ []))
 after_more {slots} area done r id =
     ap (λ (is : List Item). replayed slots id (cell_in_place slots area id) is) (items-append done (r ∷ [])) ∙ fold-append (after_item slots id) (cell_in_place slots area id) (items_of done) (items_of (r ∷ []))
 

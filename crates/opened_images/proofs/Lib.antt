@@ -6,4 +6,8 @@ pub mod SomeOutcome
 pub mod FormedCells
 pub mod AfterLog
 pub mod Undone
+pub mod GoesOnRooms
+pub mod GoesOnCells
+pub mod GoesOnLog
+pub mod GoesOn
 pub mod Samples

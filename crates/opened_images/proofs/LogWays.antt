@@ -32,7 +32,7 @@ batch_there front body more area is whole =
 
 -- ---- batches one by one
 
-unended_append : {slots : ℕ} (us : List (ℕ × Unended)) (rs ss : List (Record slots)) → unended_by_all us (rs ++ ss) ≡ unended_by_all (unended_by_all us rs) ss
+pub unended_append : {slots : ℕ} (us : List (ℕ × Unended)) (rs ss : List (Record slots)) → unended_by_all us (rs ++ ss) ≡ unended_by_all (unended_by_all us rs) ss
 unended_append us [] ss = refl
 unended_append us (r ∷ rs) ss = unended_append (unended_by us r) rs ss
 

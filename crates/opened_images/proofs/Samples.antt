@@ -1,12 +1,14 @@
 -- Worked openings, in stores of one page.
-use Rattle.std.proofs.Common.{◌≡◌, ℕ, zero, suc, ◌+◌, ◌<◌, List, [], ◌∷◌, ◌++◌, drop, Some, None, refl, sym, ◌∙◌, subst, inl, inr, lit<, lit≤, arith}
+use Rattle.std.proofs.Common.{◌≡◌, ℕ, zero, suc, ◌+◌, ◌<◌, List, [], ◌∷◌, ◌++◌, map, drop, Option, Some, None, refl, sym, ◌∙◌, subst, inl, inr, lit<, lit≤, arith}
 use Rattle.std.specs.Prelude.{replicate, Bool, true, false, ◌||◌, ◌≤◌}
 use Rattle.cell_model.specs.Cells.{null, blank_cell}
+use Rattle.cell_model.specs.Records.{Begin as BeginStored}
 use Rattle.store_model.specs.Fresh.{fresh_root, fresh_cells}
 use Rattle.cell_page.specs.Format.{page_bytes, fresh_page, first_id, cell_bytes, field_bytes}
 use Rattle.cell_page.specs.Fields.{number_at, cell_in, bits_break, broken_in_cell, bytes_at, FailsAt}
 use Rattle.disk_model.specs.declared.area.Area.TheVariants.{LogA}
 use Rattle.disk_model.specs.Areas.{Bytes}
+use Rattle.log_record.specs.declared.cell_record.CellRecord.{CellRecord}
 use Rattle.log_record.specs.declared.cell_record.CellRecord.TheVariants.{Begin, Make, Store, Commit}
 use Rattle.log_record.specs.declared.record.Record.{Record}
 use Rattle.log_record.specs.declared.record.Record.TheVariants.{OfCells, Image}
@@ -14,6 +16,7 @@ use Rattle.log_record.specs.Spelling.{cell_record_bytes}
 use Rattle.log_record.specs.Reading.{fields_in}
 use Rattle.log_record.proofs.ReadLaws.{of_fields, none_of_fields}
 use Rattle.restart_laws.specs.Local.{is_in_page}
+use Rattle.restart_laws.specs.Restored.{opened}
 use Rattle.restart_laws.proofs.RuleLaws.{consistent-rules}
 use Rattle.store_model.proofs.FreshSound.{fresh-sound}
 use Rattle.opened_images.specs.LogRecords.{AreBatches, HasNoNext, AllFitLog, log_bytes}
@@ -21,6 +24,7 @@ use Rattle.page_area.specs.Place.{bytes_of_page}
 use Rattle.opened_images.specs.Replayed.{cells_of_log, IsDamagedPage, FitsCellsOf, AllFitCells}
 use Rattle.opened_images.specs.Opened.{UnknownVersion, DamagedLog, DamagedPage, OpensTo, IsLogRead, ArePagesRead, Opened, unknown_version, damaged_log, damaged_page, unfit, opens}
 use Rattle.opened_images.specs.LogRecords.{no_record}
+use Rattle.opened_images.specs.GoesOn.{IsEndedLog, logged_records, stored_records, in_parts}
 
 -- the pages of a fresh store, and a log of this version
 fresh_pages : List ℕ
@@ -242,3 +246,27 @@ wide_version_1 = unknown_version LogA 1 refl (record {
   first = record { whole = record { some = lit≤ tt; fits = lit< tt }; rest = 0 ∷ []; are = refl; short = lit≤ tt };
   unknown = λ e. omega arith;
 })
+
+-- ---- a log without a batch that goes on with one part: an event that logs nothing, and client 1 begins
+
+begun_parts : List (List (Option CellRecord))
+begun_parts = (None ∷ Some (Begin 1) ∷ []) ∷ []
+
+-- the log of a fresh store has ended
+fresh_ended : IsEndedLog {slots = 6} 1 fresh_pages [] (fresh_cells 6 7)
+unfolding fresh_pages cell_bytes field_bytes cell_in number_at
+fresh_ended = record { read = no_batches; whole = whole []; fit = tt; are = refl; ended = refl }
+
+-- the part is one batch, with the one record
+begun_batches : map (logged_records {slots = 6}) begun_parts ≡ (OfCells (Begin 1) ∷ []) ∷ []
+unfolding begun_parts
+begun_batches = refl
+
+begun_records : stored_records (in_parts begun_parts) ≡ None ∷ Some (BeginStored 1) ∷ []
+unfolding begun_parts
+begun_records = refl
+
+-- the client's transaction is undone when the image opens
+begun_opens : opened 6 (fresh_cells 6 7) (stored_records (in_parts begun_parts)) ≡ fresh_cells 6 7
+unfolding begun_parts
+begun_opens = refl

@@ -12,13 +12,20 @@ use Rattle.gate_log.specs.OnDisk.{IsOn}
 use Rattle.log_record.specs.declared.record.Record.TheVariants.{Turn}
 use Rattle.log_record.specs.Spelling.{record_bytes, known_version}
 
--- the bytes of the page of this number in a fresh store
-abbrev pub fresh_page_bytes : ℕ → List ℕ
-fresh_page_bytes page = page_bytes (fresh_page 6 page)
+-- the bytes of the page of this number in a fresh store whose objects have so many slots
+abbrev pub fresh_page_bytes_of : (slots page : ℕ) → List ℕ
+fresh_page_bytes_of slots page = page_bytes (fresh_page slots page)
 
--- so many pages of a fresh store, one behind another
+-- so many pages of such a store, one behind another
+abbrev pub fresh_pages_of : (slots pages : ℕ) → List ℕ
+fresh_pages_of slots pages = flat_map (fresh_page_bytes_of slots) (range_with_len 0 pages)
+
+-- the same in a store whose objects have six slots
+abbrev pub fresh_page_bytes : ℕ → List ℕ
+fresh_page_bytes page = fresh_page_bytes_of 6 page
+
 abbrev pub fresh_pages : ℕ → List ℕ
-fresh_pages pages = flat_map fresh_page_bytes (range_with_len 0 pages)
+fresh_pages pages = fresh_pages_of 6 pages
 
 -- the first batch's body in a store of so many pages whose objects have so many slots: one `Turn` record of the known version
 abbrev pub first_body_of : (slots pages : ℕ) → List ℕ

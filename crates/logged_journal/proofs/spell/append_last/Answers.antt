@@ -1,13 +1,14 @@
 use Rattle.std.proofs.Common.{◌≡◌, ◌∙◌, ◌≤◌, ◌-◌, [], List, ℕ, Option, Some, None, length, sym, ap, subst, arith}
+use Rattle.std.specs.Prelude.{IfSome}
 use Rattle.std.specs.Option.{option_map_or}
 use Rattle.std.specs.List.{last_or}
 use Rattle.std.proofs.lemmas.List.{append-nil}
 use Rattle.log_record.specs.declared.cell_record.CellRecord.{CellRecord}
-use Rattle.log_record.specs.Spelling.{cell_record_bytes}
+use Rattle.log_record.specs.Spelling.{cell_record_bytes, IsTypedCellRecord}
 use Rattle.gate_log.specs.State.{LogState, appended}
 use Rattle.core_store.specs.declared.note.Note.{Note}
 use Rattle.core_store.proofs.ReplacedLists.{slice_get-last}
-use Rattle.logged_journal.specs.Records.{note_bytes, last_bytes}
+use Rattle.logged_journal.specs.Records.{note_bytes, IsTypedNote, last_bytes, IsLastTyped}
 use Rattle.logged_journal.proofs.spell.append_last.Goals as goal
 
 -- the bytes of the last note
@@ -40,3 +41,18 @@ returns-in_default-logged-clause-log g c =
     let last = c.in-Some.ensures.value ∙ slice_get-last c.history.result.now in
     let bytes = last-logged c.args.journal.now.notes c.history.result.now c.in-Some.note.now None c.history.ensures.notes last c.in_default-logged.is in
     sym (append-none c.args.log.now) ∙ ap (λ (l : List ℕ). appended c.args.log.now l) (sym bytes)
+
+-- the numbers of the last note's record
+last-is-typed : (notes read : List Note) (n : Note) (logged : Option CellRecord) → read ≡ notes → Some n ≡ last_or None read → n.logged ≡ logged → IfSome logged IsTypedCellRecord → IsLastTyped notes
+last-is-typed notes read n logged same is logs typed =
+    subst IsLastTyped same (subst (λ (o : Option Note). IfSome o IsTypedNote) is (subst (λ (o : Option CellRecord). IfSome o IsTypedCellRecord) (sym logs) typed))
+
+pub returns-in-Some-logged-clause-typed : goal.returns-in-Some-logged-clause-typed
+returns-in-Some-logged-clause-typed g c =
+    let last = c.in-Some.ensures.value ∙ slice_get-last c.history.result.now in
+    last-is-typed c.args.journal.now.notes c.history.result.now c.in-Some.note.now (Some c.in-Some-logged.record) c.history.ensures.notes last c.in-Some-logged.is c.append_record.ensures.typed
+
+pub returns-in_default-logged-clause-typed : goal.returns-in_default-logged-clause-typed
+returns-in_default-logged-clause-typed g c =
+    let last = c.in-Some.ensures.value ∙ slice_get-last c.history.result.now in
+    last-is-typed c.args.journal.now.notes c.history.result.now c.in-Some.note.now None c.history.ensures.notes last c.in_default-logged.is tt

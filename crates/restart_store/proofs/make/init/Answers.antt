@@ -1,5 +1,5 @@
 use Rattle.std.proofs.Common.{refl}
-use Rattle.disk_model.specs.declared.area.Area.TheVariants.{LogA, Super}
+use Rattle.disk_model.specs.declared.area.Area.TheVariants.{LogA, Pages, Super}
 use Rattle.disk_model.specs.Areas.{in_area}
 use Rattle.disk_model.proofs.Moments.{weaken, and_then}
 use Rattle.gate_log.proofs.Starts.{fresh_on}
@@ -52,3 +52,9 @@ returns-clause-log g c =
     let made = store_made c.args.pages c.in_ok-clear.ensures.made c.clear.ensures.keeps c.in_ok-make_areas.ensures.made c.make_areas.ensures.keeps
     c.in_ok-name_first.ensures.made c.name_first.ensures.keeps in
     fresh_on g.D.Disk.content g.D.Disk.may_leave c.name_first.new.disk (first_body c.args.pages) refl (made_leaves (made Super)) (made_leaves (made LogA))
+
+pub returns-clause-pages : goal.returns-clause-pages
+returns-clause-pages g c =
+    let made = store_made c.args.pages c.in_ok-clear.ensures.made c.clear.ensures.keeps c.in_ok-make_areas.ensures.made c.make_areas.ensures.keeps
+    c.in_ok-name_first.ensures.made c.name_first.ensures.keeps in
+    made_leaves (made Pages)

@@ -59,3 +59,6 @@ returns-clause-untouched g c = rw (← c.self.view_is) c.apply-reply.ensures.unt
 
 pub returns-clause-fault : goal.returns-clause-fault
 returns-clause-fault g c = λ e. rw (← c.self.view_is) (c.apply-reply.ensures.fault e).0
+
+pub returns-clause-opens : goal.returns-clause-opens
+returns-clause-opens g c = rw (← c.self.view_is) c.apply-reply.ensures.opens

@@ -79,7 +79,7 @@ invariant_of-self g c =
       spelling = c.append_last.ensures.spelling;
       counted = c.self.invariant.counted;
       kept = subst (λ (log : LogState). IsKept g.D.Disk.may_leave (record (before g d) { journal = c.abort_step-step.new.self; log = log })) (sym c.append_last.ensures.log)
-          (kept-stepped g.D.Disk.may_leave g.row.SLOTS (before g d) c.abort_step-step.new.self c.args.pass c.abort_step-step.result (stepped g d));
+          (kept-stepped g.D.Disk.may_leave g.row.SLOTS (before g d) c.abort_step-step.new.self c.args.pass c.abort_step-step.result c.append_last.ensures.typed (stepped g d));
     }
 
 pub returns-clause-does : goal.returns-clause-does

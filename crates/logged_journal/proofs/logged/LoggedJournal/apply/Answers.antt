@@ -5,7 +5,7 @@ use Rattle.plain_model.specs.declared.calls.Reply.TheVariants as reply
 use Rattle.logged_journal.specs.View.{LoggedView, IsPast}
 use Rattle.logged_journal.specs.Records.{MayHave}
 use Rattle.logged_journal.specs.Calls.{IsOfJournal, DoesCall, FailsCommit, IsGranted, KeepsFrames}
-use Rattle.logged_journal.proofs.AppliedCalls.{still, not-granted, is-granted, never-done, never-memory, no-other, if-none}
+use Rattle.logged_journal.proofs.AppliedCalls.{still, opens-still, opens-commit, not-granted, is-granted, never-done, never-memory, no-other, if-none}
 use Rattle.logged_journal.proofs.logged.LoggedJournal.apply.Given.{Over}
 use Rattle.logged_journal.proofs.logged.LoggedJournal.apply.Goals as goal
 
@@ -168,4 +168,31 @@ returns-in_default-call g c =
       moments = subst (λ (w : LoggedView g.row.D.Denot). w.disk ≡ w.disk → LeavesOnlyImages g.D.Disk.moment g.D.Disk.left_since w.disk c.log_call.new.self.disk (MayHave w c.args.pass)) c.self.view_is
           (λ _. still g.D.Disk.may_leave g.D.Disk.moment g.D.Disk.left_since g.D.Disk.only_now _ c.args.pass c.log_call.new.self.disk
           (c.log_call.ensures.disk.disk ∙ ap (λ (w : LoggedView g.row.D.Denot). w.disk) (sym c.self.view_is)) c.self.invariant.kept) refl;
+      opens = opens-still g.D.Disk.may_leave g.D.Disk.moment g.D.Disk.left_since g.D.Disk.only_now g.row.SLOTS c.args.pass c.args.call.now _ c.args.self.now c.log_call.new.self.disk c.self.view_is
+          c.self.invariant.kept c.log_call.ensures.disk.disk c.know_images.ensures.left;
     }
+
+-- ---- what the images open to
+
+pub returns-in-Some-clause-opens : goal.returns-in-Some-clause-opens
+returns-in-Some-clause-opens g c =
+    opens-still g.D.Disk.may_leave g.D.Disk.moment g.D.Disk.left_since g.D.Disk.only_now g.row.SLOTS c.args.pass c.args.call.now _ c.args.self.now c.args.self.now.disk c.self.view_is
+    c.self.invariant.kept refl c.know_images.ensures.left
+
+pub returns-then-not-grants-clause-opens : goal.returns-then-not-grants-clause-opens
+returns-then-not-grants-clause-opens g c =
+    opens-still g.D.Disk.may_leave g.D.Disk.moment g.D.Disk.left_since g.D.Disk.only_now g.row.SLOTS c.args.pass c.args.call.now _ c.args.self.now c.refuse.new.self.disk c.self.view_is
+    c.self.invariant.kept c.refuse.ensures.disk.disk c.know_images.ensures.left
+
+pub returns-then-is_past-clause-opens : goal.returns-then-is_past-clause-opens
+returns-then-is_past-clause-opens g c =
+    opens-still g.D.Disk.may_leave g.D.Disk.moment g.D.Disk.left_since g.D.Disk.only_now g.row.SLOTS c.args.pass c.args.call.now _ c.args.self.now c.mark_full.new.self.disk c.self.view_is
+    c.self.invariant.kept (ap (λ (w : LoggedView g.row.D.Denot). w.disk) c.mark_full.ensures.marked) c.know_images.ensures.left
+
+pub returns-in-Commit-clause-opens : goal.returns-in-Commit-clause-opens
+returns-in-Commit-clause-opens g c =
+    let all = subst (λ (w : LoggedView g.row.D.Denot). IsGranted w.journal c.args.pass c.args.call.now) c.self.view_is
+    (is-granted c.self.inside.journal c.args.pass c.args.call.now c.grants.result c.grants.ensures c.if-not-grants.false) in
+    opens-commit g.D.Disk.moment g.D.Disk.left_since g.row.SLOTS c.args.pass c.args.call.now c.args.self.now c.args.self.now.disk c.commit.new.self.disk c.in-Commit.is
+    (ap (λ (w : LoggedView g.row.D.Denot). w.failed) (sym c.self.view_is) ∙ c.in_default.is) c.requires.client
+    (subst (λ (x : TransactionCall). IsGranted c.args.self.now.journal c.args.pass x) c.in-Commit.is all) c.know_images.ensures.left c.know_images.ensures.failing c.commit.ensures.moments

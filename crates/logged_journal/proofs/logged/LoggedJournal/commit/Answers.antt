@@ -1,12 +1,14 @@
-use Rattle.std.proofs.Common.{◌≡◌, ◌∙◌, ℕ, ◌+◌, ◌≤◌, false, List, length, Option, None, refl, sym, map, ap, subst, arith}
-use Rattle.std.specs.Prelude.{is_err, IfSome}
+use Rattle.std.proofs.Common.{◌≡◌, ◌∙◌, ℕ, ◌+◌, ◌≤◌, false, List, length, Option, None, ⊎_elim, refl, sym, map, ap, subst, arith, rules}
+use Rattle.std.specs.Prelude.{⊤, is_err, IfSome}
 use Rattle.plain_model.specs.declared.calls.Call.TheVariants as call
 use Rattle.plain_model.specs.declared.calls.Reply.TheVariants as reply
 use Rattle.plain_model.specs.declared.calls.Entry.TheVariants.{Call}
 use Rattle.plain_model.specs.History.{end_of}
 use Rattle.disk_model.specs.declared.area.Area.{Area}
+use Rattle.disk_model.specs.declared.area.Area.TheVariants.{Pages}
 use Rattle.disk_model.specs.Areas.{Bytes}
 use Rattle.disk_model.specs.Causes.{Rose}
+use Rattle.disk_model.specs.Told.{KeepsOthers, IsImageBut}
 use Rattle.disk_model.specs.Time.{LeavesOnlyImages}
 use Rattle.disk_model.proofs.Moments.{at_exit}
 use Rattle.log_record.specs.Spelling.{cell_record_bytes}
@@ -15,9 +17,11 @@ use Rattle.gate_log.specs.State.{LogState, forced, failed, used}
 use Rattle.gate_log.specs.OnDisk.{with_batch, IsOn, HasEither}
 use Rattle.core_store.specs.declared.act.Act.TheVariants.{Other}
 use Rattle.core_store.specs.declared.note.Note.{Note}
-use Rattle.core_store.specs.Frames.{Agree}
+use Rattle.core_store.specs.declared.want.Want.TheVariants as want
+use Rattle.core_store.specs.Frames.{Agree, pages_held}
+use Rattle.core_store.specs.Limited.{pages_for_call}
 use Rattle.core_store.specs.JournalView.{cells_of}
-use Rattle.core_store.specs.Logged.{logged_by}
+use Rattle.core_store.specs.Logged.{logged_by, want_of}
 use Rattle.core_store.specs.Owed.{bytes_owed}
 use Rattle.core_store.specs.RoundView.{left_of}
 use Rattle.core_store.specs.Steppings.{IsEntered}
@@ -28,6 +32,7 @@ use Rattle.logged_journal.specs.View.{LoggedView}
 use Rattle.logged_journal.specs.Records.{MayHave}
 use Rattle.logged_journal.specs.Calls.{IsOfJournal, IsGranted, DoesCall, KeepsFrames, GoesOn}
 use Rattle.logged_journal.specs.Kept.{IsStanding}
+use Rattle.logged_journal.proofs.Commits.{pages-apart}
 use Rattle.logged_journal.proofs.CommitDone.{commit-done, commit-logged, commit-falls, commit-owed, was-ok, on-ok, on-err, with_record, record-on, note-holds, record-bounded, record-moments, kept-failed, HasCommitted, counted-falls, kept-done}
 use Rattle.logged_journal.proofs.logged.LoggedJournal.commit.Given.{Over}
 use Rattle.logged_journal.proofs.logged.LoggedJournal.commit.Goals as goal
@@ -37,6 +42,10 @@ use Rattle.logged_journal.proofs.logged.LoggedJournal.commit.Goals as goal
 abbrev Runs : {D : Type 0} → (D → Area → List ℕ → Type 0) → (D → ℕ) → (D → ℕ → Bytes → Type 0) → LogState → D → D → Type 0
 Runs may_leave moment left_since log now before =
     (batches : List (List ℕ)) → IsOn may_leave log before batches → used log ≤ most_bytes → LeavesOnlyImages moment left_since before now (HasEither batches (with_batch batches log.tail))
+
+-- and in the areas but the log's
+abbrev Others : {D : Type 0} → (D → Area → List ℕ → Type 0) → (D → ℕ) → (D → ℕ → Bytes → Type 0) → LogState → D → D → Type 0
+Others may_leave moment left_since log now before = LeavesOnlyImages moment left_since before now (IsImageBut may_leave before log.area (λ _. ⊤))
 
 -- ---- before the force
 
@@ -83,9 +92,10 @@ force-requires-clause-on g c κs within =
 pub invariant_of-self : goal.invariant_of-self
 invariant_of-self g c =
     let run = subst (λ (d : g.row.D.Denot). Runs g.D.Disk.may_leave g.D.Disk.moment g.D.Disk.left_since c.append_record.new.log c.force.new.disk d) c.as_mut.ensures.value c.force.ensures.moments in
+    let others = subst (λ (d : g.row.D.Denot). Others g.D.Disk.may_leave g.D.Disk.moment g.D.Disk.left_since c.append_record.new.log c.force.new.disk d) c.as_mut.ensures.value c.force.ensures.others in
     let moments = record-moments g.D.Disk.may_leave (view_of c.self.inside) g.D.Disk.moment g.D.Disk.left_since c.append_record.new.log c.force.new.disk c.args.pass
     (c.self.invariant.kept.standing (running c.self.inside c.args.self.now c.self.view_is c.requires.running))
-    (owed c.self.inside c.args.self.now c.args.pass c.self.view_is c.requires.granted) c.append_record.ensures.log run in
+    (owed c.self.inside c.args.self.now c.args.pass c.self.view_is c.requires.granted) c.append_record.ensures.log run others in
     record {
       size = c.self.invariant.size;
       spelling = c.append_record.ensures.spelling;
@@ -101,7 +111,8 @@ invariant_of-self g c =
             omega (arith, before, value, rose, told),
       );
       kept = kept-failed g.D.Disk.may_leave (view_of c.self.inside) _ c.args.pass c.faults.result c.self.invariant.kept
-          (running c.self.inside c.args.self.now c.self.view_is c.requires.running) refl refl refl refl refl (at_exit g.D.Disk.may_leave g.D.Disk.counts_now moments);
+          (running c.self.inside c.args.self.now c.self.view_is c.requires.running) refl refl refl refl refl
+          (record { client = c.requires.client; granted = (granted c.self.inside c.args.self.now c.args.pass c.self.view_is c.requires.granted).granted }) (at_exit g.D.Disk.may_leave g.D.Disk.counts_now moments);
     }
 
 pub returns-then-is_err-clause-frames : goal.returns-then-is_err-clause-frames
@@ -117,12 +128,35 @@ returns-then-is_err-clause-frames g c =
 pub returns-then-is_err-clause-moments : goal.returns-then-is_err-clause-moments
 returns-then-is_err-clause-moments g c =
     let run = subst (λ (d : g.row.D.Denot). Runs g.D.Disk.may_leave g.D.Disk.moment g.D.Disk.left_since c.append_record.new.log c.force.new.disk d) c.as_mut.ensures.value c.force.ensures.moments in
+    let others = subst (λ (d : g.row.D.Denot). Others g.D.Disk.may_leave g.D.Disk.moment g.D.Disk.left_since c.append_record.new.log c.force.new.disk d) c.as_mut.ensures.value c.force.ensures.others in
     let moments = record-moments g.D.Disk.may_leave (view_of c.self.inside) g.D.Disk.moment g.D.Disk.left_since c.append_record.new.log c.force.new.disk c.args.pass
     (c.self.invariant.kept.standing (running c.self.inside c.args.self.now c.self.view_is c.requires.running))
-    (owed c.self.inside c.args.self.now c.args.pass c.self.view_is c.requires.granted) c.append_record.ensures.log run in
+    (owed c.self.inside c.args.self.now c.args.pass c.self.view_is c.requires.granted) c.append_record.ensures.log run others in
     subst (λ (w : LoggedView g.row.D.Denot). LeavesOnlyImages g.D.Disk.moment g.D.Disk.left_since w.disk c.force.new.disk (MayHave w c.args.pass)) c.self.view_is moments
 
 -- ---- where it was done
+
+pub apply-reply-requires : goal.apply-reply-requires
+apply-reply-requires g c =
+    let small : g.row.SLOTS ≤ 14 = ⊎_elim (λ six. omega arith) (λ fourteen. omega arith) c.self.invariant.size in (
+      search rules,
+      (
+        search rules,
+        (
+          c.requires.client,
+          (
+            tt,
+            (
+              (λ e. absurd (cc (e))),
+              (
+                subst (λ (v : LoggedView g.row.D.Denot). Agree (cells_of v.journal) c.args.held.now) (sym c.self.view_is) c.requires.agree,
+                subst (λ (v : LoggedView g.row.D.Denot). want_of (pages_for_call v.journal c.args.pass call.Commit) (pages_held c.args.held.now) ≡ want.Ready) (sym c.self.view_is) c.requires.ready,
+              ),
+            ),
+          ),
+        ),
+      ),
+    )
 
 grants : (g : Over) (c : goal.After-self-2-1 g) → IsGranted c.self.inside.journal c.args.pass call.Commit
 grants g c = granted c.self.inside c.args.self.now c.args.pass c.self.view_is c.requires.granted
@@ -197,6 +231,7 @@ committed g c =
     let a = c.apply-reply.ensures in
     let on = record-on g.D.Disk.may_leave v log c.args.pass s c.append_record.ensures.log in
     let reached = subst (λ (d : g.row.D.Denot). IsOn g.D.Disk.may_leave log d s.batches) (sym c.as_mut.ensures.value) on in
+    let keeps = subst (λ (d : g.row.D.Denot). KeepsOthers g.D.Disk.content g.D.Disk.may_leave d c.force.new.disk log.area) c.as_mut.ensures.value c.force.ensures.keeps in
     let bounded = record-bounded g.D.Disk.may_leave v log c.args.pass s (owed c.self.inside c.args.self.now c.args.pass c.self.view_is c.requires.granted) c.append_record.ensures.log in
     record {
       note = record { entry = a.entry (entered g c); noted = a.noted (entered g c); opening = a.opening.0 };
@@ -205,9 +240,11 @@ committed g c =
       log = log-is g c;
       on = on-ok c.force.result _ (succeeded g c) (c.force.ensures.on s.batches reached);
       have = on-ok c.force.result _ (succeeded g c) (c.force.ensures.images s.batches reached bounded);
-      hold = note-holds g.D.Disk.may_leave v log c.args.pass (note g c) s c.append_record.ensures.log (commit-logged (end_of c.self.inside.journal.history).state (cells_of c.self.inside.journal) c.args.pass (grants g c).granted);
+      hold = λ area may. note-holds g.D.Disk.may_leave v log c.args.pass (note g c) s c.append_record.ensures.log (commit-logged (end_of c.self.inside.journal.history).state (cells_of c.self.inside.journal) c.args.pass (grants g c).granted)
+          area ((keeps Pages (pages-apart log.area on.area)).no_more area may);
       all = ap (λ (l : List Note). length l) c.history.ensures.notes;
       lasting = durable-all c.apply-reply.new.self (subst (λ (l : List Note). map (λ n. n.entry) l ≡ c.apply-reply.new.self.history.entries) c.history.ensures.notes c.history.ensures.entries) c.history.ensures.safe;
+      running = running c.self.inside c.args.self.now c.self.view_is c.requires.running;
       others = (refl, refl);
       falls = falls g c;
     }
@@ -262,6 +299,7 @@ returns-clause-fault g c is = absurd (let k = sym (done g c) ∙ is in cc (k))
 pub returns-clause-moments : goal.returns-clause-moments
 returns-clause-moments g c =
     let run = subst (λ (d : g.row.D.Denot). Runs g.D.Disk.may_leave g.D.Disk.moment g.D.Disk.left_since c.append_record.new.log c.force.new.disk d) c.as_mut.ensures.value c.force.ensures.moments in
+    let others = subst (λ (d : g.row.D.Denot). Others g.D.Disk.may_leave g.D.Disk.moment g.D.Disk.left_since c.append_record.new.log c.force.new.disk d) c.as_mut.ensures.value c.force.ensures.others in
     subst (λ (w : LoggedView g.row.D.Denot). LeavesOnlyImages g.D.Disk.moment g.D.Disk.left_since w.disk c.force.new.disk (MayHave w c.args.pass)) c.self.view_is
     (record-moments g.D.Disk.may_leave (view_of c.self.inside) g.D.Disk.moment g.D.Disk.left_since c.append_record.new.log c.force.new.disk c.args.pass (stands g c)
-    (owed c.self.inside c.args.self.now c.args.pass c.self.view_is c.requires.granted) c.append_record.ensures.log run)
+    (owed c.self.inside c.args.self.now c.args.pass c.self.view_is c.requires.granted) c.append_record.ensures.log run others)

@@ -215,7 +215,7 @@ invariant_of-self-in_default g c =
       counted = c.self.invariant.counted;
       kept = subst (P c.append_last.new.log) (sym (peak-is g c))
           (subst (λ (l : LogState). P l (max c.self.inside.peak (used l + bytes_owed (end_of c.apply.new.self.history)))) (sym (log-is g c))
-          (kept-called g.D.Disk.may_leave g.row.SLOTS v c.apply.new.self c.args.pass c.args.call.now c.apply.result c.self.invariant.kept is));
+          (kept-called g.D.Disk.may_leave g.row.SLOTS v c.apply.new.self c.args.pass c.args.call.now c.apply.result c.self.invariant.kept c.append_last.ensures.typed is));
     }
 
 pub returns-in_default : goal.returns-in_default

@@ -123,7 +123,7 @@ append_last-requires g c =
 pub overflow_add-used : goal.overflow_add-used
 overflow_add-used g c =
     let d = (goal.at.overflow_add-used g c).In_default in
-    let bounded = (kept-collected g.D.Disk.may_leave g.row.SLOTS (before g d) c.collect_step.new.self c.collect_step.result (room g d) (collected_is g d)).standing (collected_is g d).running in
+    let bounded = (kept-collected g.D.Disk.may_leave g.row.SLOTS (before g d) c.collect_step.new.self c.collect_step.result (room g d) c.append_last.ensures.typed (collected_is g d)).standing (collected_is g d).running in
     let most = bounded.bounded in
     let log = c.append_last.ensures.log ∙ ap (λ (l : LogState). appended l (last_bytes c.collect_step.new.self.notes)) c.reserve.ensures.log in
     let size = ap (λ (l : LogState). used l) log in
@@ -144,7 +144,7 @@ invariant_of-self-in_default g c =
       spelling = c.append_last.ensures.spelling;
       counted = c.self.invariant.counted;
       kept = subst (λ (w : LoggedView g.row.D.Denot). IsKept g.D.Disk.may_leave w) (sym (after g d c.append_last.new.log c.max-self-inside.result c.append_last.ensures.log peak))
-          (kept-collected g.D.Disk.may_leave g.row.SLOTS v c.collect_step.new.self c.collect_step.result (room g d) (collected_is g d));
+          (kept-collected g.D.Disk.may_leave g.row.SLOTS v c.collect_step.new.self c.collect_step.result (room g d) c.append_last.ensures.typed (collected_is g d));
     }
 
 pub returns-in-Memory-clause-does : goal.returns-in-Memory-clause-does
