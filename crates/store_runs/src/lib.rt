@@ -10,4 +10,6 @@ mod logged;
 #[cfg(test)]
 mod readme;
 #[cfg(test)]
+mod restarts;
+#[cfg(test)]
 mod scripts;

@@ -24,7 +24,7 @@ fn fresh(
 }
 
 /// A client makes an object and lays it into the root. This is what its commit is answered.
-fn commit_an_object(journal: &mut FramedJournal<6, MemoryDisk>) -> Reply {
+pub(crate) fn commit_an_object(journal: &mut FramedJournal<6, MemoryDisk>) -> Reply {
     journal.call(1, &Call::Begin);
     journal.call(1, &Call::Make { into: 1 });
     journal.call(

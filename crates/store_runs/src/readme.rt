@@ -1,7 +1,7 @@
 //! The lines that README.md shows to whoever embeds the store.
 use core_store::{Collect, Limits};
 use disk_model::MemoryDisk;
-use framed_journal::FramedJournal;
+use journal_opening::open;
 use plain_model::{Call, Reply};
 use restart_store::init;
 use std::test::Fail;
@@ -11,7 +11,9 @@ fn readme(rt: HostRuntime) -> Result<(), Fail> {
     let alloc = rt.alloc();
     let mut disk = MemoryDisk::new(alloc);
     init(&mut disk, 2)?;
-    let mut store = FramedJournal::<6, MemoryDisk>::fresh(alloc, disk, 2, Limits::GREATEST)?;
+    let mut store = open::<MemoryDisk, 6>(alloc, disk, Limits::GREATEST).map_err(
+        |refused| refused.0,
+    )?;
     store.call(1, &Call::Begin);
     let made = store.call(1, &Call::Make { into: 1 });
     store.call(
@@ -27,5 +29,9 @@ fn readme(rt: HostRuntime) -> Result<(), Fail> {
     assert!(rt; made == Reply::Id(2));
     assert!(rt; done == Reply::Done);
     assert!(rt; idle == Ok(Collect::Idle));
+    let disk = store.into_logged().into_disk();
+    let store = open::<MemoryDisk, 6>(alloc, disk, Limits::GREATEST).map_err(|refused| refused.0)?;
+    let stored = store.logged().journal().stored()?;
+    assert!(rt; stored.items() == [1, 2].as_slice());
     Ok(())
 }

@@ -1,0 +1,2 @@
+pub mod FramePages
+pub mod OpeningLaws

@@ -1,0 +1,29 @@
+use Rattle.std.proofs.Common.{ℕ, ◌≤◌, List, sym, ap, ◌∙◌, subst}
+use Rattle.cell_model.specs.Cells.{Cell}
+use Rattle.gate_log.specs.State.{LogState, used}
+use Rattle.restart_laws.specs.Graph.{zeros_of}
+use Rattle.journal_opening.specs.Openings.{ReadsAs, OpensMeanwhile}
+use Rattle.journal_opening.proofs.OpeningLaws.{same-history}
+use Rattle.journal_opening.proofs.opening.open.Goals as goal
+
+pub returns-in-Ok-resume-clause-opened : goal.returns-in-Ok-resume-clause-opened
+returns-in-Ok-resume-clause-opened g c =
+    let begun = c.in-Ok.ensures.begun in
+    let told = c.in-Ok-resume.ensures in
+    let v = c.in-Ok-resume.journal in
+    let faults = g.D.Disk.faults in
+    record {
+      opens = subst (λ (cells : List Cell). ReadsAs g.D.Disk.content g.row.SLOTS c.args.disk cells) (sym told.opening) begun.opens;
+      history = told.history ∙ same-history c.in-Ok.opened.0.items v.journal.opening begun.pages told.opening;
+      notes = told.notes;
+      limits = told.limits.0;
+      unmarked = (told.limits.1, told.running.1);
+      collector = (told.collector.0 ∙ ap zeros_of (sym told.opening), told.collector.1);
+      running = told.running.0;
+      log = (ap (λ (l : LogState). l.tail) told.log.0 ∙ begun.standing.1, told.log.1 ∙ ap used (sym told.log.0));
+      counted = (told.opened ∙ ap faults (sym told.disk), subst (λ (n : ℕ). faults c.args.disk ≤ n) (sym told.opened) c.in-Ok.ensures.cause.later);
+    }
+
+pub returns-in-Ok-resume-clause-meanwhile : goal.returns-in-Ok-resume-clause-meanwhile
+returns-in-Ok-resume-clause-meanwhile g c =
+    subst (λ (d : g.row.D.Denot). OpensMeanwhile g.D.Disk.content g.D.Disk.may_leave g.D.Disk.moment g.D.Disk.left_since g.row.SLOTS c.args.disk d) (sym c.in-Ok-resume.ensures.disk) c.in-Ok.ensures.moments

@@ -1,0 +1,73 @@
+//! The opening of a store.
+ghost use Rattle.std.specs.Prelude.{◌≡◌, IfOk, IfErr};
+ghost use Rattle.cell_page.specs.Format.{IsSlotCount};
+ghost use Rattle.core_store.specs.Limited.{AreLimits};
+ghost use Rattle.journal_opening.specs.Openings.{HasBegun, HasFault, OpensAs, RefusesToOpen, OpensMeanwhile};
+ghost use Rattle.store_opening.specs.Store.{HasOpenCause};
+
+use crate::frames::frames_of;
+use core_store::{Frame, Limits};
+use disk_model::Disk;
+use framed_journal::FramedJournal;
+use gate_log::GateLog;
+use opened_store::open_store;
+use std::alloc::Global;
+use store_opening::{OpenRefusal, ReplayedLog};
+
+/// Opens the store that the disk holds, and lays its pages into frames.
+fn open_frames<D: Disk, const SLOTS: usize>(
+    alloc: Global,
+    disk: &mut D,
+) -> Result<(Vec<Frame<SLOTS>>, GateLog), OpenRefusal>
+    requires count { IsSlotCount SLOTS }
+    ensures begun { IfOk result (λ r. HasBegun D.content D.may_leave SLOTS disk.old disk.new r.0.items r.1) }
+    ensures refused { IfErr result (λ e. RefusesToOpen D.content D.may_leave D.moment D.left_since SLOTS disk.old e disk.new) }
+    ensures moments { OpensMeanwhile D.content D.may_leave D.moment D.left_since SLOTS disk.old disk.new }
+    ensures cause { HasOpenCause (D.faults disk.old) (D.faults disk.new) result }
+{
+    let found = match open_store::<D, SLOTS>(alloc, disk) {
+        Ok(found) => found,
+        Err(refusal) => return Err(refusal),
+    };
+    let ReplayedLog { replay, log } = found;
+    let pages = replay.into_pages();
+    match frames_of(alloc, &pages) {
+        Ok(frames) => Ok((frames, log)),
+        Err(_) => Err(OpenRefusal::Memory),
+    }
+}
+
+/// Opens the store that the disk holds, as a journal with its log and all its frames. Where it isn't opened the disk is
+/// handed back.
+///
+/// What the log tells is done to the pages, and what had not ended is undone for good. No transaction is active then, and
+/// the collector has to look at each object but the root that no strong pointer leads to.
+///
+/// Of a disk that is told, the opening is what its four areas open to, and so is each refusal but [`OpenRefusal::Disk`] and
+/// [`OpenRefusal::Memory`]. Whatever a power loss leaves at each moment of the call is what it may have left before, or opens
+/// to the same cells. Before a refusal that tells something of the store nothing is written. [`OpenRefusal::Disk`] comes only
+/// where the disk's count of faults rose in this call. [`OpenRefusal::Memory`] comes for want of memory, or of room in the
+/// log for the undo.
+pub fn open<D: Disk, const SLOTS: usize>(
+    alloc: Global,
+    disk: D,
+    limits: Limits,
+) -> Result<FramedJournal<SLOTS, D>, (OpenRefusal, D)>
+    requires count { IsSlotCount SLOTS }
+    requires limits { AreLimits limits }
+    ensures opened { IfOk result (λ v. OpensAs D.content D.faults SLOTS disk limits v) }
+    ensures meanwhile { IfOk result (λ v. OpensMeanwhile D.content D.may_leave D.moment D.left_since SLOTS disk v.disk) }
+    ensures refused { IfErr result (λ e. RefusesToOpen D.content D.may_leave D.moment D.left_since SLOTS disk e.0 e.1) }
+    ensures meanwhile_refused { IfErr result (λ e. OpensMeanwhile D.content D.may_leave D.moment D.left_since SLOTS disk e.1) }
+    ensures fault { IfErr result (λ e. HasFault (D.faults disk) (D.faults e.1) e.0) }
+{
+    let mut disk = disk;
+    let (frames, log) = match open_frames::<D, SLOTS>(alloc, &mut disk) {
+        Ok(opened) => opened,
+        Err(refusal) => return Err((refusal, disk)),
+    };
+    match FramedJournal::resume(alloc, disk, log, frames, limits) {
+        Ok(journal) => Ok(journal),
+        Err((_, disk)) => Err((OpenRefusal::Memory, disk)),
+    }
+}
