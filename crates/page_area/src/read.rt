@@ -14,7 +14,7 @@ use cell_page::Page;
 use disk_model::{Area, Disk, DiskFailed};
 
 /// No page takes more bytes.
-const MOST: usize = 1024;
+pub(crate) const MOST: usize = 1024;
 
 /// Reads as many bytes of the page as the area has, to the front of the buffer, and answers their number.
 fn read_page<D: Disk, const SLOTS: usize>(
