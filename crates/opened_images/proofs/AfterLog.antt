@@ -102,7 +102,7 @@ same_page_test p x q r low e = both (leb_same (8 * p + 1) x (8 * p + 1) (8 * q +
     both : nat_le (8 * p + 1) x ≡ nat_le (8 * p + 1) (8 * q + 1) → nat_le x (8 * p + 8) ≡ nat_le (8 * q + 1) (8 * p + 8) → is_in_page p x ≡ is_in_page p (8 * q + 1)
     both e f = cc
 
-same_images : (x q r : ℕ) (items : List Item) → r < 8 → x ≡ 8 * q + r + 1 → has_image x items ≡ has_image (8 * q + 1) items
+pub same_images : (x q r : ℕ) (items : List Item) → r < 8 → x ≡ 8 * q + r + 1 → has_image x items ≡ has_image (8 * q + 1) items
 same_images x q r [] low e = refl
 same_images x q r (CellsItem s ∷ items) low e = same_images x q r items low e
 same_images x q r (ImageItem page cells ∷ items) low e = both (same_page_test page x q r low e) (same_images x q r items low e)

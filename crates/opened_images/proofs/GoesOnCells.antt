@@ -1,25 +1,20 @@
 -- The cells after the records of a log are those that these records make, one after another.
-use Rattle.std.proofs.Common.{◌≡◌, ◌≢◌, ℕ, zero, suc, ◌*◌, ◌<◌, ◌≤◌, true, false, List, [], ◌∷◌, ◌++◌, length, Option, Some, None, refl, sym, ap, subst, ◌∙◌, append_assoc, arith}
-use Rattle.std.proofs.lemmas.List.{append-nil, ext_get_or}
+use Rattle.std.proofs.Common.{◌≡◌, ◌≢◌, ℕ, zero, suc, ◌*◌, ◌<◌, ◌≤◌, true, false, List, length, refl, sym, subst, ◌∙◌, arith}
+use Rattle.std.proofs.lemmas.List.{ext_get_or}
 use Rattle.std.proofs.lemmas.List.FromFn.{length-map-range_with_len, get_or-map-range_with_len}
-use Rattle.cell_model.specs.Cells.{Cell, null, blank_cell, cell_at, pointer_at, is_live, other_strength, pays, flipped}
-use Rattle.cell_model.specs.Records.{Record as StoredRecord, Begin, Make, Store, Pay, Commit, Undo, UndoPay, AbortEnd, Weaken, Strengthen, Flip, CutDead, Free, after_record, cells_after, Fits, AllFit}
+use Rattle.cell_model.specs.Cells.{Cell, null, blank_cell, cell_at, pointer_at, other_strength, pays, flipped}
+use Rattle.cell_model.specs.Records.{Record as StoredRecord, Begin, Make, Store, Pay, Commit, Undo, UndoPay, AbortEnd, Weaken, Strengthen, Flip, CutDead, Free, after_record, Fits}
 use Rattle.cell_model.specs.Consistent.{AreConsistent}
 use Rattle.cell_model.proofs.EditLaws.{length-edit}
 use Rattle.cell_model.proofs.CountLaws.{relinked-length}
 use Rattle.cell_model.proofs.KeptLaws.{exact-kept}
 use Rattle.cell_page.specs.Format.{IsSlotCount}
-use Rattle.log_record.specs.declared.cell_record.CellRecord.{CellRecord}
 use Rattle.log_record.specs.declared.record.Record.{Record}
-use Rattle.log_record.specs.declared.record.Record.TheVariants.{OfCells}
-use Rattle.log_record.specs.Records.{record_of}
-use Rattle.restart_laws.specs.Local.{effect, FitsAt}
+use Rattle.restart_laws.specs.Local.{FitsAt}
 use Rattle.restart_laws.proofs.LocalLaws.{local-effect}
 use Rattle.restart_laws.proofs.LocalFits.{local-fits}
-use Rattle.opened_images.specs.Replayed.{cell_after, cells_of_log, AllFitCells}
-use Rattle.opened_images.specs.GoesOn.{logged_records, stored_records}
+use Rattle.opened_images.specs.Replayed.{cell_after, cells_of_log}
 use Rattle.opened_images.proofs.FormedCells.{IsFormed, effect_formed}
-use Rattle.opened_images.proofs.AfterLog.{after_more}
 use Rattle.opened_images.proofs.GoesOnRooms.{AreReady, rooms}
 
 -- ---- one record
@@ -41,15 +36,15 @@ length_after slots cells (CutDead id slot target was_strong) = relinked-length c
 length_after slots cells (Free id) = length-edit cells id (λ _. blank_cell false slots)
 
 -- an id is not 0
-not_zero : (id : ℕ) → 1 ≤ id → id ≢ 0
+pub not_zero : (id : ℕ) → 1 ≤ id → id ≢ 0
 not_zero id low e = absurd (omega (arith, low, e))
 
 -- a record that fits the cells fits each of them
-fits_each : (slots ids : ℕ) (cells : List Cell) (r : StoredRecord) → IsSlotCount slots → ids ≤ 8192 → AreReady slots ids cells → Fits cells r → (id : ℕ) → 1 ≤ id → FitsAt r id (cell_at cells id)
+pub fits_each : (slots ids : ℕ) (cells : List Cell) (r : StoredRecord) → IsSlotCount slots → ids ≤ 8192 → AreReady slots ids cells → Fits cells r → (id : ℕ) → 1 ≤ id → FitsAt r id (cell_at cells id)
 fits_each slots ids cells r known small k fits id low = local-fits cells (rooms slots ids cells known small k) r k.exact fits id (not_zero id low)
 
 -- cells that are ready for a record are so after it
-ready_after : (slots ids : ℕ) (cells : List Cell) (r : StoredRecord) → IsSlotCount slots → ids ≤ 8192 → AreReady slots ids cells → Fits cells r → AreReady slots ids (after_record slots cells r)
+pub ready_after : (slots ids : ℕ) (cells : List Cell) (r : StoredRecord) → IsSlotCount slots → ids ≤ 8192 → AreReady slots ids cells → Fits cells r → AreReady slots ids (after_record slots cells r)
 ready_after slots ids cells r known small k fits = record {
   exact = exact-kept slots cells r fits k.exact;
   sized = length_after slots cells r ∙ k.sized;
@@ -57,39 +52,11 @@ ready_after slots ids cells r known small k fits = record {
       (effect_formed slots r id (cell_at cells id) (k.formed id low high) (fits_each slots ids cells r known small k fits id low));
 }
 
--- ---- one record after another
+-- ---- all cells
 
 -- these are the cells of the ids of a store of so many pages after these records of a log
 abbrev pub AreAfter : {slots : ℕ} → ℕ → List ℕ → List (Record slots) → List Cell → Type 0
 AreAfter {slots} pages area done cells = (id : ℕ) → 1 ≤ id → id ≤ 8 * pages → cell_at cells id ≡ cell_after slots area done id
-
--- so it is after one record more
-after_one : {slots : ℕ} (pages : ℕ) (area : List ℕ) (done : List (Record slots)) (r : CellRecord) (cells : List Cell) → is_live cells 0 ≡ false → Fits cells (record_of r) → AreAfter pages area done cells
-    → AreAfter pages area (done ++ OfCells r ∷ []) (after_record slots cells (record_of r))
-after_one {slots} pages area done r cells none fits are id low high =
-    local-effect slots cells (record_of r) none fits id (not_zero id low) ∙ (ap (λ (c : Cell). effect slots (record_of r) id c) (are id low high) ∙ sym (after_more area done (OfCells r) id))
-
--- and after all records that fit the cells
-pub after_all : {slots : ℕ} (pages : ℕ) (area : List ℕ) (done : List (Record slots)) (rs : List (Option CellRecord)) (cells : List Cell) → IsSlotCount slots → 8 * pages ≤ 8192 → AreReady slots (8 * pages) cells
-    → AllFit slots cells (stored_records rs) → AreAfter pages area done cells → AreAfter pages area (done ++ logged_records rs) (cells_after slots cells (stored_records rs))
-after_all {slots} pages area done [] cells known small k fit are = subst (λ (l : List (Record slots)). AreAfter pages area l cells) (sym (append-nil done)) are
-after_all pages area done (None ∷ rs) cells known small k fit are = after_all pages area done rs cells known small k fit are
-after_all {slots} pages area done (Some r ∷ rs) cells known small k fit are =
-    subst (λ (l : List (Record slots)). AreAfter pages area l (cells_after slots (after_record slots cells (record_of r)) (stored_records rs))) (append_assoc done (OfCells r ∷ []) (logged_records rs)) (
-    after_all pages area (done ++ OfCells r ∷ []) rs (after_record slots cells (record_of r)) known small (ready_after slots (8 * pages) cells (record_of r) known small k fit.0) fit.1 (after_one pages area done r cells k.exact.none fit.0 are)
-    )
-
--- each of them fits the cells of the log
-pub fit_all : {slots : ℕ} (pages : ℕ) (area : List ℕ) (done : List (Record slots)) (rs : List (Option CellRecord)) (cells : List Cell) → IsSlotCount slots → 8 * pages ≤ 8192 → AreReady slots (8 * pages) cells
-    → AllFit slots cells (stored_records rs) → AreAfter pages area done cells → AllFitCells pages area done (logged_records rs) []
-fit_all pages area done [] cells known small k fit are = tt
-fit_all pages area done (None ∷ rs) cells known small k fit are = fit_all pages area done rs cells known small k fit are
-fit_all {slots} pages area done (Some r ∷ rs) cells known small k fit are = (
-  λ id low high none. subst (λ (c : Cell). FitsAt (record_of r) id c) (are id low high) (fits_each slots (8 * pages) cells (record_of r) known small k fit.0 id low),
-  fit_all pages area (done ++ OfCells r ∷ []) rs (after_record slots cells (record_of r)) known small (ready_after slots (8 * pages) cells (record_of r) known small k fit.0) fit.1 (after_one pages area done r cells k.exact.none fit.0 are),
-)
-
--- ---- all cells
 
 -- the cell of an id of the store after a log
 there : {slots : ℕ} (pages : ℕ) (area : List ℕ) (rs : List (Record slots)) (k : ℕ) → k < 8 * pages → cell_at (cells_of_log slots pages area rs) (suc k) ≡ cell_after slots area rs (suc k)

@@ -1,15 +1,11 @@
 -- A log of batches that goes on with the records of events.
-use Rattle.std.proofs.Common.{◌≡◌, ℕ, ◌*◌, Bool, List, [], ◌∷◌, ◌++◌, map, Option, Some, None, refl, sym, ap, subst, ◌∙◌, append_assoc}
-use Rattle.std.specs.Prelude.{◌||◌}
-use Rattle.std.proofs.lemmas.List.{append-nil}
+use Rattle.std.proofs.Common.{◌≡◌, ℕ, ◌*◌, List, [], ◌∷◌, ◌++◌, map, Option, Some, None, refl, sym, ap, ◌∙◌}
 use Rattle.log_record.specs.declared.cell_record.CellRecord.{CellRecord}
 use Rattle.log_record.specs.declared.record.Record.{Record}
-use Rattle.log_record.specs.declared.record.Record.TheVariants.{OfCells, Image, Turn}
+use Rattle.log_record.specs.declared.record.Record.TheVariants.{OfCells}
 use Rattle.log_record.specs.Records.{record_of}
-use Rattle.restart_laws.specs.Local.{has_image, is_in_page}
 use Rattle.restart_laws.specs.Unended.{Unended, unended_after, unended_after_all, AllFitUnended}
 use Rattle.opened_images.specs.LogRecords.{body_of, bodies_of, all_of, HaveSpellings, unended_by, unended_by_all, AllFitLog}
-use Rattle.opened_images.specs.Replayed.{items_of, FitsCellsOf, AllFitCells}
 use Rattle.opened_images.specs.GoesOn.{logged_records, stored_records, in_parts, AreWithin}
 
 -- ---- the records of the parts
@@ -21,14 +17,9 @@ logged_append {slots} (Some r ∷ rs) ss = ap (λ (l : List (Record slots)). OfC
 logged_append (None ∷ rs) ss = logged_append rs ss
 
 -- the records of the batches of all parts
-logged_parts : {slots : ℕ} (parts : List (List (Option CellRecord))) → all_of (map (logged_records {slots = slots}) parts) ≡ logged_records (in_parts parts)
+pub logged_parts : {slots : ℕ} (parts : List (List (Option CellRecord))) → all_of (map (logged_records {slots = slots}) parts) ≡ logged_records (in_parts parts)
 logged_parts [] = refl
 logged_parts {slots} (part ∷ parts) = ap (λ (l : List (Record slots)). logged_records part ++ l) (logged_parts parts) ∙ sym (logged_append part (in_parts parts))
-
--- the records of a log that goes on with them
-pub all_records : {slots : ℕ} (earlier : List (List (Record slots))) (parts : List (List (Option CellRecord))) → all_of (earlier ++ map logged_records parts) ≡ all_of earlier ++ logged_records (in_parts parts)
-all_records [] parts = logged_parts parts
-all_records {slots} (b ∷ bs) parts = ap (λ (l : List (Record slots)). b ++ l) (all_records bs parts) ∙ sym (append_assoc b (all_of bs) (logged_records (in_parts parts)))
 
 -- the bodies of the batches of all parts
 body_parts : (slots : ℕ) (parts : List (List (Option CellRecord))) → bodies_of (map (logged_records {slots = slots}) parts) ≡ map (λ part. body_of (logged_records {slots = slots} part)) parts
@@ -66,36 +57,3 @@ pub unended_logged : (slots : ℕ) (us : List (ℕ × Unended)) (rs : List (Opti
 unended_logged slots us [] = refl
 unended_logged slots us (Some r ∷ rs) = unended_logged slots (unended_after us (record_of r)) rs
 unended_logged slots us (None ∷ rs) = unended_logged slots us rs
-
--- ---- images
-
--- with the new records, a log has an image of the same ids
-pub same_image : {slots : ℕ} (id : ℕ) (rs : List (Record slots)) (news : List (Option CellRecord)) → has_image id (items_of (rs ++ logged_records news)) ≡ has_image id (items_of rs)
-same_image id [] [] = refl
-same_image {slots} id [] (Some r ∷ news) = same_image {slots = slots} id [] news
-same_image {slots} id [] (None ∷ news) = same_image {slots = slots} id [] news
-same_image id (OfCells r ∷ rs) news = same_image id rs news
-same_image id (Image page cells ∷ rs) news = ap (λ (b : Bool). is_in_page page id || b) (same_image id rs news)
-same_image id (Turn version pages ∷ rs) news = same_image id rs news
-
--- so it has where nothing follows
-same_later : {slots : ℕ} (id : ℕ) (rs : List (Record slots)) (news : List (Option CellRecord)) → has_image id (items_of ((rs ++ logged_records news) ++ [])) ≡ has_image id (items_of (rs ++ []))
-same_later {slots} id rs news =
-    let images : List (Record slots) → Bool = λ l. has_image id (items_of l) in
-    ap images (append-nil (rs ++ logged_records news)) ∙ (same_image id rs news ∙ ap images (sym (append-nil rs)))
-
--- a record that fits the cells of a log does so where it goes on
-fits_more : {slots : ℕ} (pages : ℕ) (area : List ℕ) (before : List (Record slots)) (r : Record slots) (rs : List (Record slots)) (news : List (Option CellRecord))
-    → FitsCellsOf pages area before r (rs ++ []) → FitsCellsOf pages area before r ((rs ++ logged_records news) ++ [])
-fits_more pages area before (OfCells r) rs news fits = λ id low high none. fits id low high (sym (same_later id rs news) ∙ none)
-fits_more pages area before (Image page cells) rs news fits = tt
-fits_more pages area before (Turn version count) rs news fits = tt
-
--- records that fit the cells, and new ones that fit them behind these, fit them together
-pub fit_cells_both : {slots : ℕ} (pages : ℕ) (area : List ℕ) (before rs : List (Record slots)) (news : List (Option CellRecord)) → AllFitCells pages area before rs []
-    → AllFitCells pages area (before ++ rs) (logged_records news) [] → AllFitCells pages area before (rs ++ logged_records news) []
-fit_cells_both {slots} pages area before [] news f g = subst (λ (l : List (Record slots)). AllFitCells pages area l (logged_records news) []) (append-nil before) g
-fit_cells_both {slots} pages area before (r ∷ rs) news f g = (
-  fits_more pages area before r rs news f.0,
-  fit_cells_both pages area (before ++ r ∷ []) rs news f.1 (subst (λ (l : List (Record slots)). AllFitCells pages area l (logged_records news) []) (sym (append_assoc before (r ∷ []) rs)) g),
-)

@@ -9,5 +9,10 @@ pub mod Undone
 pub mod GoesOnRooms
 pub mod GoesOnCells
 pub mod GoesOnLog
+pub mod ImagesInLog
+pub mod ImagesCells
+pub mod WithImages
 pub mod GoesOn
+pub mod Marks
+pub mod Checkpoints
 pub mod Samples

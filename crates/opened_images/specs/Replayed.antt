@@ -1,5 +1,5 @@
 -- The cells after a log, by its records and the pages in place, and where a record doesn't fit a cell.
-use Rattle.std.specs.Prelude.{◌≡◌, ℕ, ◌+◌, ◌*◌, ◌≤◌, false, List, [], ◌∷◌, ◌++◌, map, take, drop}
+use Rattle.std.specs.Prelude.{◌≡◌, ℕ, ◌+◌, ◌*◌, ◌≤◌, false, List, [], ◌∷◌, ◌++◌, map}
 use Rattle.std.specs.List.{range_with_len}
 use Rattle.cell_model.specs.Cells.{Cell, blank_cell}
 use Rattle.cell_page.specs.Format.{page_of_id, place_of}
