@@ -12,7 +12,7 @@ use Rattle.cell_page.specs.Format.{free_cell, page_of_id}
 use Rattle.cell_page.specs.Stored.{cell_of, HoldsPage}
 use Rattle.cell_page.proofs.HeldPages.{held_cell}
 use Rattle.core_store.specs.declared.frame.Frame.{Frame}
-use Rattle.core_store.specs.Fresh.{store_of}
+use Rattle.core_store.specs.Opening.{store_of}
 use Rattle.core_store.specs.Frames.{AllAgree}
 use Rattle.core_store.proofs.PageLaws.{id-low, id-high}
 use Rattle.auditor.specs.declared.difference.Difference.{Difference}

@@ -5,7 +5,7 @@ ghost use Rattle.cell_model.specs.Records.{AllFit};
 ghost use Rattle.cell_page.specs.Format.{IsSlotCount};
 ghost use Rattle.cell_page.specs.Stored.{cell_of};
 ghost use Rattle.core_store.specs.JournalView.{logged_in, cells_after_notes};
-ghost use Rattle.core_store.specs.Fresh.{store_of};
+ghost use Rattle.core_store.specs.Opening.{store_of};
 ghost use Rattle.auditor.specs.Recount.{AreCounted, ArePages, strong_found, weak_found, found_at, kept_at, joined, difference_between, differences_of, is_zero, live_in, zero_in, ids_of};
 
 use crate::counts::count_all;

@@ -9,7 +9,7 @@ ghost use Rattle.cell_page.specs.Format.{IsSlotCount};
 ghost use Rattle.cell_page.specs.Stored.{cell_of};
 ghost use Rattle.log_record.specs.Records.{record_of, after_cell_record, FitsCells};
 ghost use Rattle.core_store.specs.JournalView.{logged_in, cells_after_notes};
-ghost use Rattle.core_store.specs.Fresh.{store_of};
+ghost use Rattle.core_store.specs.Opening.{store_of};
 ghost use Rattle.auditor.specs.Replay.{SameButCounts, switched_over, Replays, ReplaysNote};
 
 use crate::counts::know_slots;

@@ -1,6 +1,6 @@
--- As many clients have a transaction in the tables as in the machine, and what their transactions owe a log.
+-- The same clients have a transaction in the tables and in the machine, and what their transactions owe a log.
 use Rattle.std.proofs.Common.{◌≡◌, ◌≢◌, ℕ, ◌+◌, ◌*◌, ◌<◌, ◌≤◌, List, [], ◌∷◌, Bool, true, false, length, map, refl, sym, ap, ◌∙◌, subst, arith, ⊎_elim, Option, Some, None, Less}
-use Rattle.std.specs.Prelude.{is_some, sum_by}
+use Rattle.std.specs.Prelude.{is_some, option_map, slice_get, sum_by}
 use Rattle.std.specs.List.{AllByRecursion}
 use Rattle.std.specs.List.Sorted.{IsStrictlySortedBy}
 use Rattle.std.specs.Map.{keys_of, lookup}
@@ -12,8 +12,8 @@ use Rattle.std.proofs.lemmas.List.Sums.{sum_by-cons}
 use Rattle.std.proofs.lemmas.Map.Entries.{length-keys_of}
 use Rattle.plain_model.specs.declared.object.Object.{Object}
 use Rattle.plain_model.specs.ActiveTransaction.{ActiveTransaction}
-use Rattle.plain_model.specs.Machine.{transaction_of, is_stored}
-use Rattle.plain_model.specs.History.{Moment, left_to_undo}
+use Rattle.plain_model.specs.Machine.{State, transaction_of, is_stored}
+use Rattle.plain_model.specs.History.{Moment, least_active, left_to_undo}
 use Rattle.plain_laws.specs.Sound.{Ascend, PassesAscend}
 use Rattle.plain_laws.proofs.Entries.{same_or_apart}
 use Rattle.store_model.specs.Core.{Core}
@@ -85,15 +85,34 @@ same-some slots g None (Some t) undone m = absurd m
 same-some slots g (Some kept) None undone m = absurd m
 same-some slots g (Some kept) (Some t) undone m = refl
 
-pub as-many-active : (slots : ℕ) (v : TablesView) (c : Core) → Stands slots v c → IsStrictlySortedBy nat_cmp (keys_of v.transactions) → length v.transactions ≡ length c.moment.state.active
-as-many-active slots v c h sorted =
+-- the same clients
+pub same-active : (slots : ℕ) (v : TablesView) (c : Core) → Stands slots v c → IsStrictlySortedBy nat_cmp (keys_of v.transactions) → keys_of v.transactions ≡ keys_of c.moment.state.active
+same-active slots v c h sorted =
     let active = c.moment.state.active in
-    let keys : keys_of v.transactions ≡ keys_of active =
     same-ids (keys_of v.transactions) (keys_of active) (ordered-keys (keys_of v.transactions) sorted) (passes-keys active h.sound.state.passes)
     (λ k.
     is-client v.transactions k
-    ∙ (same-some slots c.moment.state.committed (running_at v.transactions k) (transaction_of c.moment.state k) (c.moment.undone k) (h.running k) ∙ sym (is-client active k))) in
-    sym (length-keys_of v.transactions) ∙ (ap (λ (ks : List ℕ). length ks) keys ∙ length-keys_of active)
+    ∙ (same-some slots c.moment.state.committed (running_at v.transactions k) (transaction_of c.moment.state k) (c.moment.undone k) (h.running k) ∙ sym (is-client active k)))
+
+pub as-many-active : (slots : ℕ) (v : TablesView) (c : Core) → Stands slots v c → IsStrictlySortedBy nat_cmp (keys_of v.transactions) → length v.transactions ≡ length c.moment.state.active
+as-many-active slots v c h sorted =
+    sym (length-keys_of v.transactions) ∙ (ap (λ (ks : List ℕ). length ks) (same-active slots v c h sorted) ∙ length-keys_of c.moment.state.active)
+
+-- ---- the least of them
+
+least-of : (s : State) (es : List (ℕ × ActiveTransaction)) (ts : List (ℕ × Running)) → keys_of ts ≡ keys_of es → least_active (record s { active = es }) ≡ option_map (λ t. t.0) (slice_get ts 0)
+least-of s [] [] e = refl
+least-of s (x ∷ es) (t ∷ ts) e = ap (λ (ks : List ℕ). get_or_first ks x.0) (sym e)
+  where
+    get_or_first : List ℕ → ℕ → Option ℕ
+    get_or_first [] d = Some d
+    get_or_first (k ∷ ks) d = Some k
+least-of s [] (t ∷ ts) e = absurd (cc)
+least-of s (x ∷ es) [] e = absurd (cc)
+
+-- the client of the first entry
+pub least-first : (slots : ℕ) (v : TablesView) (c : Core) → Stands slots v c → IsStrictlySortedBy nat_cmp (keys_of v.transactions) → least_active c.moment.state ≡ option_map (λ t. t.0) (slice_get v.transactions 0)
+least-first slots v c h sorted = least-of c.moment.state c.moment.state.active v.transactions (same-active slots v c h sorted)
 
 -- ---- what they owe
 

@@ -84,6 +84,7 @@ sound-marked {slots} a t now needed s is marked past few =
       keeps = Keeps-marked (view_of a) (tables_of a.tables) needed s.keeps (ap (λ (j : JournalView). is_past_limit j needed) is ∙ past) few;
       placed = s.placed;
       room = s.room;
+      reserved = s.reserved;
     })
 
 -- ---- what a call asks for

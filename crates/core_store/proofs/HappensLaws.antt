@@ -21,7 +21,7 @@ use Rattle.plain_model.specs.declared.calls.Call.TheVariants.{Abort}
 use Rattle.plain_model.specs.declared.calls.Reply.{Reply}
 use Rattle.plain_model.specs.declared.calls.Reply.TheVariants.{Done}
 use Rattle.plain_model.specs.declared.calls.Entry.{Entry}
-use Rattle.plain_model.specs.declared.calls.Entry.TheVariants.{Call, Undo}
+use Rattle.plain_model.specs.declared.calls.Entry.TheVariants.{Call, Delete, Hidden, Undo, TurnBusy, Crash}
 use Rattle.plain_model.specs.Machine.{State, step, transaction_of}
 use Rattle.plain_model.specs.History.{Moment, IsAllowed, next, end_of, is_stopped, left_to_undo}
 use Rattle.plain_model.specs.Outcomes.{IsReachableInSomeOutcome}
@@ -44,6 +44,8 @@ use Rattle.core_store.specs.declared.three.HeldFrame.{HeldFrame}
 use Rattle.core_store.specs.Collecting.{Collected}
 use Rattle.core_store.specs.Collects.{Collects, Frees, entry_of}
 use Rattle.core_store.specs.Events.{after_event}
+use Rattle.core_store.specs.Touched.{round_after}
+use Rattle.core_store.specs.Upkeep.{IsUpkeep}
 use Rattle.core_store.specs.JournalView.{JournalView, core_of}
 use Rattle.core_store.specs.Journal.{Keeps}
 use Rattle.core_store.specs.Limited.{is_past_limit, entries_counted}
@@ -182,6 +184,48 @@ happens-ended j v w pass left k a counted =
       red = red-client j.history.slots v w (core_of j) (red_of j) (Some (logs.AbortEnd pass)) k.stands tt tt a.round k.red;
       copied = λ e. absurd (cc);
     }
+
+-- ---- upkeep
+
+unchanged : (round : Option Round) → round ≡ round_after round []
+unchanged None = refl
+unchanged (Some r) = refl
+
+pub happens-upkeep : (j : JournalView) (v : TablesView) (entry : Entry) (left : ℕ) → Keeps j v → IsUpkeep (end_of j.history) entry → length j.history.entries + 1 + v.owed ≤ j.limits.trace → Happens j v (client_note entry None left) (core_of j)
+happens-upkeep j v Hidden left k u counted = record {
+  allowed = k.running;
+  going = k.running;
+  fits = tt;
+  lays = tt;
+  after = refl;
+  turns = (refl, refl, unchanged (core_of j).round);
+  logs = tt;
+  stands = k.stands;
+  counted = counted;
+  numbered = tt;
+  of_client = tt;
+  red = k.red;
+  copied = λ e. absurd (cc);
+}
+happens-upkeep j v (TurnBusy pass) left k u counted = record {
+  allowed = (k.running, u);
+  going = k.running;
+  fits = tt;
+  lays = tt;
+  after = refl;
+  turns = (refl, refl, unchanged (core_of j).round);
+  logs = refl;
+  stands = k.stands;
+  counted = counted;
+  numbered = tt;
+  of_client = tt;
+  red = k.red;
+  copied = λ e. absurd (cc);
+}
+happens-upkeep j v (Call pass call reply) left k u counted = absurd u
+happens-upkeep j v (Delete id) left k u counted = absurd u
+happens-upkeep j v (Undo pass) left k u counted = absurd u
+happens-upkeep j v (Crash cells) left k u counted = absurd u
 
 -- ---- an event of the collector
 

@@ -47,7 +47,7 @@ use Rattle.std.proofs.lemmas.List.Elements.{All-push}
 
 -- the journal with one note more, and what its tables have of the collector then
 abbrev pub grown : JournalView → Note → List ℕ → RoundView → JournalView
-grown j n queue round = record j { history = with_entry j.history n.entry; notes = j.notes ++ n ∷ []; queue = queue; round = round }
+grown j n queue round = record j { history = with_entry j.history n.entry; notes = j.notes ++ n ∷ []; queue = queue; round = round; reserved = false }
 
 -- ---- the cells and records of one note more
 

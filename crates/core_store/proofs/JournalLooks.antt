@@ -1,6 +1,6 @@
 -- A journal after looks of its collector at which there was nothing to do.
-use Rattle.std.proofs.Common.{◌≡◌, ℕ, ◌<◌, ◌≤◌, List, sym, ap, ◌∙◌, subst, arith, ⊎_elim}
-use Rattle.std.specs.Prelude.{◌⊎◌}
+use Rattle.std.proofs.Common.{◌≡◌, ℕ, ◌+◌, ◌<◌, ◌≤◌, true, List, length, sym, ap, ◌∙◌, subst, arith, ⊎_elim}
+use Rattle.std.specs.Prelude.{◌⊎◌, vec_len, vec_capacity}
 use Rattle.store_model.specs.Core.{Core, Round}
 use Rattle.restart_laws.specs.Restartable.{IsRestartable}
 use Rattle.std.proofs.Common.{Option}
@@ -10,7 +10,7 @@ use Rattle.core_store.specs.declared.three.HeldFrame.{HeldFrame}
 use Rattle.core_store.specs.Frames.{Agree}
 use Rattle.core_store.specs.JournalView.{JournalView, cells_of, core_of, opening_of, logged_in}
 use Rattle.core_store.specs.Journal.{view_of, Keeps, IsJournalInside}
-use Rattle.core_store.specs.Fresh.{AreByIds}
+use Rattle.core_store.specs.Opening.{AreByIds}
 use Rattle.core_store.specs.Leads.{AreLed}
 use Rattle.core_store.specs.RoundView.{left_of, Passes}
 use Rattle.core_store.specs.Stands.{Stands}
@@ -79,11 +79,15 @@ module _ {slots : ℕ} (a : Inside slots) (t : Tables slots) (now : JournalView)
   most : left_of slots t.round.view ≤ left_of slots a.tables.round.view
   most = ⊎_elim (λ (e : t.round.view ≡ a.tables.round.view). let l = ap (left_of slots) e in omega (arith, l)) (λ l. omega (arith, l)) lower
 
+  owed : t.owed ≡ a.tables.owed
+  owed = ap (λ (v : TablesView). v.owed) same
+
   pub looked-sound : IsJournalInside looked
   looked-sound = record {
     keeps = subst (λ j. Keeps j (tables_of t)) (sym seen) (Keeps-looked (view_of a) (tables_of a.tables) (tables_of t) s.keeps stands_a (passes (core_of (view_of a)) s.keeps.stands agree_a) most);
     placed = subst (λ n. AreByIds n a.opening.items) (sym looked-ids) s.placed;
-    room = (let owed : t.owed ≡ a.tables.owed = ap (λ (v : TablesView). v.owed) same in let room = s.room in omega (arith, owed, room));
+    room = subst (λ (n : ℕ). vec_len a.trace.notes + n ≤ vec_capacity a.trace.notes) (sym owed) s.room;
+    reserved = subst (λ (n : ℕ). a.trace.reserved ≡ true → (vec_len a.trace.notes + n + 1 ≤ vec_capacity a.trace.notes) × (length a.trace.notes.items + n + 1 ≤ a.trace.limits.trace)) (sym owed) s.reserved;
   }
 
   pub looked-view : view_of looked ≡ record now { round = t.round.view }

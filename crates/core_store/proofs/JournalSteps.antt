@@ -1,5 +1,5 @@
 -- A journal whose trace has grown by one note.
-use Rattle.std.proofs.Common.{◌≡◌, ℕ, ◌+◌, ◌≤◌, List, [], ◌∷◌, ◌++◌, sym, ap, ◌∙◌, subst, map}
+use Rattle.std.proofs.Common.{◌≡◌, ℕ, ◌+◌, ◌≤◌, false, List, [], ◌∷◌, ◌++◌, sym, ap, ◌∙◌, subst, map}
 use Rattle.std.specs.Prelude.{vec_len, vec_capacity}
 use Rattle.std.proofs.lemmas.List.{map-append}
 use Rattle.plain_model.proofs.StepLaws.{end_of-ids}
@@ -11,7 +11,7 @@ use Rattle.core_store.specs.declared.three.HeldFrame.{HeldFrame}
 use Rattle.core_store.specs.Frames.{Agree, IsSameElsewhere}
 use Rattle.core_store.specs.JournalView.{JournalView, cells_of, core_of}
 use Rattle.core_store.specs.Journal.{view_of, Keeps, IsJournalInside}
-use Rattle.core_store.specs.Fresh.{AreByIds}
+use Rattle.core_store.specs.Opening.{AreByIds}
 use Rattle.core_store.specs.Logged.{after_logged}
 use Rattle.core_store.specs.RoundView.{left_of}
 use Rattle.core_store.specs.Stands.{Moves}
@@ -28,6 +28,7 @@ pub record Grows {slots : ℕ} (a b : Inside slots) (n : Note) : Type 0 where
   pub opening : b.opening ≡ a.opening
   pub limits : b.trace.limits ≡ a.trace.limits
   pub marks : b.trace.marks ≡ a.trace.marks
+  pub reserved : b.trace.reserved ≡ false
   pub trace : b.trace.notes.items ≡ a.trace.notes.items ++ n ∷ []
   pub left : n.left ≡ left_of slots b.tables.round.view
 
@@ -60,6 +61,7 @@ module _ {slots : ℕ} (a b : Inside slots) (n : Note) (d : Core) (s : IsJournal
       let l = g.limits in
       let m = g.marks in
       let t = g.trace in
+      let r = g.reserved in
       cc
 
   core-is : core_of (view_of b) ≡ d
@@ -70,7 +72,7 @@ module _ {slots : ℕ} (a b : Inside slots) (n : Note) (d : Core) (s : IsJournal
 
   pub has-grown : (now : JournalView) (held new : List (HeldFrame slots)) → view_of a ≡ now → Moves slots (cells_of (view_of a)) held new n.logged → HasGrown b now held new n d
   has-grown now held new is moves = record {
-    sound = λ room. record { keeps = subst (λ j. Keeps j (tables_of b.tables)) (sym seen) keeps; placed = placed; room = room };
+    sound = λ room. record { keeps = subst (λ j. Keeps j (tables_of b.tables)) (sym seen) keeps; placed = placed; room = room; reserved = λ e. absurd (let none = g.reserved in cc) };
     view_is = seen ∙ ap (λ (j : JournalView). grown j n b.tables.queue.ids b.tables.round.view) is;
     core_is = core-is;
     agree = subst (λ (cs : List StoredCell). Agree cs new) (sym cells) moves.agree;

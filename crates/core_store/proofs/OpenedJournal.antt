@@ -19,8 +19,7 @@ use Rattle.core_store.specs.declared.limits.Limits.{Limits}
 use Rattle.core_store.specs.declared.marks.Marks.{Marks}
 use Rattle.core_store.specs.declared.note.Note.{Note}
 use Rattle.core_store.specs.declared.trace.Trace.{Trace}
-use Rattle.core_store.specs.Fresh.{store_of}
-use Rattle.core_store.specs.Opening.{opened_history}
+use Rattle.core_store.specs.Opening.{store_of, opened_history}
 use Rattle.core_store.specs.JournalView.{JournalView, core_of, opening_of}
 use Rattle.core_store.specs.Journal.{Keeps}
 use Rattle.core_store.specs.Tables.{TablesView}
@@ -38,7 +37,7 @@ no_marks = record { disk = false; trace = false; log = false }
 
 -- nothing has happened since the opening
 abbrev pub opened_view : ℕ → ℕ → List Cell → Limits → JournalView
-opened_view slots ids cells limits = record { history = opened_history slots ids cells; opening = cells; notes = []; limits = limits; marks = no_marks; queue = zeros_of cells; round = Closed }
+opened_view slots ids cells limits = record { history = opened_history slots ids cells; opening = cells; notes = []; limits = limits; marks = no_marks; queue = zeros_of cells; round = Closed; reserved = false }
 
 no_running : {X : Type 0} (ts : List (ℕ × Running)) (pass : ℕ) (kept : Running) → ts ≡ [] → running_at ts pass ≡ Some kept → X
 no_running ts pass kept none e = absurd (let f : None ≡ Some kept = sym (ap (λ ts. running_at ts pass) none) ∙ e in cc)
@@ -104,20 +103,20 @@ module _ (slots ids : ℕ) (cells : List Cell) (consistent : AreConsistent slots
 -- what a journal keeps that has these ids, cells, notes, queue and round
 abbrev pub seen_of : ℕ → ℕ → List Cell → List Note → Limits → List ℕ → RoundView → JournalView
 seen_of slots ids cells notes limits queue round =
-    record { history = record { ids = ids; slots = slots; opening = graph_of cells; entries = map (λ n. n.entry) notes }; opening = cells; notes = notes; limits = limits; marks = no_marks; queue = queue; round = round }
+    record { history = record { ids = ids; slots = slots; opening = graph_of cells; entries = map (λ n. n.entry) notes }; opening = cells; notes = notes; limits = limits; marks = no_marks; queue = queue; round = round; reserved = false }
 
--- a trace with these limits and no marks is seen so
-trace-new : {slots : ℕ} (ids : ℕ) (cells : List (PageCell slots)) (t : Trace) (limits : Limits) (queue : List ℕ) (round : RoundView) → t.limits ≡ limits → t.marks ≡ no_marks
-    → (let j : JournalView = record { history = record { ids = ids; slots = slots; opening = graph_of (store_of cells); entries = map (λ n. n.entry) t.notes.items }; opening = store_of cells; notes = t.notes.items; limits = t.limits; marks = t.marks; queue = queue; round = round } in j)
+-- a trace with these limits, no marks and nothing reserved is seen so
+trace-new : {slots : ℕ} (ids : ℕ) (cells : List (PageCell slots)) (t : Trace) (limits : Limits) (queue : List ℕ) (round : RoundView) → t.limits ≡ limits → t.marks ≡ no_marks → t.reserved ≡ false
+    → (let j : JournalView = record { history = record { ids = ids; slots = slots; opening = graph_of (store_of cells); entries = map (λ n. n.entry) t.notes.items }; opening = store_of cells; notes = t.notes.items; limits = t.limits; marks = t.marks; queue = queue; round = round; reserved = t.reserved } in j)
     ≡ seen_of slots ids (store_of cells) t.notes.items limits queue round
-trace-new ids cells t limits queue round l m = cc
+trace-new ids cells t limits queue round l m k = cc
 
 -- and with no note, and tables of an opening, as one that has just opened
-pub opened-seen : {slots : ℕ} (ids : ℕ) (cells opening : List (PageCell slots)) (t : Trace) (limits : Limits) (seen : ℕ) (queue : List ℕ) (round : RoundView) → t.limits ≡ limits → t.marks ≡ no_marks → t.notes.items ≡ [] → opening ≡ cells → seen ≡ ids → queue ≡ zeros_of (store_of cells) → round ≡ Closed
-    → (let j : JournalView = record { history = record { ids = seen; slots = slots; opening = graph_of (store_of opening); entries = map (λ n. n.entry) t.notes.items }; opening = store_of opening; notes = t.notes.items; limits = t.limits; marks = t.marks; queue = queue; round = round } in j)
+pub opened-seen : {slots : ℕ} (ids : ℕ) (cells opening : List (PageCell slots)) (t : Trace) (limits : Limits) (seen : ℕ) (queue : List ℕ) (round : RoundView) → t.limits ≡ limits → t.marks ≡ no_marks → t.reserved ≡ false → t.notes.items ≡ [] → opening ≡ cells → seen ≡ ids → queue ≡ zeros_of (store_of cells) → round ≡ Closed
+    → (let j : JournalView = record { history = record { ids = seen; slots = slots; opening = graph_of (store_of opening); entries = map (λ n. n.entry) t.notes.items }; opening = store_of opening; notes = t.notes.items; limits = t.limits; marks = t.marks; queue = queue; round = round; reserved = t.reserved } in j)
     ≡ opened_view slots ids (store_of cells) limits
-opened-seen {slots} ids cells opening t limits seen queue round l m n o i q r =
-    trace-new seen opening t limits queue round l m
+opened-seen {slots} ids cells opening t limits seen queue round l m k n o i q r =
+    trace-new seen opening t limits queue round l m k
     ∙ (ap (λ (cs : List (PageCell slots)). seen_of slots seen (store_of cs) t.notes.items limits queue round) o
     ∙ (ap (λ (ns : List Note). seen_of slots seen (store_of cells) ns limits queue round) n
     ∙ (ap (λ (k : List ℕ). seen_of slots seen (store_of cells) [] limits k round) q

@@ -15,7 +15,7 @@ use Rattle.cell_page.specs.Stored.{cell_of}
 use Rattle.ref_tables.specs.Queue.{has, joined}
 use Rattle.restart_laws.specs.Graph.{zeros_from, zeros_of}
 use Rattle.core_store.specs.Changes.{has_no_strong}
-use Rattle.core_store.specs.Fresh.{store_of}
+use Rattle.core_store.specs.Opening.{store_of}
 use Rattle.core_store.specs.FreeIds.{all_free, IsFreeInside, AreFreeIn}
 use Rattle.core_store.proofs.FreeIdLaws.{free-at}
 

@@ -11,9 +11,8 @@ use Rattle.cell_page.specs.declared.cell.Cell.{Cell}
 use Rattle.cell_page.specs.Format.{IsPage, first_id}
 use Rattle.cell_page.specs.Stored.{cell_of, HoldsPage}
 use Rattle.core_store.specs.declared.frame.Frame.{Frame}
-use Rattle.core_store.specs.Fresh.{AreByIds}
+use Rattle.core_store.specs.Opening.{AreByIds, ArePages, cells_in, stored_in}
 use Rattle.core_store.specs.Frames.{AllAgree}
-use Rattle.core_store.specs.Opening.{ArePages, cells_in, stored_in}
 
 -- ---- the cells stand by their ids
 

@@ -3,7 +3,7 @@ use Rattle.std.specs.Prelude.{◌≡◌, ◌≢◌, ◌↔◌, ℕ, List, [], �
 use Rattle.plain_model.specs.declared.calls.Call.{Call as TransactionCall}
 use Rattle.plain_model.specs.declared.calls.Call.TheVariants.{Abort}
 use Rattle.plain_model.specs.declared.calls.Entry.{Entry}
-use Rattle.plain_model.specs.declared.calls.Entry.TheVariants.{Call, Undo}
+use Rattle.plain_model.specs.declared.calls.Entry.TheVariants.{Call, Undo, Hidden, TurnBusy}
 use Rattle.plain_model.specs.Machine.{transaction_of}
 use Rattle.store_model.specs.Core.{Round, Core}
 use Rattle.log_record.specs.declared.cell_record.CellRecord.{CellRecord}
@@ -22,18 +22,20 @@ use Rattle.core_store.specs.Collects.{Collects, entry_of}
 abbrev pub IsEndOfAbort : Core → ℕ → TransactionCall → Type 0
 IsEndOfAbort c pass call = (call ≡ Abort) × (transaction_of c.moment.state pass ≢ None)
 
--- the entry is of a call or of an undo, and this is what it logs
-abbrev pub IsLoggedByClient : Core → Entry → Option CellRecord → Type 0
-IsLoggedByClient c (Call pass call reply) logged = (IsEndOfAbort c pass call → logged ≡ Some (AbortEnd pass)) × ((IsEndOfAbort c pass call → ⊥) → logged ≡ logged_by c.moment.state c.cells pass call)
-IsLoggedByClient c (Undo pass) logged = logged ≡ option_map (logged_by_undo c.cells pass) (next_to_restore c.moment pass)
-IsLoggedByClient c _ logged = ⊥
+-- the entry is of a call, of an undo or of upkeep, and this is what it logs: upkeep changes no object, and logs nothing
+abbrev pub IsLoggedByOther : Core → Entry → Option CellRecord → Type 0
+IsLoggedByOther c (Call pass call reply) logged = (IsEndOfAbort c pass call → logged ≡ Some (AbortEnd pass)) × ((IsEndOfAbort c pass call → ⊥) → logged ≡ logged_by c.moment.state c.cells pass call)
+IsLoggedByOther c (Undo pass) logged = logged ≡ option_map (logged_by_undo c.cells pass) (next_to_restore c.moment pass)
+IsLoggedByOther c Hidden logged = logged ≡ None
+IsLoggedByOther c (TurnBusy pass) logged = logged ≡ None
+IsLoggedByOther c _ logged = ⊥
 
 -- what a note makes of the queue and the round, and what it logs
 abbrev pub Turns : ℕ → Core → Note → List ℕ → Option Round → Type 0
 Turns slots c n queue round = by n.act
   where
     by : Act → Type 0
-    by Other = IsLoggedByClient c n.entry n.logged × (queue ≡ queue_after c n.logged) × (round ≡ round_after c.round (objects_touched n.logged))
+    by Other = IsLoggedByOther c n.entry n.logged × (queue ≡ queue_after c n.logged) × (round ≡ round_after c.round (objects_touched n.logged))
     by a = (n.entry ≡ entry_of n.logged) × Collects slots c a n.logged queue round
 
 -- a note leads from a journal to the next one, and tells that no work is left exactly where no round is open

@@ -4,7 +4,7 @@ ghost use Rattle.std.specs.List.{list_any};
 ghost use Rattle.std.specs.Ordering.{nat_cmp};
 ghost use Rattle.std.specs.BTreeMap.{is_at};
 ghost use Rattle.cell_model.specs.Cells.{is_live};
-ghost use Rattle.core_store.specs.Fresh.{store_of};
+ghost use Rattle.core_store.specs.Opening.{store_of};
 ghost use Rattle.core_store.specs.FreeIds.{AreFreeIn, IsLeastOf, Frees, Takes, taken};
 
 use cell_page::Cell;

@@ -6,8 +6,7 @@ ghost use Rattle.cell_page.specs.Format.{IsSlotCount, IsPage};
 ghost use Rattle.cell_page.specs.Stored.{cell_of};
 ghost use Rattle.restart_laws.specs.Graph.{zeros_of};
 ghost use Rattle.core_store.specs.Changes.{has_no_strong};
-ghost use Rattle.core_store.specs.Fresh.{store_of};
-ghost use Rattle.core_store.specs.Opening.{ArePages, cells_in};
+ghost use Rattle.core_store.specs.Opening.{store_of, ArePages, cells_in};
 
 use crate::frame::Frame;
 use cell_page::{CELLS_OF_PAGE, Cell, Page, ROOT, first_id};

@@ -1,5 +1,6 @@
 //! What a journal keeps beside its history: the free ids, the marks, the locks, the transactions, what they name, the queue and the round.
 ghost use Rattle.std.specs.Prelude.{◌≡◌, ◌<◌, ◌≤◌, ◌^◌, length, IfOk, is_some};
+ghost use Rattle.plain_model.specs.History.{least_active};
 ghost use Rattle.store_model.specs.Core.{Core};
 ghost use Rattle.core_store.specs.Owed.{bytes_owed};
 ghost use Rattle.core_store.specs.Stands.{Stands};
@@ -55,7 +56,7 @@ impl<const SLOTS: usize> Tables<SLOTS> {
     ghost use Rattle.core_store.specs.Views.{view_of};
     ghost use Rattle.core_store.specs.Steps.{IsOpenedTo};
     ghost use Rattle.core_store.specs.FreeIds.{taken};
-    ghost use Rattle.core_store.specs.Fresh.{store_of};
+    ghost use Rattle.core_store.specs.Opening.{store_of};
 
     /// The tables of a store that opens to these cells, which stand by their ids from 1 on.
     pub(crate) fn over(alloc: Global, cells: &[Cell<SLOTS>]) -> Result<Tables<SLOTS>, Memory>
@@ -102,6 +103,17 @@ impl<const SLOTS: usize> Tables<SLOTS> {
         ensures { result ≡ is_some (running_at self.now.transactions.entries pass) }
     {
         self.transactions.contains_key(&pass)
+    }
+
+    /// The least client with a transaction.
+    pub(crate) fn least_active(&self) -> Option<u8>
+        ensures { (c : Core) → Stands SLOTS (view_of self.now) c → result ≡ least_active c.moment.state }
+    {
+        let _ = self.transactions.len();
+        match self.transactions.first_key_value() {
+            Some((pass, _)) => Some(*pass),
+            None => None,
+        }
     }
 
     /// The stored ids, ascending.

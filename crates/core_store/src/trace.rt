@@ -13,6 +13,8 @@ pub(crate) struct Trace {
     pub(crate) notes: Vec<Note>,
     pub(crate) limits: Limits,
     pub(crate) marks: Marks,
+    /// Whether room is taken for one note of upkeep, beside those that are owed.
+    pub(crate) reserved: bool,
 }
 
 impl Trace {
@@ -21,6 +23,7 @@ impl Trace {
         ensures notes { (result.notes.items ≡ []) × (vec_len result.notes ≡ 0) }
         ensures limits { result.limits ≡ limits }
         ensures marks { result.marks ≡ record { disk = false; trace = false; log = false } }
+        ensures reserved { result.reserved ≡ false }
     {
         Trace {
             notes: Vec::new(alloc),
@@ -30,6 +33,7 @@ impl Trace {
                 trace: false,
                 log: false,
             },
+            reserved: false,
         }
     }
 
@@ -48,19 +52,29 @@ impl Trace {
         ensures notes { (self.new.notes.items ≡ self.old.notes.items) × (vec_len self.new.notes ≡ vec_len self.old.notes) }
         ensures more { vec_capacity self.old.notes ≤ vec_capacity self.new.notes }
         ensures rest { (self.new.limits ≡ self.old.limits) × (self.new.marks ≡ self.old.marks) }
+        ensures reserved { self.new.reserved ≡ self.old.reserved }
     {
         self.notes.reserve(more)
     }
 
-    /// Appends a note, for which there is room.
+    /// Appends a note, for which there is room. What was reserved is given up.
     pub(crate) fn add(&mut self, note: Note)
         requires { vec_len self.old.notes < vec_capacity self.old.notes }
         ensures items { self.new.notes.items ≡ self.old.notes.items ++ note ∷ [] }
         ensures len { vec_len self.new.notes ≡ vec_len self.old.notes + 1 }
         ensures room { vec_capacity self.old.notes ≤ vec_capacity self.new.notes }
         ensures rest { (self.new.limits ≡ self.old.limits) × (self.new.marks ≡ self.old.marks) }
+        ensures reserved { self.new.reserved ≡ false }
     {
+        self.reserved = false;
         let _ = self.notes.push(note);
+    }
+
+    /// Keeps the room that was taken for one note more for upkeep.
+    pub(crate) fn reserve(&mut self)
+        ensures { self.new ≡ record self.old { reserved = true } }
+    {
+        self.reserved = true;
     }
 
     /// Marks that a call was answered that the history is full.

@@ -10,13 +10,11 @@ ghost use Rattle.disk_model.specs.Time.{LeavesOnlyImages};
 ghost use Rattle.cell_page.specs.Format.{IsSlotCount};
 ghost use Rattle.gate_log.specs.declared.stage.Stage.TheVariants.{Standing};
 ghost use Rattle.gate_log.specs.Batches.{most_bytes};
-ghost use Rattle.gate_log.specs.State.{used, fresh_log};
+ghost use Rattle.gate_log.specs.State.{used};
 ghost use Rattle.gate_log.specs.OnDisk.{IsOn};
-ghost use Rattle.restart_store.specs.Fresh.{HasFreshLog, fresh_pages_of};
 ghost use Rattle.opened_images.specs.GoesOn.{IsBegun};
 ghost use Rattle.core_store.specs.RoundView.{Closed};
 ghost use Rattle.core_store.specs.Limited.{AreLimits};
-ghost use Rattle.core_store.specs.Fresh.{fresh_history};
 ghost use Rattle.core_store.specs.Opening.{ArePages, stored_in, opened_history};
 ghost use Rattle.logged_journal.specs.Records.{MayHave};
 ghost use Rattle.logged_journal.specs.Opens.{OpensDuring};
@@ -59,37 +57,6 @@ impl<const SLOTS: usize, D: Disk> Model for FramedJournal<SLOTS, D> {
 }
 
 impl<const SLOTS: usize, D: Disk> FramedJournal<SLOTS, D> {
-    /// The fresh store of this many pages, from 1 to 1,024, on a disk that was made anew as one: the root alone is stored.
-    /// Where there is no memory the disk is handed back.
-    pub fn fresh(
-        alloc: Global,
-        disk: D,
-        pages: u16,
-        limits: Limits,
-    ) -> Result<FramedJournal<SLOTS, D>, (Memory, D)>
-        requires size { IsSlotCount SLOTS }
-        requires pages { (1 ≤ pages) × (pages ≤ 1024) }
-        requires limits { AreLimits limits }
-        requires log { HasFreshLog D.may_leave SLOTS pages disk }
-        requires page_area { Leaves D.may_leave disk Pages (λ area. area ≡ fresh_pages_of SLOTS pages) }
-        ensures history { IfOk result (λ j. j.journal.history ≡ fresh_history SLOTS (8 * pages)) }
-        ensures notes { IfOk result (λ j. (j.journal.notes ≡ []) × (j.durable ≡ 0)) }
-        ensures limits { IfOk result (λ j. (j.journal.limits ≡ limits) × (j.journal.marks ≡ record { disk = false; trace = false; log = false })) }
-        ensures collector { IfOk result (λ j. (j.journal.queue ≡ []) × (j.journal.round ≡ Closed)) }
-        ensures running { IfOk result (λ j. (j.failed ≡ None) × (j.log_full ≡ false)) }
-        ensures log { IfOk result (λ j. (j.log ≡ fresh_log) × (j.peak ≡ 15)) }
-        ensures disk { IfOk result (λ j. j.disk ≡ disk) }
-        ensures opened { IfOk result (λ j. j.opened ≡ D.faults disk) }
-        ensures back { IfErr result (λ e. e.1 ≡ disk) }
-    {
-        let (logged, frames) = LoggedJournal::fresh(alloc, disk, pages, limits)?;
-        Ok(FramedJournal {
-            logged,
-            frames,
-            held: Three::new(),
-        })
-    }
-
     /// The store that opens with these frames, one for each page from 0 on, on a disk on which its log stands: the pages
     /// and the log are what it opened to, and its log tells of no transaction that hasn't ended. In it no transaction is
     /// active, and the log goes on behind what it has. Where there is no memory the disk is handed back.

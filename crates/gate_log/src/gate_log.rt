@@ -8,7 +8,7 @@ ghost use Rattle.disk_model.specs.declared.area.Area.TheVariants.{Pages, Super};
 ghost use Rattle.gate_log.specs.declared.stage.Stage.TheVariants.{Reading, Standing};
 ghost use Rattle.gate_log.specs.declared.refusal.LogRefusal.TheVariants.{Disk, LogFull, Damaged, Memory};
 ghost use Rattle.gate_log.specs.Batches.{batch_bytes, most_bytes};
-ghost use Rattle.gate_log.specs.State.{LogState, IsLogArea, used, appended, forced, forced_area, failed, turned, other_log, naming_byte, fresh_log, log_at};
+ghost use Rattle.gate_log.specs.State.{LogState, IsLogArea, used, appended, forced, forced_area, failed, turned, other_log, naming_byte, log_at};
 ghost use Rattle.gate_log.specs.OnDisk.{IsOn, IsRead, HasLog, HasEither, with_batch, after_next};
 ghost use Rattle.gate_log.specs.CommitBytes.{IsDamaged, IsCaused};
 
@@ -54,20 +54,6 @@ impl Model for GateLog {
 }
 
 impl GateLog {
-    /// Stands in area A with the one batch of a fresh store. It takes no memory.
-    pub fn fresh(alloc: Global) -> GateLog
-        ensures { result ≡ fresh_log }
-    {
-        GateLog {
-            alloc,
-            area: Area::LogA,
-            stage: Stage::Standing,
-            durable: 9,
-            frame: Vec::new(alloc),
-            room: 0,
-        }
-    }
-
     /// Stands at the area's first commit byte. It takes no memory.
     pub fn start(alloc: Global, area: Area) -> GateLog
         requires { IsLogArea area }

@@ -1,5 +1,5 @@
 -- What the images of a disk open to on which a log has the records of a journal's notes.
-use Rattle.std.proofs.Common.{◌≡◌, ℕ, ◌*◌, Bool, true, false, List, [], ◌∷◌, ◌++◌, append-nil, map, Option, Some, None, inr, refl, sym, ◌∙◌, ap, subst}
+use Rattle.std.proofs.Common.{◌≡◌, ℕ, ◌*◌, Bool, true, false, List, [], ◌∷◌, ◌++◌, ◌+◌, length, append-nil, map, Option, Some, None, inr, refl, sym, ◌∙◌, ap, arith, subst}
 use Rattle.std.specs.Prelude.{cond, IfSome}
 use Rattle.std.specs.Option.{option_map_or}
 use Rattle.std.specs.List.{AllByRecursion}
@@ -12,6 +12,7 @@ use Rattle.plain_model.specs.declared.calls.Entry.TheVariants.{Call}
 use Rattle.plain_model.specs.ActiveTransaction.{ActiveTransaction}
 use Rattle.plain_model.specs.Machine.{State, transaction_of, refusal_of}
 use Rattle.plain_model.specs.History.{Moment, History, start_of, end_of, with_entry, next, moment_after, is_stopped, IsAllowed, IsCrashConsistent}
+use Rattle.plain_model.proofs.StepLaws.{end_of-ids}
 use Rattle.plain_laws.proofs.Serial.{next-slots}
 use Rattle.cell_model.specs.Cells.{Cell}
 use Rattle.cell_model.specs.Records.{Record as StoredRecord, Commit, cells_after, AllFit}
@@ -31,9 +32,9 @@ use Rattle.store_model.proofs.Lists.{each-append}
 use Rattle.store_model.proofs.ReferenceLaws.{references_left-fit}
 use Rattle.restart_laws.specs.Graph.{zeros_of}
 use Rattle.restart_laws.specs.Unended.{unended_after_all, AllFitUnended}
-use Rattle.restart_laws.specs.Restored.{opened, CanRestart}
+use Rattle.restart_laws.specs.Restored.{restored, opened, CanRestart}
 use Rattle.restart_laws.specs.Logged.{LogsCall, Logs}
-use Rattle.restart_laws.specs.Restartable.{IsRestartable}
+use Rattle.restart_laws.specs.Restartable.{IsRestartable, Opens}
 use Rattle.restart_laws.specs.Settled.{IsUnpromised}
 use Rattle.restart_laws.proofs.ForgottenLaws.{forgotten, forgotten-sound, zeros-left}
 use Rattle.restart_laws.proofs.ReopenLaws.{cells-append}
@@ -70,8 +71,21 @@ slots-after : (m : Moment) (es : List Entry) → (moment_after m es).state.slots
 slots-after m [] = refl
 slots-after m (e ∷ es) = slots-after (next m e) es ∙ next-slots m e
 
+-- a history that ends as a journal with these entries does has as many ids
+same-ids : (j : JournalView) (entries : List Entry) (h : History) → moment_after (start_of j.history) entries ≡ end_of h → j.history.ids ≡ h.ids
+same-ids j entries h ends = sym (end_of-ids (record j.history { entries = entries })) ∙ ap (λ (m : Moment). m.state.ids) ends ∙ end_of-ids h
+
+-- where a store opens after a safe journal's records, it opens to a cell for each of the journal's ids, and one at 0
+opened-size : (j : JournalView) (notes : List Note) (entries : List Entry) (core : Core) → IsRestartable (opening_of j) entries (logged_in notes) core
+    → Opens core.moment (cells_after_notes j.history.slots j.opening notes) (unended_after_all [] (logged_in notes)) → core.moment.state.slots ≡ j.history.slots
+    → length (opened j.history.slots j.opening (logged_in notes)) ≡ j.history.ids + 1
+opened-size j notes entries core safe opens own =
+    let ids : core.moment.state.ids ≡ j.history.ids = ap (λ (m : Moment). m.state.ids) safe.moment ∙ end_of-ids (record j.history { entries = entries }) in
+    subst (λ (slots : ℕ). length (restored slots (cells_after_notes j.history.slots j.opening notes) (unended_after_all [] (logged_in notes))) ≡ j.history.ids + 1) own
+    (let sized = opens.after.sized in omega (arith, sized, ids))
+
 module _ (law : GoesOnLaw) (j : JournalView) (notes : List Note) (entries later : List Entry) (core : Core) (h : History) (image : Bytes) where
-  -- an image with the records of a safe journal opens to a graph that a crash may leave, where nothing was promised since
+  -- an image with the records of a safe journal opens to a cell for each id and one at 0, and to a graph that a crash may leave, where nothing was promised since
   opens-own : AreOfStore j.history.slots j notes → IsRestartable (opening_of j) entries (logged_in notes) core → IsUnpromised later → moment_after (start_of j.history) (entries ++ later) ≡ end_of h
       → HasRecords j notes image → OpensAfter j.history.slots h image
   opens-own facts safe unpromised ends has =
@@ -98,6 +112,7 @@ module _ (law : GoesOnLaw) (j : JournalView) (notes : List Note) (entries later 
       record {
         cells = opened slots j.opening (logged_in notes);
         opened = subst (λ (rs : List (Option StoredRecord)). Opened slots image (OpensTo (opened slots j.opening rs))) (sym stored-is) opens;
+        size = opened-size j notes entries core safe crash.0 own ∙ ap (λ (n : ℕ). n + 1) (same-ids j (entries ++ later) h ends);
         graph = subst (λ (m : Moment). IsCrashConsistent m (graph_of (opened slots j.opening (logged_in notes)))) ends crash.1;
       }
 

@@ -12,4 +12,3 @@ pub mod AbortSteps
 pub mod AppliedCalls
 pub mod NoteRecords
 pub mod ImagesOpen
-pub mod FreshPages

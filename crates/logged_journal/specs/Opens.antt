@@ -1,5 +1,5 @@
 -- What the images of a store's disk open to.
-use Rattle.std.specs.Prelude.{◌≡◌, ℕ, List, None}
+use Rattle.std.specs.Prelude.{◌≡◌, ℕ, ◌+◌, List, length, None}
 use Rattle.plain_model.specs.declared.calls.Call.{Call as TransactionCall}
 use Rattle.plain_model.specs.declared.calls.Call.TheVariants.{Commit}
 use Rattle.plain_model.specs.declared.calls.Reply.TheVariants.{DiskFault}
@@ -16,6 +16,8 @@ use Rattle.logged_journal.specs.Calls.{IsGranted}
 pub record OpensAfter (slots : ℕ) (h : History) (image : Bytes) : Type 0 where
   pub cells : List Cell
   pub opened : Opened slots image (OpensTo cells)
+  -- there is a cell for each id, and one at 0
+  pub size : length cells ≡ h.ids + 1
   pub graph : IsCrashConsistent (end_of h) (graph_of cells)
 
 -- What an image opens to while this call is made: to what a crash before it may leave; or, at a commit that is granted, to

@@ -12,11 +12,9 @@ ghost use Rattle.disk_model.specs.Time.{LeavesOnlyImages};
 ghost use Rattle.cell_page.specs.Format.{IsSlotCount};
 ghost use Rattle.gate_log.specs.declared.stage.Stage.TheVariants.{Standing};
 ghost use Rattle.gate_log.specs.Batches.{most_bytes};
-ghost use Rattle.gate_log.specs.State.{used, fresh_log};
+ghost use Rattle.gate_log.specs.State.{used};
 ghost use Rattle.gate_log.specs.OnDisk.{IsOn};
-ghost use Rattle.restart_store.specs.Fresh.{HasFreshLog, fresh_pages_of};
 ghost use Rattle.opened_images.specs.GoesOn.{IsBegun};
-ghost use Rattle.core_store.specs.Fresh.{AreFresh, fresh_history};
 ghost use Rattle.core_store.specs.Opening.{ArePages, stored_in, opened_history};
 ghost use Rattle.core_store.specs.Frames.{Agree, AllAgree, IsNext, pages_held};
 ghost use Rattle.core_store.specs.JournalView.{cells_of};
@@ -49,10 +47,9 @@ const LONGEST_RECORD: usize = 25;
 
 /// A journal whose events stand in a log on a disk, which it holds.
 ///
-/// It begins with a fresh store, or goes on with one that was opened, behind what the log has then. Each event with a
-/// record appends it to the tail of the log at the same event. A commit makes the tail last before its
-/// event, and is answered after that. Where the disk fails that, the store is stopped: each later call answers so and does
-/// nothing, and the store has to be opened again.
+/// It goes on with a store that was opened, behind what the log has then. Each event with a record appends it to the tail
+/// of the log at the same event. A commit makes the tail last before its event, and is answered after that. Where the disk
+/// fails that, the store is stopped: each later call answers so and does nothing, and the store has to be opened again.
 #[derive(Drop)]
 pub struct LoggedJournal<const SLOTS: usize, D: Disk> {
     journal: Journal<SLOTS>,
@@ -101,41 +98,6 @@ impl<const SLOTS: usize, D: Disk> Model for LoggedJournal<SLOTS, D> {
 }
 
 impl<const SLOTS: usize, D: Disk> LoggedJournal<SLOTS, D> {
-    /// The fresh store of this many pages, from 1 to 1,024, and its frames, in order, on a disk that was made anew as one.
-    /// Where there is no memory the disk is handed back.
-    pub fn fresh(
-        alloc: Global,
-        disk: D,
-        pages: u16,
-        limits: Limits,
-    ) -> Result<(LoggedJournal<SLOTS, D>, Vec<Frame<SLOTS>>), (Memory, D)>
-        requires size { IsSlotCount SLOTS }
-        requires pages { (1 ≤ pages) × (pages ≤ 1024) }
-        requires limits { AreLimits limits }
-        requires log { HasFreshLog D.may_leave SLOTS pages disk }
-        requires page_area { Leaves D.may_leave disk Pages (λ area. area ≡ fresh_pages_of SLOTS pages) }
-        ensures history { IfOk result (λ r. r.0.journal.history ≡ fresh_history SLOTS (8 * pages)) }
-        ensures notes { IfOk result (λ r. (r.0.journal.notes ≡ []) × (r.0.durable ≡ 0)) }
-        ensures limits { IfOk result (λ r. (r.0.journal.limits ≡ limits) × (r.0.journal.marks ≡ record { disk = false; trace = false; log = false })) }
-        ensures collector { IfOk result (λ r. (r.0.journal.queue ≡ []) × (r.0.journal.round ≡ Closed)) }
-        ensures running { IfOk result (λ r. (r.0.failed ≡ None) × (r.0.log_full ≡ false)) }
-        ensures log { IfOk result (λ r. (r.0.log ≡ fresh_log) × (r.0.peak ≡ 15)) }
-        ensures disk { IfOk result (λ r. r.0.disk ≡ disk) }
-        ensures opened { IfOk result (λ r. r.0.opened ≡ D.faults disk) }
-        ensures back { IfErr result (λ e. e.1 ≡ disk) }
-        ensures frames { IfOk result (λ r. AreFresh pages r.1.items) }
-        ensures agree { IfOk result (λ r. AllAgree (cells_of r.0.journal) r.1.items) }
-    {
-        match Journal::fresh(alloc, pages, limits) {
-            Ok((journal, frames)) => {
-                let _ = journal.history();
-                let logged = LoggedJournal::begin(alloc, journal, disk, GateLog::fresh(alloc))?;
-                Ok((logged, frames))
-            }
-            Err(memory) => Err((memory, disk)),
-        }
-    }
-
     /// The store that opens with these frames, one for each page from 0 on, on a disk on which its log stands: the pages
     /// and the log are what it opened to, and its log tells of no transaction that hasn't ended. In it no transaction is
     /// active, and the log goes on behind what it has. Where there is no memory the disk is handed back.

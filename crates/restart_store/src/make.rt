@@ -18,8 +18,8 @@ use disk_model::Disk;
 /// super area the last bytes may be gone), or no store, or the fresh one, whatever it answers. [`InitRefusal::Disk`] comes only where the disk's count of faults
 /// rose in this call.
 ///
-/// At `Ok` the log of a fresh store stands on the disk too, in log area A with its first batch alone: a journal that
-/// keeps a log begins with it, and with the fresh pages in the pages area.
+/// At `Ok` the log of a fresh store stands on the disk too, in log area A with its first batch alone, and the pages area has
+/// the fresh pages.
 pub fn init<D: Disk>(disk: &mut D, pages: u16) -> Result<(), InitRefusal>
     requires count { (1 ≤ pages) × (pages ≤ 1024) }
     ensures made { OnOk result ((area : _) → IsMade D.content D.may_leave disk.old disk.new area (in_area (fresh_store pages 0) area)) }

@@ -1,11 +1,12 @@
 //! Runs of the log over the disk in memory.
-ghost use Rattle.std.specs.Prelude.{◌≡◌, ◌<◌, ◌^◌, ◌∷◌, [], List, length, Some, IfOk, OnOk};
-ghost use Rattle.disk_model.specs.Told.{KeepsOthers, Leaves};
-ghost use Rattle.disk_model.specs.Memory.{left_of};
+ghost use Rattle.std.specs.Prelude.{◌≡◌, ◌<◌, ◌^◌, ◌∷◌, [], ℕ, List, length, Some, IfOk, OnOk};
+ghost use Rattle.disk_model.specs.Told.{IsSettled, KeepsOthers, Leaves};
+ghost use Rattle.disk_model.specs.Memory.{content_of, left_of};
+ghost use Rattle.disk_model.specs.declared.area.Area.TheVariants.{LogA};
 ghost use Rattle.disk_model.specs.declared.area.Area.{Area};
 ghost use Rattle.gate_log.specs.declared.stage.Stage.TheVariants.{Standing};
-ghost use Rattle.gate_log.specs.State.{fresh_log, IsLogArea};
-ghost use Rattle.gate_log.specs.OnDisk.{IsOn};
+ghost use Rattle.gate_log.specs.State.{IsLogArea, log_at};
+ghost use Rattle.gate_log.specs.OnDisk.{IsOn, IsRead};
 
 use disk_model::{Area, Disk, DiskFailed, MemoryDisk};
 use gate_log::{GateLog, LogRefusal};
@@ -17,6 +18,7 @@ use std::test::Fail;
 fn fill<D: Disk>(disk: &mut D, area: Area, bytes: &[u8]) -> Result<(), DiskFailed>
     requires empty { D.content disk.old area ≡ Some [] }
     ensures filled { OnOk result (Leaves D.may_leave disk.new area (λ c. c ≡ bytes.now)) }
+    ensures settled { OnOk result (IsSettled D.content D.may_leave disk.new area) }
     ensures keeps { KeepsOthers D.content D.may_leave disk.old disk.new area }
 {
     disk.write_at(area, 0, bytes)?;
@@ -24,14 +26,29 @@ fn fill<D: Disk>(disk: &mut D, area: Area, bytes: &[u8]) -> Result<(), DiskFaile
     Ok(())
 }
 
-/// A disk with a fresh store of one page.
+/// A disk with a fresh store of one page, on which its log can be read.
 fn fresh_disk(alloc: Global) -> Result<MemoryDisk, DiskFailed>
-    ensures { IfOk result (λ disk. IsOn left_of fresh_log disk ((14 ∷ 1 ∷ 0 ∷ 1 ∷ []) ∷ [])) }
+    ensures { IfOk result (λ disk. IsRead content_of left_of (log_at LogA) disk []) }
 {
     let mut disk = MemoryDisk::new(alloc);
     fill(&mut disk, Area::LogA, &[1, 0, 0, 0, 4, 14, 1, 0, 1, 0])?;
     fill(&mut disk, Area::Super, &[0])?;
     Ok(disk)
+}
+
+/// The log in area A, read up to its closed commit byte.
+fn standing_log(alloc: Global, disk: &mut MemoryDisk) -> Result<GateLog, LogRefusal>
+    requires { IsRead content_of left_of (log_at LogA) disk.old [] }
+    ensures standing { IfOk result (λ log. (log.stage ≡ Standing) × (log.tail ≡ [])) }
+    ensures on { IfOk result (λ log. (batches : List (List ℕ)) × IsOn left_of log disk.new batches) }
+{
+    let mut log = GateLog::start(alloc, Area::LogA);
+    'read: for _ in 0..u64::MAX {
+        if log.next_batch(disk)?.is_none() {
+            return Ok(log);
+        }
+    }
+    Err(LogRefusal::Memory)
 }
 
 /// How many batches the area has, where it is a log.
@@ -59,7 +76,9 @@ fn expect_refusal(rt: &impl Abort, refusal: Option<LogRefusal>, wanted: LogRefus
 
 #[test]
 fn a_full_log_refuses(rt: HostRuntime) -> Result<(), Fail> {
-    let mut log = GateLog::fresh(rt.alloc());
+    let alloc = rt.alloc();
+    let mut disk = fresh_disk(alloc)?;
+    let mut log = standing_log(alloc, &mut disk)?;
     log.append(24, 7, b"\x01\x01")?;
     let answer = log.append(24, 7, b"\x02\x01\0\0\0\x02");
     expect_refusal(&rt, answer.err(), LogRefusal::LogFull { used: 17 });
@@ -75,7 +94,7 @@ const MAKES_AND_LINKS: [u8; 28] = [
 fn a_forced_batch_stays(rt: HostRuntime) -> Result<(), Fail> {
     let alloc = rt.alloc();
     let mut disk = fresh_disk(alloc)?;
-    let mut log = GateLog::fresh(alloc);
+    let mut log = standing_log(alloc, &mut disk)?;
     log.append(1000, 0, &MAKES_AND_LINKS)?;
     log.force(&mut disk)?;
     disk.lose_power(0)?;
@@ -92,7 +111,7 @@ fn a_forced_batch_stays(rt: HostRuntime) -> Result<(), Fail> {
 fn a_checkpoint_names_the_other_area(rt: HostRuntime) -> Result<(), Fail> {
     let alloc = rt.alloc();
     let mut disk = fresh_disk(alloc)?;
-    let mut log = GateLog::fresh(alloc);
+    let mut log = standing_log(alloc, &mut disk)?;
     log.turn(&mut disk, b"\x0e\x01\0\x01")?;
     disk.lose_power(0)?;
     expect_bytes(&rt, &disk, Area::Super, b"\x01");

@@ -3,7 +3,7 @@ use Rattle.std.proofs.lemmas.Result.{IfOk-weaker}
 use Rattle.cell_page.specs.declared.cell.Cell.{Cell as PageCell}
 use Rattle.cell_page.specs.Stored.{cell_of}
 use Rattle.core_store.specs.JournalView.{cells_after_notes}
-use Rattle.core_store.specs.Fresh.{store_of}
+use Rattle.core_store.specs.Opening.{store_of}
 use Rattle.auditor.specs.Replay.{SameButCounts}
 use Rattle.auditor.specs.Recount.{ids_of}
 use Rattle.auditor.proofs.RecountLaws.{live-same, zero-same, differences-same}

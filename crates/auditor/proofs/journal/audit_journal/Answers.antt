@@ -6,7 +6,7 @@ use Rattle.cell_model.specs.Cells.{Cell as StoredCell}
 use Rattle.cell_model.specs.Consistent.{AreConsistent}
 use Rattle.cell_model.specs.Records.{AllFit}
 use Rattle.core_store.specs.Frames.{AllAgree}
-use Rattle.core_store.specs.Fresh.{store_of}
+use Rattle.core_store.specs.Opening.{store_of}
 use Rattle.core_store.specs.declared.note.Note.{Note}
 use Rattle.core_store.specs.JournalView.{JournalView, logged_in, cells_after_notes, cells_of}
 use Rattle.framed_journal.specs.Holding.{AreFramesOf}

@@ -1,4 +1,4 @@
-use Rattle.core_store.proofs.FreshPages.{page-more, page-all}
+use Rattle.core_store.proofs.OpeningPages.{page-more, page-all}
 use Rattle.core_store.proofs.opening.append_page.Goals as goal
 
 pub loop-place-preserved : goal.loop-place-preserved

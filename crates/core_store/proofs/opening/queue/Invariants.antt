@@ -1,6 +1,6 @@
 use Rattle.std.proofs.Common.{◌≡◌, length, take}
 use Rattle.restart_laws.specs.Graph.{zeros_of}
-use Rattle.core_store.specs.Fresh.{store_of}
+use Rattle.core_store.specs.Opening.{store_of}
 use Rattle.core_store.proofs.opening.queue.Given as goal
 
 -- those of the first cells are queued

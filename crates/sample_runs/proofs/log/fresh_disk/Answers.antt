@@ -1,7 +1,8 @@
-use Rattle.std.proofs.Common.{◌∷◌, [], ap, refl, ◌∙◌}
+use Rattle.std.proofs.Common.{[], ap, ◌∙◌}
 use Rattle.disk_model.specs.declared.area.Area.TheVariants.{LogA, Super}
 use Rattle.disk_model.specs.Memory.{DiskState, content_of, left_of}
-use Rattle.gate_log.proofs.Starts.{fresh_on}
+use Rattle.gate_log.specs.OnDisk.{named_by}
+use Rattle.gate_log.proofs.Starts.{start_read}
 use Rattle.sample_runs.proofs.log.fresh_disk.Goals as goal
 
 pub fill-requires-2-clause-empty : goal.fill-requires-2-clause-empty
@@ -9,5 +10,7 @@ fill-requires-2-clause-empty c lives = (c.in_ok-fill.ensures.keeps Super (λ e. 
 
 pub returns : goal.returns
 returns c =
-    fresh_on content_of left_of c.fill-2.new.disk (14 ∷ 1 ∷ 0 ∷ 1 ∷ []) refl c.in_ok-fill-2.ensures.filled
-    (λ image may. c.in_ok-fill.ensures.filled image ((c.in_ok-fill-2.ensures.keeps LogA (λ e. absurd (cc (e)))).no_more image may))
+    let kept = c.in_ok-fill-2.ensures.keeps LogA (λ e. absurd (cc (e))) in
+    start_read content_of left_of c.fill-2.new.disk LogA tt
+    (λ image may. kept.same ∙ c.in_ok-fill.ensures.settled image (kept.no_more image may))
+    (λ image may. ap named_by (c.in_ok-fill-2.ensures.filled image may))

@@ -1,5 +1,5 @@
 use Rattle.std.proofs.Common.{◌≡◌, ℕ, arith, subst}
-use Rattle.core_store.specs.Fresh.{store_of}
+use Rattle.core_store.specs.Opening.{store_of}
 use Rattle.core_store.specs.FreeIds.{AreFreeIn}
 use Rattle.core_store.proofs.OpeningCells.{free-over}
 use Rattle.core_store.proofs.free_ids.FreeIds.over.Goals as goal

@@ -1,4 +1,4 @@
-use Rattle.core_store.specs.Fresh.{store_of}
+use Rattle.core_store.specs.Opening.{store_of}
 use Rattle.core_store.specs.FreeIds.{AreFreeIn}
 use Rattle.core_store.proofs.free_ids.FreeIds.over.Given as goal
 

@@ -46,7 +46,7 @@ abbrev after_undo : (g : Over) (c : goal.After-add g) → Inside g.row.SLOTS
 after_undo g c = record { alloc = c.self.inside.alloc; opening = c.self.inside.opening; trace = c.add.new.self; tables = c.undo-logged.new.self }
 
 grows : (g : Over) (c : goal.After-add g) → Grows c.self.inside (after_undo g c) (client_note (Undo c.args.pass) (Some c.undo-logged.result) c.left.result)
-grows g c = record { opening = refl; limits = c.add.ensures.rest.0; marks = c.add.ensures.rest.1; trace = c.add.ensures.items; left = c.left.ensures }
+grows g c = record { opening = refl; limits = c.add.ensures.rest.0; marks = c.add.ensures.rest.1; reserved = c.add.ensures.reserved; trace = c.add.ensures.items; left = c.left.ensures }
 
 undone : (g : Over) (c : goal.After-add g)
     → HasGrown (after_undo g c) c.args.self.now c.args.held.now c.undo-logged.new.held (client_note (Undo c.args.pass) (Some c.undo-logged.result) c.left.result) (after_event g.row.SLOTS (core_of c.args.self.now) (Undo c.args.pass) (Some c.undo-logged.result))
@@ -101,6 +101,7 @@ ended g c =
       opening = refl;
       limits = c.add-in-None.ensures.rest.0;
       marks = c.add-in-None.ensures.rest.1;
+      reserved = c.add-in-None.ensures.reserved;
       trace = c.add-in-None.ensures.items ∙ ap (λ (r : CellRecord). c.self.inside.trace.notes.items ++ client_note (Call c.args.pass Abort Done) (Some r) c.left-in-None.result ∷ []) end.logged;
       left = c.left-in-None.ensures;
     }

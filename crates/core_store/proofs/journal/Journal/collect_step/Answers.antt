@@ -32,6 +32,7 @@ grows g c = record {
   opening = refl;
   limits = c.add.ensures.rest.0 ∙ c.take_room.ensures.rest.0;
   marks = c.add.ensures.rest.1 ∙ c.take_room.ensures.rest.1;
+  reserved = c.add.ensures.reserved;
   trace =
       c.add.ensures.items
       ∙ (ap (λ (xs : List Note). xs ++ record { entry = c.entry_of.result; logged = c.in-Ok.event.logged; left = c.left-left.result; act = c.in-Ok.event.act } ∷ []) c.take_room.ensures.notes.0

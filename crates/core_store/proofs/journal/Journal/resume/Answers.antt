@@ -1,9 +1,8 @@
 use Rattle.std.proofs.Common.{◌≡◌, ◌*◌, List, ℕ, sym, ap, ◌∙◌, subst, arith, length}
 use Rattle.cell_model.specs.Cells.{Cell as StoredCell}
 use Rattle.cell_page.specs.declared.cell.Cell.{Cell}
-use Rattle.core_store.specs.Fresh.{store_of, AreByIds}
+use Rattle.core_store.specs.Opening.{store_of, AreByIds, cells_in, stored_in}
 use Rattle.core_store.specs.Frames.{AllAgree}
-use Rattle.core_store.specs.Opening.{cells_in, stored_in}
 use Rattle.core_store.specs.JournalView.{JournalView, cells_of}
 use Rattle.core_store.specs.Journal.{view_of, Keeps}
 use Rattle.core_store.specs.Steps.{IsOpenedTo}
@@ -27,7 +26,7 @@ module _ (g : Rattle.core_store.proofs.journal.Journal.resume.Given.Over) (c : g
       let t = c.in_ok-tables.tables in
       let frames = c.args.frames.now in
       opened-seen (8 * length frames) (cells_in frames) c.in_ok-opening.opening.items c.new.result c.args.limits t.ids t.queue.ids t.round.view
-      c.new.ensures.limits c.new.ensures.marks c.new.ensures.notes.0 c.in_ok-opening.ensures tables.same_ids tables.queue tables.round
+      c.new.ensures.limits c.new.ensures.marks c.new.ensures.reserved c.new.ensures.notes.0 c.in_ok-opening.ensures tables.same_ids tables.queue tables.round
 
 pub invariant_of-journal : goal.invariant_of-journal
 invariant_of-journal g c =
@@ -40,6 +39,7 @@ invariant_of-journal g c =
           subst (λ (cells : List (Cell g.row.SLOTS)). AreByIds c.in_ok-tables.tables.ids cells) (sym c.in_ok-opening.ensures)
           (subst (λ (n : ℕ). AreByIds n (cells_in frames)) (sym (tables g c).same_ids) (opening-by_ids frames c.requires.pages));
       room = (let owed = (tables g c).owed in let long = c.new.ensures.notes.1 in omega (arith, owed, long));
+      reserved = λ e. absurd (let none = c.new.ensures.reserved in cc);
     }
 
 pub returns-clause-opening : goal.returns-clause-opening
