@@ -1,2 +1,4 @@
 pub mod FramePages
+pub mod FreshPages
 pub mod OpeningLaws
+pub mod MakingLaws

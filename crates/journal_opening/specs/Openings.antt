@@ -21,6 +21,7 @@ use Rattle.logged_journal.specs.View.{LoggedView}
 use Rattle.opened_images.specs.GoesOn.{IsBegun}
 use Rattle.opened_images.specs.Opened.{Opened, OpensTo}
 use Rattle.opened_store.specs.Steps.{IsLate}
+use Rattle.opened_store.specs.Unopened.{OnlyLooksUnlessOpen}
 use Rattle.store_opening.specs.declared.open_refusal.OpenRefusal.{OpenRefusal}
 use Rattle.store_opening.specs.declared.open_refusal.OpenRefusal.TheVariants.{Disk}
 use Rattle.store_opening.specs.Looks.{IsLookedAt}
@@ -61,10 +62,11 @@ module _ {D : Type 0} (content : D → Area → Option (List ℕ)) where
       pub opens : ReadsAs slots before (stored_in frames)
 
     module _ (moment : D → ℕ) (left_since : D → ℕ → Bytes → Type 0) where
-      -- The refusal is what the disk read opens to, and nothing was written; or it tells nothing of the store.
+      -- The refusal is what the disk read opens to, and nothing was written; or it tells nothing of the store. Where what the disk read does not open, nothing was written either way.
       pub record RefusesToOpen (slots : ℕ) (before : D) (e : OpenRefusal) (now : D) : Type 0 where
         pub refused : (image : Bytes) → Reads content before image → Refuses slots image e
         pub unwritten : IsLate e ⊎ IsLookedAt content may_leave moment left_since before now
+        pub only_looks : OnlyLooksUnlessOpen content may_leave moment left_since slots before now
 
       -- where the disk read opens to cells, whatever a power loss leaves at each moment is what it may have left before, or opens to the same cells
       abbrev pub OpensMeanwhile : (slots : ℕ) (before now : D) → Type 0

@@ -3,6 +3,7 @@ ghost use Rattle.std.specs.Prelude.{◌≡◌, IfOk, IfErr};
 ghost use Rattle.cell_page.specs.Format.{IsSlotCount};
 ghost use Rattle.core_store.specs.Limited.{AreLimits};
 ghost use Rattle.journal_opening.specs.Openings.{HasBegun, HasFault, OpensAs, RefusesToOpen, OpensMeanwhile};
+ghost use Rattle.opened_store.specs.Unopened.{OnlyLooksUnlessOpen};
 ghost use Rattle.store_opening.specs.Store.{HasOpenCause};
 
 use crate::frames::frames_of;
@@ -23,6 +24,7 @@ fn open_frames<D: Disk, const SLOTS: usize>(
     ensures begun { IfOk result (λ r. HasBegun D.content D.may_leave SLOTS disk.old disk.new r.0.items r.1) }
     ensures refused { IfErr result (λ e. RefusesToOpen D.content D.may_leave D.moment D.left_since SLOTS disk.old e disk.new) }
     ensures moments { OpensMeanwhile D.content D.may_leave D.moment D.left_since SLOTS disk.old disk.new }
+    ensures only_looks { OnlyLooksUnlessOpen D.content D.may_leave D.moment D.left_since SLOTS disk.old disk.new }
     ensures cause { HasOpenCause (D.faults disk.old) (D.faults disk.new) result }
 {
     let found = match open_store::<D, SLOTS>(alloc, disk) {
@@ -45,9 +47,9 @@ fn open_frames<D: Disk, const SLOTS: usize>(
 ///
 /// Of a disk that is told, the opening is what its four areas open to, and so is each refusal but [`OpenRefusal::Disk`] and
 /// [`OpenRefusal::Memory`]. Whatever a power loss leaves at each moment of the call is what it may have left before, or opens
-/// to the same cells. Before a refusal that tells something of the store nothing is written. [`OpenRefusal::Disk`] comes only
-/// where the disk's count of faults rose in this call. [`OpenRefusal::Memory`] comes for want of memory, or of room in the
-/// log for the undo.
+/// to the same cells. Before a refusal that tells something of the store nothing is written, and nothing is written where
+/// what the disk reads does not open, whatever is answered. [`OpenRefusal::Disk`] comes only where the disk's count of faults
+/// rose in this call. [`OpenRefusal::Memory`] comes for want of memory, or of room in the log for the undo.
 pub fn open<D: Disk, const SLOTS: usize>(
     alloc: Global,
     disk: D,

@@ -5,3 +5,4 @@ pub mod MomentLaws
 pub mod LongerLaws
 pub mod BegunLaws
 pub mod StoreLaws
+pub mod RefusedLaws

@@ -9,6 +9,6 @@ mod store;
 mod tested;
 
 pub use force::force_undo;
-pub use laws::pages_may_be_longer;
+pub use laws::{pages_may_be_longer, refused_stores_do_not_open};
 pub use store::open_store;
 pub use tested::{restart, test_rules, undo};

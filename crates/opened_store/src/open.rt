@@ -8,6 +8,7 @@ ghost use Rattle.disk_model.specs.Told.{EachImage, IsImage, IsSettled, Keeps};
 ghost use Rattle.disk_model.specs.Time.{LeavesOnlyImages};
 ghost use Rattle.cell_model.specs.Cells.{Cell};
 ghost use Rattle.opened_store.specs.Steps.{IsLate};
+ghost use Rattle.opened_store.specs.Unopened.{OnlyLooksUnlessOpen};
 ghost use Rattle.gate_log.specs.Batches.{most_bytes};
 ghost use Rattle.gate_log.specs.declared.stage.Stage.TheVariants.{Standing};
 ghost use Rattle.gate_log.specs.State.{used};
@@ -28,8 +29,8 @@ use store_opening::{OpenRefusal, ReplayedLog, read_cells};
 /// Of a disk that is told, the cells are those that the four areas open to, and each refusal but [`OpenRefusal::Disk`] and
 /// [`OpenRefusal::Memory`] is what they open to. Whatever a power loss leaves at each moment of the call is what it may
 /// have left before, or opens to these cells, and so does all that it leaves afterwards.
-/// Before a refusal that tells something of the store nothing is written. [`OpenRefusal::Disk`] comes only where the disk's
-/// count of faults rose in this call.
+/// Before a refusal that tells something of the store nothing is written, and nothing is written where what the disk reads
+/// does not open, whatever is answered. [`OpenRefusal::Disk`] comes only where the disk's count of faults rose in this call.
 pub(crate) fn open_cells<D: Disk, const SLOTS: usize>(
     alloc: Global,
     disk: &mut D,
@@ -50,6 +51,7 @@ pub(crate) fn open_cells<D: Disk, const SLOTS: usize>(
     ensures settled { OnOk result (IsSettled D.content D.may_leave disk.new Pages) }
     ensures pages { Keeps D.content D.may_leave disk.old disk.new Pages }
     ensures unwritten { IfErr result (λ e. IsLate e ⊎ IsLookedAt D.content D.may_leave D.moment D.left_since disk.old disk.new) }
+    ensures only_looks { OnlyLooksUnlessOpen D.content D.may_leave D.moment D.left_since SLOTS disk.old disk.new }
     ensures cause { HasOpenCause (D.faults disk.old) (D.faults disk.new) result }
 {
     let found = match read_cells::<D, SLOTS>(alloc, disk) {

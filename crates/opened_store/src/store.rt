@@ -14,6 +14,7 @@ ghost use Rattle.gate_log.specs.OnDisk.{IsOn};
 ghost use Rattle.opened_images.specs.GoesOn.{IsBegun};
 ghost use Rattle.opened_images.specs.Opened.{Opened, OpensTo};
 ghost use Rattle.opened_store.specs.Steps.{IsLate};
+ghost use Rattle.opened_store.specs.Unopened.{OnlyLooksUnlessOpen};
 ghost use Rattle.page_lengths.specs.Lengths.{lengthened};
 ghost use Rattle.store_opening.specs.Looks.{IsLookedAt};
 ghost use Rattle.store_opening.specs.Store.{Reads, Refuses, HasOpenCause};
@@ -43,9 +44,9 @@ fn pages_len<const SLOTS: usize>(replay: &Replay<SLOTS>) -> u64
 /// Of a disk that is told, the cells are those that the four areas open to, and each refusal but [`OpenRefusal::Disk`] and
 /// [`OpenRefusal::Memory`] is what they open to. Whatever a power loss leaves at each moment of the call is what it may
 /// have left before, or opens to these cells, and so does all that it leaves afterwards.
-/// Before a refusal that tells something of the store nothing is written. [`OpenRefusal::Disk`] comes only where the disk's
-/// count of faults rose in this call. [`OpenRefusal::Memory`] comes for want of memory, or of room in the log area for the undo
-/// and what begins a further batch.
+/// Before a refusal that tells something of the store nothing is written, and nothing is written where what the disk reads
+/// does not open, whatever is answered. [`OpenRefusal::Disk`] comes only where the disk's count of faults rose in this call.
+/// [`OpenRefusal::Memory`] comes for want of memory, or of room in the log area for the undo and what begins a further batch.
 ///
 /// What the disk then holds is what a journal goes on from: the log stands with its first batch and batches that have ended,
 /// which make these cells.
@@ -73,6 +74,7 @@ pub fn open_store<D: Disk, const SLOTS: usize>(
     ensures moments { (image : Bytes) (cells : List Cell) → Reads D.content disk.old image → Opened SLOTS image (OpensTo cells)
         → LeavesOnlyImages D.moment D.left_since disk.old disk.new (λ other. IsImage D.may_leave disk.old other ⊎ Opened SLOTS other (OpensTo cells)) }
     ensures unwritten { IfErr result (λ e. IsLate e ⊎ IsLookedAt D.content D.may_leave D.moment D.left_since disk.old disk.new) }
+    ensures only_looks { OnlyLooksUnlessOpen D.content D.may_leave D.moment D.left_since SLOTS disk.old disk.new }
     ensures cause { HasOpenCause (D.faults disk.old) (D.faults disk.new) result }
 {
     let found = match open_cells::<D, SLOTS>(alloc, disk) {

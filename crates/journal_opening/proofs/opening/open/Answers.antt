@@ -1,7 +1,8 @@
-use Rattle.std.proofs.Common.{ℕ, ◌≤◌, List, sym, ap, ◌∙◌, subst}
+use Rattle.std.proofs.Common.{ℕ, ◌≤◌, List, inl, sym, ap, ◌∙◌, subst}
 use Rattle.cell_model.specs.Cells.{Cell}
 use Rattle.gate_log.specs.State.{LogState, used}
 use Rattle.restart_laws.specs.Graph.{zeros_of}
+use Rattle.opened_store.specs.Unopened.{OnlyLooksUnlessOpen}
 use Rattle.journal_opening.specs.Openings.{ReadsAs, OpensMeanwhile}
 use Rattle.journal_opening.proofs.OpeningLaws.{same-history}
 use Rattle.journal_opening.proofs.opening.open.Goals as goal
@@ -27,3 +28,10 @@ returns-in-Ok-resume-clause-opened g c =
 pub returns-in-Ok-resume-clause-meanwhile : goal.returns-in-Ok-resume-clause-meanwhile
 returns-in-Ok-resume-clause-meanwhile g c =
     subst (λ (d : g.row.D.Denot). OpensMeanwhile g.D.Disk.content g.D.Disk.may_leave g.D.Disk.moment g.D.Disk.left_since g.row.SLOTS c.args.disk d) (sym c.in-Ok-resume.ensures.disk) c.in-Ok.ensures.moments
+
+pub returns-in-Err-resume-clause-refused : goal.returns-in-Err-resume-clause-refused
+returns-in-Err-resume-clause-refused g c = record {
+  refused = λ image reads. tt;
+  unwritten = inl tt;
+  only_looks = subst (λ (d : g.row.D.Denot). OnlyLooksUnlessOpen g.D.Disk.content g.D.Disk.may_leave g.D.Disk.moment g.D.Disk.left_since g.row.SLOTS c.args.disk d) (sym c.in-Err-resume.ensures.back) c.open_frames.ensures.only_looks;
+}

@@ -136,3 +136,25 @@ pub returns-in-Ok-force_undo-clause-settled : goal.returns-in-Ok-force_undo-clau
 returns-in-Ok-force_undo-clause-settled g c =
     let kept = c.force_undo.ensures.keeps Pages (pages-apart c.in-Ok.found.log.area c.in-Ok.ensures.on.1.area) in
     λ bytes may. kept.same ∙ c.in-Ok.ensures.settled Pages bytes (kept.no_more bytes may)
+
+pub returns-in-Err-clause-only_looks : goal.returns-in-Err-clause-only_looks
+returns-in-Err-clause-only_looks g c = λ image reads none. c.read_cells.ensures.looks
+
+pub returns-in-Err-restart-clause-only_looks : goal.returns-in-Err-restart-clause-only_looks
+returns-in-Err-restart-clause-only_looks g c = λ image reads none. c.read_cells.ensures.looks
+
+pub returns-in-Ok-force_undo-clause-only_looks : goal.returns-in-Ok-force_undo-clause-only_looks
+returns-in-Ok-force_undo-clause-only_looks g c =
+    λ image reads none.
+    let f = c.in-Ok.ensures.read image reads in
+    absurd
+    (none c.restart.new.replay.cells
+    (opens-itself g.row.SLOTS image c.in-Ok.found.log.area f.count f.batches c.in-Ok.found.replay c.restart.new.replay c.in-Ok-restart.bytes.items (8 * length c.in-Ok.found.replay.skips) f.replayed c.in-Ok-restart.ensures.rules c.in-Ok-restart.ensures.done))
+
+pub returns-in-Err-force_undo-clause-only_looks : goal.returns-in-Err-force_undo-clause-only_looks
+returns-in-Err-force_undo-clause-only_looks g c =
+    λ image reads none.
+    let f = c.in-Ok.ensures.read image reads in
+    absurd
+    (none c.restart.new.replay.cells
+    (opens-itself g.row.SLOTS image c.in-Ok.found.log.area f.count f.batches c.in-Ok.found.replay c.restart.new.replay c.in-Ok-restart.bytes.items (8 * length c.in-Ok.found.replay.skips) f.replayed c.in-Ok-restart.ensures.rules c.in-Ok-restart.ensures.done))

@@ -55,3 +55,12 @@ returns-in-Ok-lengthen-clause-long_enough g c =
     let same = c.open_cells.ensures.pages in
     let enough : c.pages_len.result ≤ length area = subst (λ (n : ℕ). n ≤ length area) (sym c.pages_len.ensures.len) long in
     keeps-then g.D.Disk.content g.D.Disk.may_leave c.args.disk.now c.open_cells.new.disk c.lengthen.new.disk Pages same (c.lengthen.ensures.long_enough area (same.same ∙ told) enough Pages)
+
+pub returns-in-Ok-lengthen-clause-only_looks : goal.returns-in-Ok-lengthen-clause-only_looks
+returns-in-Ok-lengthen-clause-only_looks g c = λ image reads none. absurd (none c.in-Ok.found.replay.cells (c.in-Ok.ensures.opens image reads))
+
+pub returns-in-Err-Disk-clause-only_looks : goal.returns-in-Err-Disk-clause-only_looks
+returns-in-Err-Disk-clause-only_looks g c = λ image reads none. absurd (none c.in-Ok.found.replay.cells (c.in-Ok.ensures.opens image reads))
+
+pub returns-clause-only_looks : goal.returns-clause-only_looks
+returns-clause-only_looks g c = λ image reads none. absurd (none c.in-Ok.found.replay.cells (c.in-Ok.ensures.opens image reads))
