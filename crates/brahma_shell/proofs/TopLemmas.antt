@@ -1,21 +1,17 @@
 -- How the program ends, by how its replay ended.
-use Rattle.std.proofs.Common.{◌≡◌, ◌⊎◌, ◌≤◌, ◌↔◌, ◌*◌, ℕ, true, false, List, [], Option, Some, None, refl, sym, ap, subst, ◌∙◌, ⊎_elim, inl, inr, arith}
+use Rattle.std.proofs.Common.{◌≡◌, ◌⊎◌, ◌≤◌, ◌↔◌, ◌+◌, ℕ, true, false, List, [], length, Option, Some, None, refl, sym, ap, subst, ◌∙◌, ⊎_elim, inl, inr, arith}
 use Rattle.std.specs.Prelude.{IfSome}
 use Rattle.std.proofs.lemmas.Bool.{false≢true}
 use Rattle.std.proofs.lemmas.List.{append-nil}
 use Rattle.std.specs.Io.KnownBytes.{Appends}
 use Rattle.core_store.specs.declared.marks.Marks.{Marks}
 use Rattle.core_store.specs.JournalView.{JournalView}
-use Rattle.plain_model.specs.History.{History}
 use Rattle.script_lines.specs.Lines.{lines_of}
-use Rattle.brahma_shell.specs.Growth.{IsSameStart}
 use Rattle.script_lines.specs.Grammar.{IsRefused}
 use Rattle.script_lines.specs.Output.{EndsWith}
-use Rattle.brahma_shell.specs.declared.store.TheConstants.{PAGES}
+use Rattle.brahma_shell.specs.Runs.{Stretch}
 use Rattle.brahma_shell.specs.Follows.{FollowsAll, FollowsUpTo, FollowsPart}
-use Rattle.cell_model.specs.Graph.{graph_of}
-use Rattle.core_store.specs.Fresh.{fresh_history}
-use Rattle.brahma_shell.specs.Top.{HasOnlyLines, IsOfFreshStore}
+use Rattle.brahma_shell.specs.Top.{HasOnlyLines}
 use Rattle.script_lines.proofs.OutputLemmas.{Appends-trans}
 
 -- ---- what is written
@@ -30,16 +26,16 @@ EndsWith-after old mid new first before now text last le a e =
 
 -- ---- what the journal follows
 
-pub FollowsPart-all : (start left : Option (List ℕ)) (j : JournalView) → FollowsAll start left j → FollowsPart start j
-FollowsPart-all None left j f = tt
-FollowsPart-all (Some bytes) None j f = absurd f
-FollowsPart-all (Some bytes) (Some ys) j f = record {
+pub FollowsPart-all : (start left : Option (List ℕ)) (s : Stretch) → FollowsAll start left s → FollowsPart start s
+FollowsPart-all None left s f = tt
+FollowsPart-all (Some bytes) None s f = absurd f
+FollowsPart-all (Some bytes) (Some ys) s f = record {
   before = lines_of bytes;
   behind = [];
   parts = sym (append-nil (lines_of bytes));
-  whole = j.notes;
+  done = s.events;
   part = [];
-  notes = sym (append-nil j.notes);
+  events = sym (append-nil s.events);
   follows = f.0;
   next = refl;
 }
@@ -48,14 +44,6 @@ FollowsPart-all (Some bytes) (Some ys) j f = record {
 pub of_journal : (P : JournalView → Type 0) (o : Option JournalView) (store : JournalView) → IfSome o (λ j. j ≡ store) → P store → IfSome o P
 of_journal P None store is p = tt
 of_journal P (Some j) store is p = subst P (sym is) p
-
--- the replay began with a fresh store
-pub of_fresh : (j k : JournalView) → j.history ≡ fresh_history 6 (8 * PAGES) → j.limits ≡ record { trace = 1048576; log = 1071644672 } → IsSameStart j k → graph_of k.opening ≡ k.history.opening → IsOfFreshStore k
-of_fresh j k e l s g = record {
-  history = s.history ∙ ap (λ (x : History). let r : History = record x { entries = k.history.entries } in r) e;
-  opening = g;
-  limits = s.limits ∙ l;
-}
 
 -- ---- the mark
 
@@ -74,6 +62,8 @@ pub handed-at : (n : ℕ) → (n ≡ 8 → ⊥) → (true ≡ false → n ≡ 8)
 handed-at n a = (λ e. absurd (cc), λ s. absurd (a s))
 
 -- a script that has only lines has none that is refused
-pub none-refused : (left : Option (List ℕ)) (number : ℕ) (j : JournalView) → FollowsUpTo left number j → HasOnlyLines left → ⊥
-none-refused None number j f only = only
-none-refused (Some bytes) number j f only = only f.before f.behind f.line f.parts (subst (λ n. IsRefused n f.line) f.place f.refused)
+pub none-refused : (left : Option (List ℕ)) (number : ℕ) (s : Stretch) → s.number ≡ 1 → FollowsUpTo left number s → HasOnlyLines left → ⊥
+none-refused None number s one f only = only
+none-refused (Some bytes) number s one f only =
+    let place : number ≡ length f.before + 1 = omega (arith, one, f.place) in
+    only f.before f.behind f.line f.parts (subst (λ n. IsRefused n f.line) place f.refused)

@@ -1,4 +1,4 @@
--- Which entries follow the lines of a script, and how far a journal has followed them.
+-- Which events follow the lines of a script, and how far a run has followed them.
 use Rattle.std.specs.Prelude.{◌≡◌, ℕ, ◌+◌, ◌≤◌, nat_lt, List, [], ◌∷◌, ◌++◌, length, replicate, count_by, Option, Some, None, IfSome, MatchBool, ⊤, ◌⊎◌}
 use Rattle.std.specs.List.{AllByRecursion}
 use Rattle.plain_model.specs.declared.calls.Call.{Call as TransactionCall}
@@ -9,12 +9,13 @@ use Rattle.plain_model.specs.declared.calls.Entry.TheVariants as entry
 use Rattle.plain_model.specs.History.{left_to_undo}
 use Rattle.core_store.specs.declared.note.Note.{Note}
 use Rattle.core_store.specs.Collecting.{is_pop}
-use Rattle.core_store.specs.JournalView.{JournalView}
+use Rattle.cell_model.specs.Cells.{Cell}
 use Rattle.script_lines.specs.declared.grammar.Line.{Line}
-use Rattle.script_lines.specs.declared.grammar.Line.TheVariants.{Nothing, Ask, Abort, Undo, CollectStep, CollectAll}
+use Rattle.script_lines.specs.declared.grammar.Line.TheVariants.{Nothing, Ask, Abort, Undo, CollectStep, CollectAll, Crash}
 use Rattle.script_lines.specs.Lines.{lines_of, whole_lines_of}
 use Rattle.script_lines.specs.Grammar.{meaning_of, IsAccepted, IsRefused}
-use Rattle.brahma_shell.specs.Points.{Point, after_notes, start_point, entries_in, MayRest, IsExactAt}
+use Rattle.brahma_shell.specs.Points.{Point, after_notes, entries_in, MayRest, IsExactAt}
+use Rattle.brahma_shell.specs.Runs.{Event, Reopened, noted, after_events, Stretch}
 
 -- ---- the entries of a line
 
@@ -53,87 +54,101 @@ Gives p (Abort client) notes = (reply : Reply) × (entries_in notes ≡ replicat
 Gives p (Undo client) notes = MatchBool (nat_lt 0 (left_to_undo p.moment client)) (entries_in notes ≡ entry.Undo client ∷ []) (IsCall client call.Abort (entries_in notes))
 Gives p CollectStep notes = GivesStep p notes
 Gives p CollectAll notes = GivesSteps p notes
+Gives p (Crash pick) notes = ⊥
 
--- the line of this number is accepted, and gives the notes at this point
-abbrev pub LineGives : Point → ℕ → List ℕ → List Note → Type 0
-LineGives p number bytes notes = IsAccepted number bytes × IfSome (meaning_of bytes) (λ line. Gives p line notes)
+-- the events that a line gives at a point: those of its notes; where power is lost, that the store is opened again
+abbrev pub GivesEvents : Point → Line → List Event → Type 0
+GivesEvents p (Crash pick) events = (ids : ℕ) × (cells : List Cell) × (events ≡ Reopened ids cells ∷ [])
+GivesEvents p line events = (notes : List Note) × (events ≡ noted notes) × Gives p line notes
 
--- the notes are those of the lines, one line after another, from this point on. The first line has this number
-abbrev pub Follows : Point → ℕ → List (List ℕ) → List Note → Type 0
-Follows p number [] notes = notes ≡ []
-Follows p number (line ∷ lines) notes = («first» rest : List Note) × (notes ≡ «first» ++ rest) × LineGives p number line «first» × Follows (after_notes p «first») (number + 1) lines rest
+-- the line of this number is accepted, and gives the events at this point
+abbrev pub LineGives : Point → ℕ → List ℕ → List Event → Type 0
+LineGives p number bytes events = IsAccepted number bytes × IfSome (meaning_of bytes) (λ line. GivesEvents p line events)
 
--- ---- whole journals
+-- the events are those of the lines, one line after another, from this point on. The first line has this number
+abbrev pub Follows : Point → ℕ → List (List ℕ) → List Event → Type 0
+Follows p number [] events = events ≡ []
+Follows p number (line ∷ lines) events = («first» rest : List Event) × (events ≡ «first» ++ rest) × LineGives p number line «first» × Follows (after_events p «first») (number + 1) lines rest
 
--- the journal has the notes of these lines, which are the first of their script
-abbrev pub FollowsLines : List (List ℕ) → JournalView → Type 0
-FollowsLines lines j = Follows (start_point j) 1 lines j.notes
+-- ---- stretches of a run, and the lines that are the next ones of the script there
 
--- the line of this number is the first that is refused, and the journal follows those before it
-pub record StopsAt (lines : List (List ℕ)) (number : ℕ) (j : JournalView) : Type 0 where
+-- the stretch has the events of these lines
+abbrev pub FollowsLines : List (List ℕ) → Stretch → Type 0
+FollowsLines lines s = Follows s.start s.number lines s.events
+
+-- the line of this number is the first that is refused, and the stretch follows those before it
+pub record StopsAt (lines : List (List ℕ)) (number : ℕ) (s : Stretch) : Type 0 where
   pub before : List (List ℕ)
   pub line : List ℕ
   pub behind : List (List ℕ)
   pub parts : lines ≡ before ++ line ∷ behind
-  pub place : number ≡ length before + 1
+  pub place : number ≡ s.number + length before
   pub refused : IsRefused number line
-  pub follows : FollowsLines before j
+  pub follows : FollowsLines before s
 
--- notes of a line that is cut off: only `gc all` gives some before it is done
+-- events of a line that is cut off: only `gc all` gives some before it is done
 abbrev pub IsCutOff : ℕ → List ℕ → List Note → Type 0
 IsCutOff number line part = (part ≡ []) ⊎ (IsAccepted number line × (meaning_of line ≡ Some CollectAll) × AreOfCollector part)
 
--- notes of the first of the lines, which is cut off; they are none where there is no line
+-- events of the first of the lines, which is cut off; they are none where there is no line
 abbrev pub IsPartOfFirst : ℕ → List (List ℕ) → List Note → Type 0
 IsPartOfFirst number [] part = part ≡ []
 IsPartOfFirst number (line ∷ lines) part = IsCutOff number line part
 
--- the journal follows some first lines, and a part of the next one where there is one
-pub record StopsWithin (lines : List (List ℕ)) (j : JournalView) : Type 0 where
+-- the stretch follows some first lines, and a part of the next one where there is one
+pub record StopsWithin (lines : List (List ℕ)) (s : Stretch) : Type 0 where
   pub before : List (List ℕ)
   pub behind : List (List ℕ)
   pub parts : lines ≡ before ++ behind
-  pub whole : List Note
+  pub done : List Event
   pub part : List Note
-  pub notes : j.notes ≡ whole ++ part
-  pub follows : Follows (start_point j) 1 before whole
-  pub next : IsPartOfFirst (length before + 1) behind part
+  pub events : s.events ≡ done ++ noted part
+  pub follows : Follows s.start s.number before done
+  pub next : IsPartOfFirst (s.number + length before) behind part
 
--- the disk failed a commit of this client, which some line asks, and the journal follows those before it
-pub record StopsAtCommit (lines : List (List ℕ)) (client : ℕ) (j : JournalView) : Type 0 where
+-- some line asks this, and the stretch follows those before it
+pub record StopsBefore (lines : List (List ℕ)) (asked : Line) (s : Stretch) : Type 0 where
   pub before : List (List ℕ)
   pub line : List ℕ
   pub behind : List (List ℕ)
   pub parts : lines ≡ before ++ line ∷ behind
-  pub accepted : IsAccepted (length before + 1) line
-  pub asks : meaning_of line ≡ Some (Ask client call.Commit)
-  pub follows : FollowsLines before j
+  pub accepted : IsAccepted (s.number + length before) line
+  pub asks : meaning_of line ≡ Some asked
+  pub follows : FollowsLines before s
 
--- ---- a source that tells what it has left, before the call and after it; of one that doesn't nothing is said
+-- ---- a source that tells what it has left, before the stretch and after it; of one that doesn't nothing is said
 
--- the journal follows all lines, and the source was read to its end
-abbrev pub FollowsAll : Option (List ℕ) → Option (List ℕ) → JournalView → Type 0
-FollowsAll None left j = ⊤
-FollowsAll (Some bytes) None j = ⊥
-FollowsAll (Some bytes) (Some left) j = FollowsLines (lines_of bytes) j × (left ≡ [])
+-- the stretch follows all lines, and the source was read to its end
+abbrev pub FollowsAll : Option (List ℕ) → Option (List ℕ) → Stretch → Type 0
+FollowsAll None left s = ⊤
+FollowsAll (Some bytes) None s = ⊥
+FollowsAll (Some bytes) (Some left) s = FollowsLines (lines_of bytes) s × (left ≡ [])
 
--- the journal follows the lines before this one, which is the first that is refused
-abbrev pub FollowsUpTo : Option (List ℕ) → ℕ → JournalView → Type 0
-FollowsUpTo None number j = ⊤
-FollowsUpTo (Some bytes) number j = StopsAt (lines_of bytes) number j
+-- the stretch follows the lines before this one, which is the first that is refused
+abbrev pub FollowsUpTo : Option (List ℕ) → ℕ → Stretch → Type 0
+FollowsUpTo None number s = ⊤
+FollowsUpTo (Some bytes) number s = StopsAt (lines_of bytes) number s
 
--- the journal follows exactly the whole lines that were read
-abbrev pub FollowsRead : Option (List ℕ) → Option (List ℕ) → JournalView → Type 0
-FollowsRead None left j = ⊤
-FollowsRead (Some bytes) None j = ⊥
-FollowsRead (Some bytes) (Some left) j = (read : List ℕ) × (bytes ≡ read ++ left) × FollowsLines (whole_lines_of read) j
+-- the stretch follows exactly the whole lines that were read
+abbrev pub FollowsRead : Option (List ℕ) → Option (List ℕ) → Stretch → Type 0
+FollowsRead None left s = ⊤
+FollowsRead (Some bytes) None s = ⊥
+FollowsRead (Some bytes) (Some left) s = (read : List ℕ) × (bytes ≡ read ++ left) × FollowsLines (whole_lines_of read) s
 
--- the journal follows some first lines, and a part of the next one where there is one
-abbrev pub FollowsPart : Option (List ℕ) → JournalView → Type 0
-FollowsPart None j = ⊤
-FollowsPart (Some bytes) j = StopsWithin (lines_of bytes) j
+-- the stretch follows some first lines, and a part of the next one where there is one
+abbrev pub FollowsPart : Option (List ℕ) → Stretch → Type 0
+FollowsPart None s = ⊤
+FollowsPart (Some bytes) s = StopsWithin (lines_of bytes) s
 
--- the journal follows the lines before one that asks a commit of this client, which the disk failed
-abbrev pub FollowsToCommit : Option (List ℕ) → ℕ → JournalView → Type 0
-FollowsToCommit None client j = ⊤
-FollowsToCommit (Some bytes) client j = StopsAtCommit (lines_of bytes) client j
+-- the stretch follows the lines before one that asks this
+abbrev pub FollowsTo : Option (List ℕ) → Line → Stretch → Type 0
+FollowsTo None asked s = ⊤
+FollowsTo (Some bytes) asked s = StopsBefore (lines_of bytes) asked s
+
+-- the stretch follows the lines before one that asks a commit of this client, which the disk failed
+abbrev pub FollowsToCommit : Option (List ℕ) → ℕ → Stretch → Type 0
+FollowsToCommit source client s = FollowsTo source (Ask client call.Commit) s
+
+-- the stretch follows the lines before one at which power was lost, and behind which the store isn't opened
+abbrev pub FollowsToCrash : Option (List ℕ) → Stretch → Type 0
+FollowsToCrash source s = (pick : ℕ) × FollowsTo source (Crash pick) s

@@ -1,14 +1,19 @@
 //! What the words ask the program to do.
 ghost use Rattle.std.specs.Prelude.{◌≡◌, Option};
-ghost use Rattle.brahma_shell.specs.Commands.{command_of, command_of_word};
+ghost use Rattle.brahma_shell.specs.Commands.{command_of, command_of_word, command_of_two};
 
 use crate::words::Words;
+use script_lines::pages_of;
 
 /// What the words ask the program to do.
 #[derive(Clone, Copy, PartialEq, Eq, Debug)]
 pub enum Command {
+    /// `init N`: makes the disk anew as a fresh store of so many pages, from 1 to 1,024.
+    Init { pages: u16 },
     /// `replay`: does a script, line by line, and prints what it answers.
     Replay,
+    /// `audit`: counts all pointers of the store again, and prints what it found.
+    Audit,
 }
 
 /// The command that one word names.
@@ -17,6 +22,19 @@ fn command_of_word(word: &[u8]) -> Option<Command>
 {
     match word {
         b"replay" => Some(Command::Replay),
+        b"audit" => Some(Command::Audit),
+        _ => None,
+    }
+}
+
+/// The command that a word names with a number behind it.
+fn command_of_two(word: &[u8], number: &[u8]) -> Option<Command>
+    ensures { result ≡ command_of_two word.now number.now }
+{
+    match word {
+        b"init" => Some(Command::Init {
+            pages: pages_of(number)?,
+        }),
         _ => None,
     }
 }
@@ -28,6 +46,7 @@ impl Command {
     {
         match words.items() {
             [word] => command_of_word(word.as_bytes()),
+            [word, number] => command_of_two(word.as_bytes(), number.as_bytes()),
             _ => None,
         }
     }

@@ -18,6 +18,9 @@ pub(crate) const WRITE_FAULT: u8 = 5;
 /// The disk failed.
 pub(crate) const DISK_FAULT: u8 = 6;
 
+/// The disk holds no store, or none that is sound.
+pub(crate) const STORE_REFUSED: u8 = 7;
+
 /// Out of memory.
 pub(crate) const OUT_OF_MEMORY: u8 = 8;
 

@@ -4,41 +4,41 @@ ghost use Rattle.std.specs.Prelude.{◌≡◌, ◌<◌, ◌≤◌, ◌*◌, ℕ,
 ghost use Rattle.plain_model.specs.Machine.{IsInRange, transaction_of};
 ghost use Rattle.plain_model.specs.History.{IsLegal, end_of, is_stopped, left_to_undo};
 ghost use Rattle.plain_laws.specs.Serializable.{IsSerializable};
-ghost use Rattle.disk_model.specs.Told.{EachImage, Leaves};
-ghost use Rattle.disk_model.specs.declared.area.Area.TheVariants.{Pages};
+ghost use Rattle.std.specs.List.{range_with_len};
+ghost use Rattle.disk_model.specs.Told.{EachImage};
 ghost use Rattle.store_model.specs.Sound.{IsSound};
-ghost use Rattle.restart_store.specs.Fresh.{HasFreshLog, fresh_pages_of};
-ghost use Rattle.core_store.specs.JournalView.{core_of, opening_of};
+ghost use Rattle.journal_opening.specs.Openings.{OpensAs, RefusesToOpen, OpensMeanwhile, HasFault};
+ghost use Rattle.auditor.specs.Recount.{live_in, zero_in};
+ghost use Rattle.logged_journal.specs.View.{history_of};
+ghost use Rattle.logged_journal.specs.Opens.{OpensAfter};
+ghost use Rattle.core_store.specs.JournalView.{cells_of, core_of, opening_of};
 ghost use Rattle.core_store.specs.Leads.{AreLed};
 ghost use Rattle.cell_model.specs.Graph.{graph_of};
-ghost use Rattle.core_store.specs.Fresh.{fresh_history};
 ghost use Rattle.core_store.specs.Limited.{WasFull};
 ghost use Rattle.core_store.specs.Safe.{IsDurable};
 ghost use Rattle.core_store.specs.Steppings.{IsEntered, IsEvent, pops};
 ghost use Rattle.logged_journal.specs.Calls.{IsOfJournal};
-ghost use Rattle.logged_journal.specs.Opens.{OpensAfter};
 ghost use Rattle.logged_journal.specs.Records.{MayBeLeft, durable_notes};
-ghost use Rattle.logged_journal.specs.View.{history_of};
 ghost use Rattle.script_lines.specs.Grammar.{IsClient};
 ghost use Rattle.brahma_shell.specs.Points.{point_of, entries_in, MayRest, IsExactAt};
 ghost use Rattle.brahma_shell.specs.Growth.{GrowsBy, GrowsByEvent, BecomesFull};
 ghost use Rattle.brahma_shell.specs.Log.{StaysRunning, TellsFull, LosesCommit, WasLogFull};
 ghost use Rattle.brahma_shell.specs.Rest.{StaysQuiet};
 
+use auditor::{Report, audit_journal};
 use cell_page::CELLS_OF_PAGE;
 use core_store::{AbortStep, Collect, Limits, Note};
 use disk_model::Disk;
 use framed_journal::FramedJournal;
+use journal_opening::open;
 use logged_journal::{CollectRefusal, LoggedJournal, Stopped};
 use plain_model::{Call, Entry, Ids, Memory, Reply};
 use std::alloc::Global;
 use std::marker::Model;
+use store_opening::OpenRefusal;
 
 /// How many slots an object of the program's store has.
 pub const SLOTS: usize = 6;
-
-/// How many pages the store of a replay has.
-pub(crate) const PAGES: u16 = 1;
 
 /// A journal with its log and all its frames, whose calls are told in the words of a script.
 #[derive(Drop)]
@@ -56,20 +56,18 @@ impl<D: Disk> Model for Store<D> {
 }
 
 impl<D: Disk> Store<D> {
-    /// The fresh store, on a disk that was made anew as one: the root alone. Where there is no memory the disk is handed
-    /// back.
-    pub(crate) fn fresh(alloc: Global, disk: D) -> Result<Store<D>, (Memory, D)>
-        requires log { HasFreshLog D.may_leave 6 PAGES disk }
-        requires pages { Leaves D.may_leave disk Pages (λ area. area ≡ fresh_pages_of 6 PAGES) }
-        ensures history { IfOk result (λ s. (s.journal.history ≡ fresh_history 6 (8 * PAGES)) × (s.journal.notes ≡ [])) }
-        ensures limits { IfOk result (λ s. s.journal.limits ≡ record { trace = 1048576; log = 1071644672 }) }
-        ensures unmarked { IfOk result (λ s. (s.journal.marks.trace ≡ false) × (s.log_full ≡ false)) }
-        ensures running { IfOk result (λ s. s.failed ≡ None) }
-        ensures disk { IfOk result (λ s. s.disk ≡ disk) }
-        ensures back { IfErr result (λ e. e.1 ≡ disk) }
+    /// The store that the disk holds. Where it isn't opened the disk is handed back.
+    pub(crate) fn open(alloc: Global, disk: D) -> Result<Store<D>, (OpenRefusal, D)>
+        ensures opened { IfOk result (λ s. OpensAs D.content D.faults 6 disk (record { trace = 1048576; log = 1071644672 }) s) }
+        ensures refused { IfErr result (λ e. RefusesToOpen D.content D.may_leave D.moment D.left_since 6 disk e.0 e.1) }
+        ensures meanwhile { IfErr result (λ e. OpensMeanwhile D.content D.may_leave D.moment D.left_since 6 disk e.1) }
+        ensures opens_meanwhile { IfOk result (λ s. OpensMeanwhile D.content D.may_leave D.moment D.left_since 6 disk s.disk) }
+        ensures fault { IfErr result (λ e. HasFault (D.faults disk) (D.faults e.1) e.0) }
     {
-        let framed = FramedJournal::fresh(alloc, disk, PAGES, Limits::GREATEST)?;
-        Ok(Store { framed })
+        match open(alloc, disk, Limits::GREATEST) {
+            Ok(framed) => Ok(Store { framed }),
+            Err(refused) => Err(refused),
+        }
     }
 
     /// What happened so far, and what each of its events logged.
@@ -147,6 +145,22 @@ impl<D: Disk> Store<D> {
         step
     }
 
+    /// Counts all pointers again, and tells what it found: no difference.
+    pub(crate) fn audit(&self, alloc: Global) -> Result<Report, Memory>
+        ensures live { IfOk result (λ r. r.live ≡ live_in (cells_of self.now.journal)) }
+        ensures zero { IfOk result (λ r. r.zero ≡ zero_in (cells_of self.now.journal) (range_with_len 1 self.now.journal.history.ids)) }
+        ensures differences { IfOk result (λ r. r.differences ≡ []) }
+    {
+        audit_journal(alloc, &self.framed)
+    }
+
+    /// How many pages the store has.
+    pub(crate) fn pages(&self) -> usize
+        ensures { 8 * result ≡ self.now.journal.history.ids }
+    {
+        self.framed.frames().len()
+    }
+
     /// How many ids the store has.
     pub(crate) fn ids(&self) -> u32
         ensures value { result ≡ self.now.journal.history.ids }
@@ -168,6 +182,13 @@ impl<D: Disk> Store<D> {
         ensures { IfOk result (λ ids. ids ≡ (end_of self.now.journal.history).state.stored) }
     {
         self.framed.logged().journal().stored()
+    }
+
+    /// The disk alone.
+    pub(crate) fn into_disk(self) -> D
+        ensures { result ≡ self.disk }
+    {
+        self.framed.into_logged().into_disk()
     }
 
     /// The journal with its log.

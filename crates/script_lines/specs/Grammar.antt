@@ -7,7 +7,7 @@ use Rattle.script_lines.specs.declared.verb.Verb.TheVariants.{Begin, Read, Make,
 use Rattle.script_lines.specs.declared.grammar.Line.{Line}
 use Rattle.script_lines.specs.declared.grammar.Line.TheVariants as line
 use Rattle.script_lines.specs.Fields.{fields_of}
-use Rattle.script_lines.specs.Numbers.{client_of, register_of, slot_of, payload_of, source_of}
+use Rattle.script_lines.specs.Numbers.{client_of, register_of, slot_of, pick_of, payload_of, source_of}
 
 infixl 10 ◌>>=◌
 abbrev pub ◌>>=◌ : {A B : Type 0} → Option A → (A → Option B) → Option B
@@ -74,10 +74,24 @@ client_line client verb operands = do
 abbrev pub is_collector : List ℕ → Bool
 is_collector field = bytes_eq field (codes "gc")
 
--- what the line of a client or of the collector asks, by its first field and those behind it
+-- the field names a loss of power
+abbrev pub is_crash : List ℕ → Bool
+is_crash field = bytes_eq field (codes "crash")
+
+-- what a line asks of the power, by the fields behind `crash`: the pick, and no more
+abbrev pub crash_line : List ℕ → List (List ℕ) → Option Line
+crash_line pick [] = do
+  k ← pick_of pick
+  Some (line.Crash k)
+crash_line pick operands = None
+
+-- what the line of a client, of the collector or of the power asks, by its first field and those behind it
 abbrev pub line_of_party : List ℕ → List (List ℕ) → Option Line
 line_of_party party [] = None
-line_of_party party (verb ∷ operands) = if is_collector party then collector_line verb operands else client_line party verb operands
+line_of_party party (verb ∷ operands) =
+    if is_collector party then collector_line verb operands
+    else if is_crash party then crash_line verb operands
+    else client_line party verb operands
 
 -- the field begins with `#`
 abbrev pub is_comment : List ℕ → Bool

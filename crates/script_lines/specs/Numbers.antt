@@ -27,6 +27,14 @@ register_of field = number_within 0 8 field
 abbrev pub slot_of : List ℕ → Option ℕ
 slot_of field = number_within 0 6 field
 
+-- a pick of what a power loss leaves: below 2^32
+abbrev pub pick_of : List ℕ → Option ℕ
+pick_of field = number_within 0 (2 ^ 32) field
+
+-- a number of pages: 1 to 1,024
+abbrev pub pages_of : List ℕ → Option ℕ
+pages_of word = number_within 1 1025 word
+
 -- a payload: below 2^64
 abbrev pub payload_of : List ℕ → Option ℕ
 payload_of field = number_within 0 (2 ^ 64) field

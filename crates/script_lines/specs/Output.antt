@@ -1,7 +1,11 @@
 -- What is written.
 use Rattle.std.specs.Prelude.{◌≡◌, ◌⊎◌, ℕ, List, [], ◌∷◌, ◌++◌, Option, codes, decimal}
 use Rattle.std.specs.Io.KnownBytes.{Appends}
-use Rattle.plain_model.specs.Text.{newline}
+use Rattle.plain_model.specs.Text.{newline, numbers}
+use Rattle.store_opening.specs.declared.open_refusal.OpenRefusal.{OpenRefusal}
+use Rattle.store_opening.specs.declared.open_refusal.OpenRefusal.TheVariants.{Disk, Damaged, NoStore, UnknownVersion, Unsound, Memory}
+use Rattle.store_opening.specs.declared.open_refusal.Place.{Place}
+use Rattle.store_opening.specs.declared.open_refusal.Place.TheVariants.{LogA, LogB, Page}
 use Rattle.disk_model.specs.Causes.{Rose}
 
 -- known bytes grow by a front of the piece, and this rest of it is left
@@ -15,6 +19,39 @@ AppendsFront old new piece = (rest : List ℕ) × AppendsUpTo old new piece rest
 -- the last line where the line of this number is refused
 abbrev pub refused_line : ℕ → List ℕ
 refused_line number = codes "refused: line " ++ decimal number ++ newline ∷ []
+
+-- the line of a store that was made
+abbrev pub pages_line : ℕ → List ℕ
+pages_line pages = codes "pages " ++ decimal pages ++ newline ∷ []
+
+-- the line of an audit
+abbrev pub audit_line : (pages live zeros differences : ℕ) → List ℕ
+audit_line pages live zeros differences =
+    codes "audit: pages " ++ decimal pages ++ codes " live " ++ decimal live ++ codes " zero " ++ decimal zeros
+    ++ codes " differences " ++ decimal differences ++ newline ∷ []
+
+-- the line of a crash, behind which these ids are stored
+abbrev pub crash_line : List ℕ → List ℕ
+crash_line ids = codes "crash: stored" ++ numbers ids ++ newline ∷ []
+
+-- what is damaged, and where
+abbrev pub damage_text : Place → ℕ → List ℕ
+damage_text LogA at = codes "log A at " ++ decimal at
+damage_text LogB at = codes "log B at " ++ decimal at
+damage_text (Page page) at = codes "page " ++ decimal page ++ codes " at " ++ decimal at
+
+-- why a store isn't opened
+abbrev pub open_refusal_text : OpenRefusal → List ℕ
+open_refusal_text Disk = codes "disk"
+open_refusal_text (Damaged place at) = damage_text place at
+open_refusal_text NoStore = codes "no store"
+open_refusal_text (UnknownVersion byte) = codes "version " ++ decimal byte
+open_refusal_text (Unsound id rule) = codes "object " ++ decimal id ++ codes " rule " ++ decimal rule
+open_refusal_text Memory = codes "memory"
+
+-- the last line where a store isn't opened
+abbrev pub open_refusal_line : OpenRefusal → List ℕ
+open_refusal_line refusal = codes "refused: " ++ open_refusal_text refusal ++ newline ∷ []
 
 -- the text was written and then the last line, or a front of the last line where the sink failed
 abbrev pub EndsWith : Option (List ℕ) → Option (List ℕ) → ℕ → ℕ → List ℕ → List ℕ → Type 0

@@ -1,10 +1,10 @@
 //! What the lines of a script ask.
 ghost use Rattle.std.specs.Prelude.{◌≡◌, ◌<◌, IfSome, MatchOption, Option, Some};
 ghost use Rattle.script_lines.specs.Operands.{listed};
-ghost use Rattle.script_lines.specs.Grammar.{request_of, is_collector, collector_line, meaning_of, IsAccepted, IsRefused, IsClient, IsLineInRange};
+ghost use Rattle.script_lines.specs.Grammar.{request_of, is_collector, collector_line, is_crash, crash_line, meaning_of, IsAccepted, IsRefused, IsClient, IsLineInRange};
 
 use crate::fields::{Operands, next_field, operands_of};
-use crate::numbers::{client_of, payload_of, register_of, slot_of, source_of};
+use crate::numbers::{client_of, payload_of, pick_of, register_of, slot_of, source_of};
 use crate::verb::{Verb, verb_of};
 use plain_model::Call;
 
@@ -25,6 +25,8 @@ pub enum Line {
     /// The collector goes on until there is nothing to do, or until it has looked at as many objects of its queue as the
     /// store has ids.
     CollectAll,
+    /// Power is lost, with this pick of what it leaves of the disk, and the store is opened again.
+    Crash { pick: u32 },
 }
 
 /// What a client's line asks, by its verb and the fields behind it.
@@ -79,6 +81,25 @@ fn collector_line(steps: &[u8], operands: Operands<'_>) -> Option<Line>
     }
 }
 
+/// Whether the first field names a loss of power.
+fn is_crash(party: &[u8]) -> bool
+    ensures { result ≡ is_crash party.now }
+{
+    matches!(party, b"crash")
+}
+
+/// What a line asks of the power, by the fields behind `crash`.
+fn crash_line(pick: &[u8], operands: Operands<'_>) -> Option<Line>
+    ensures { result ≡ crash_line pick.now (listed operands.entry) }
+{
+    match operands {
+        Operands::Nil => Some(Line::Crash {
+            pick: pick_of(pick)?,
+        }),
+        _ => None,
+    }
+}
+
 /// What a line asks, where it is in the grammar.
 fn meaning_of(line: &[u8]) -> Option<Line>
     ensures value { result ≡ meaning_of line.now }
@@ -93,6 +114,9 @@ fn meaning_of(line: &[u8]) -> Option<Line>
     let (verb, rest) = next_field(rest)?;
     if is_collector(party) {
         return collector_line(verb, operands_of(rest)?);
+    }
+    if is_crash(party) {
+        return crash_line(verb, operands_of(rest)?);
     }
     request_of(client_of(party)?, verb_of(verb)?, operands_of(rest)?)
 }

@@ -1,7 +1,7 @@
 //! What a field spells.
 ghost use Rattle.std.specs.Prelude.{◌≡◌, ◌<◌, ◌≤◌, ◌^◌, ◌+◌, ◌*◌, IsTrue, SomeIff, IfSome};
 ghost use Rattle.std.specs.Char.{is_ascii_digit, digit_value};
-ghost use Rattle.script_lines.specs.Numbers.{number_within, client_of, register_of, slot_of, payload_of, source_of};
+ghost use Rattle.script_lines.specs.Numbers.{number_within, client_of, register_of, slot_of, pick_of, pages_of, payload_of, source_of};
 ghost use Rattle.script_lines.specs.Grammar.{IsClient};
 
 /// The most digits that a number may have.
@@ -33,14 +33,15 @@ pub(crate) fn payload_of(field: &[u8]) -> Option<u64>
 }
 
 /// The number that a field spells, where it is at least `low` and below `limit`.
-fn number_within(low: u8, limit: u8, field: &[u8]) -> Option<u8>
-    ensures { result ≡ number_within low limit field.now }
+fn number_within(low: u64, limit: u64, field: &[u8]) -> Option<u64>
+    ensures value { result ≡ number_within low limit field.now }
+    ensures within { IfSome result (λ n. (low ≤ n) × (n < limit)) }
 {
     let number = payload_of(field)?;
-    if number < u64::from(low) || number >= u64::from(limit) {
+    if number < low || number >= limit {
         return None;
     }
-    Some(number as u8)
+    Some(number)
 }
 
 /// The client that a field names.
@@ -48,7 +49,7 @@ pub(crate) fn client_of(field: &[u8]) -> Option<u8>
     ensures value { result ≡ client_of field.now }
     ensures within { IfSome result (λ c. IsClient c) }
 {
-    number_within(1, 65, field)
+    Some(number_within(1, 65, field)? as u8)
 }
 
 /// The register that a field names.
@@ -56,7 +57,7 @@ pub(crate) fn register_of(field: &[u8]) -> Option<u8>
     ensures value { result ≡ register_of field.now }
     ensures below { IfSome result (λ r. r < 8) }
 {
-    number_within(0, 8, field)
+    Some(number_within(0, 8, field)? as u8)
 }
 
 /// The slot that a field names.
@@ -64,7 +65,22 @@ pub(crate) fn slot_of(field: &[u8]) -> Option<u8>
     ensures value { result ≡ slot_of field.now }
     ensures below { IfSome result (λ s. s < 6) }
 {
-    number_within(0, 6, field)
+    Some(number_within(0, 6, field)? as u8)
+}
+
+/// The pick that a field names.
+pub(crate) fn pick_of(field: &[u8]) -> Option<u32>
+    ensures { result ≡ pick_of field.now }
+{
+    Some(number_within(0, 4_294_967_296, field)? as u32)
+}
+
+/// The number of pages that a word names: 1 to 1,024.
+pub fn pages_of(word: &[u8]) -> Option<u16>
+    ensures value { result ≡ pages_of word.now }
+    ensures within { IfSome result (λ n. (1 ≤ n) × (n ≤ 1024)) }
+{
+    Some(number_within(1, 1025, word)? as u16)
 }
 
 /// What a slot is to hold: the id in a register, or nothing for `-`.

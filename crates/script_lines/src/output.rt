@@ -1,19 +1,20 @@
 //! Printed lines.
-ghost use Rattle.std.specs.Prelude.{◌≡◌, ◌+◌, ◌<◌, ◌≤◌, ◌++◌, [], IfOk, OnOk, string_bytes, length, decimal};
+ghost use Rattle.std.specs.Prelude.{◌≡◌, ◌+◌, ◌<◌, ◌≤◌, ◌++◌, [], ◌∷◌, IfOk, OnOk, string_bytes, length, decimal};
 ghost use Rattle.std.specs.Io.KnownBytes.{Appends};
 ghost use Rattle.arrayvec.specs.ArrayString.{array_string_len};
-ghost use Rattle.plain_model.specs.Text.{line_of, stored_line, verb, reply_text};
+ghost use Rattle.plain_model.specs.Text.{line_of, stored_line, numbers, newline, verb, reply_text};
 ghost use Rattle.disk_model.specs.Causes.{HasCause};
-ghost use Rattle.script_lines.specs.Output.{AppendsFront, EndsWith, refused_line};
+ghost use Rattle.script_lines.specs.Output.{AppendsFront, EndsWith, refused_line, pages_line, audit_line, damage_text, open_refusal_text, open_refusal_line, crash_line};
 
 use arrayvec::ArrayString;
 use itoa::Buffer;
 use outside_io::{Sink, WriteFailed};
 use plain_model::{Call, Entry, Memory, Reply};
 use std::alloc::Global;
+use store_opening::{OpenRefusal, Place};
 
-/// The bytes that the longest printed line of a call takes, and the line of a refusal.
-pub const LINE_ROOM: usize = 64;
+/// The bytes that the longest printed line takes but for those with ids.
+pub const LINE_ROOM: usize = 128;
 
 fn verb_of(call: &Call) -> &'static str
     ensures text { result.now ≡ verb call.now }
@@ -32,7 +33,7 @@ fn verb_of(call: &Call) -> &'static str
 }
 
 fn push_number(line: &mut ArrayString<LINE_ROOM>, number: u64)
-    requires { array_string_len line.old + 20 ≤ 64 }
+    requires { array_string_len line.old + 20 ≤ 128 }
     ensures text { line.new.bytes ≡ line.old.bytes ++ decimal number }
     ensures short { array_string_len line.new ≤ array_string_len line.old + 20 }
 {
@@ -41,7 +42,7 @@ fn push_number(line: &mut ArrayString<LINE_ROOM>, number: u64)
 }
 
 fn push_reply(line: &mut ArrayString<LINE_ROOM>, reply: &Reply)
-    requires { array_string_len line.old + 26 ≤ 64 }
+    requires { array_string_len line.old + 26 ≤ 128 }
     ensures text { line.new.bytes ≡ line.old.bytes ++ reply_text reply.now }
     ensures short { array_string_len line.new ≤ array_string_len line.old + 26 }
 {
@@ -102,11 +103,92 @@ pub fn refused_line(number: u32) -> ArrayString<LINE_ROOM>
     line
 }
 
-/// The line of the stored ids.
-pub fn stored_line(alloc: Global, ids: &[u32]) -> Result<String, Memory>
-    ensures { IfOk result (λ line. string_bytes line ≡ stored_line ids.now) }
+/// The line of a store that was made. It takes no memory.
+pub fn pages_line(pages: u16) -> ArrayString<LINE_ROOM>
+    ensures { result.bytes ≡ pages_line pages }
 {
-    let mut line = String::from_str(alloc, "stored")?;
+    let mut line = ArrayString::new();
+    line.push_str("pages ");
+    push_number(&mut line, u64::from(pages));
+    line.push_str("\n");
+    line
+}
+
+/// The line of an audit. It takes no memory.
+pub fn audit_line(pages: u64, live: u64, zero: u64, differences: u64) -> ArrayString<LINE_ROOM>
+    ensures { result.bytes ≡ audit_line pages live zero differences }
+{
+    let mut line = ArrayString::new();
+    line.push_str("audit: pages ");
+    push_number(&mut line, pages);
+    line.push_str(" live ");
+    push_number(&mut line, live);
+    line.push_str(" zero ");
+    push_number(&mut line, zero);
+    line.push_str(" differences ");
+    push_number(&mut line, differences);
+    line.push_str("\n");
+    line
+}
+
+/// Appends what is damaged, and where.
+fn push_damage(line: &mut ArrayString<LINE_ROOM>, place: Place, at: u64)
+    requires { array_string_len line.old + 50 ≤ 128 }
+    ensures text { line.new.bytes ≡ line.old.bytes ++ damage_text place at }
+    ensures short { array_string_len line.new ≤ array_string_len line.old + 50 }
+{
+    match place {
+        Place::LogA => line.push_str("log A"),
+        Place::LogB => line.push_str("log B"),
+        Place::Page(page) => {
+            line.push_str("page ");
+            push_number(line, u64::from(page));
+        }
+    }
+    line.push_str(" at ");
+    push_number(line, at);
+}
+
+/// Appends why a store isn't opened.
+fn push_open_refusal(line: &mut ArrayString<LINE_ROOM>, refusal: &OpenRefusal)
+    requires { array_string_len line.old + 60 ≤ 128 }
+    ensures text { line.new.bytes ≡ line.old.bytes ++ open_refusal_text refusal.now }
+    ensures short { array_string_len line.new ≤ array_string_len line.old + 60 }
+{
+    match *refusal {
+        OpenRefusal::Disk => line.push_str("disk"),
+        OpenRefusal::Damaged { place, at } => push_damage(line, place, at),
+        OpenRefusal::NoStore => line.push_str("no store"),
+        OpenRefusal::UnknownVersion { byte } => {
+            line.push_str("version ");
+            push_number(line, u64::from(byte));
+        }
+        OpenRefusal::Unsound { id, rule } => {
+            line.push_str("object ");
+            push_number(line, u64::from(id));
+            line.push_str(" rule ");
+            push_number(line, u64::from(rule));
+        }
+        OpenRefusal::Memory => line.push_str("memory"),
+    }
+}
+
+/// The last line where a store isn't opened. It takes no memory.
+pub fn open_refusal_line(refusal: &OpenRefusal) -> ArrayString<LINE_ROOM>
+    ensures { result.bytes ≡ open_refusal_line refusal.now }
+{
+    let mut line = ArrayString::new();
+    line.push_str("refused: ");
+    push_open_refusal(&mut line, refusal);
+    line.push_str("\n");
+    line
+}
+
+/// A word, and then ids.
+fn ids_line(alloc: Global, head: &str, ids: &[u32]) -> Result<String, Memory>
+    ensures { IfOk result (λ line. string_bytes line ≡ head.now ++ numbers ids.now ++ newline ∷ []) }
+{
+    let mut line = String::from_str(alloc, head)?;
     let mut digits = Buffer::new();
     for id in ids {
         line.push_str(" ")?;
@@ -114,6 +196,20 @@ pub fn stored_line(alloc: Global, ids: &[u32]) -> Result<String, Memory>
     }
     line.push_str("\n")?;
     Ok(line)
+}
+
+/// The line of the stored ids.
+pub fn stored_line(alloc: Global, ids: &[u32]) -> Result<String, Memory>
+    ensures { IfOk result (λ line. string_bytes line ≡ stored_line ids.now) }
+{
+    ids_line(alloc, "stored", ids)
+}
+
+/// The line of a crash, behind which these ids are stored.
+pub fn crash_line(alloc: Global, ids: &[u32]) -> Result<String, Memory>
+    ensures { IfOk result (λ line. string_bytes line ≡ crash_line ids.now) }
+{
+    ids_line(alloc, "crash: stored", ids)
 }
 
 /// Writes the whole piece, or a front of it where the sink fails.

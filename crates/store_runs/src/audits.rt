@@ -2,13 +2,13 @@
 ghost use Rattle.std.specs.Prelude.{◌≡◌, ◌≢◌, true};
 ghost use Rattle.plain_model.specs.Machine.{IsInRange};
 
+use crate::opened::open_fresh;
 use auditor::{Difference, audit, audit_journal};
 use cell_page::{Cell, Page};
 use core_store::{AbortStep, Collect, Frame, Limits};
 use disk_model::MemoryDisk;
 use framed_journal::FramedJournal;
 use plain_model::{Call, Reply};
-use restart_store::init;
 use std::alloc::Global;
 use std::process::Abort;
 use std::test::Fail;
@@ -81,7 +81,7 @@ fn fill(
 }
 
 /// What a step of the client's abort does, where the client has a transaction.
-fn undo(journal: &mut FramedJournal<6, MemoryDisk>, client: u8) -> Option<AbortStep> {
+pub(crate) fn undo(journal: &mut FramedJournal<6, MemoryDisk>, client: u8) -> Option<AbortStep> {
     if journal.logged().journal().active(client) {
         return journal.abort_step(client).ok();
     }
@@ -126,9 +126,7 @@ fn perform(alloc: Global, journal: &mut FramedJournal<6, MemoryDisk>, step: Step
 
 /// Makes the steps in a fresh store of three pages.
 fn run(rt: &impl Abort, alloc: Global, steps: &[Step]) -> Result<(), Fail> {
-    let mut disk = MemoryDisk::new(alloc);
-    init(&mut disk, 3)?;
-    let mut journal = FramedJournal::fresh(alloc, disk, 3, Limits::GREATEST)?;
+    let mut journal = open_fresh(alloc, MemoryDisk::new(alloc), 3, Limits::GREATEST)?;
     for step in steps {
         assert!(rt; perform(alloc, &mut journal, *step), "{step:?}");
     }

@@ -6,9 +6,15 @@
 #[cfg(test)]
 mod audits;
 #[cfg(test)]
+mod limits;
+#[cfg(test)]
 mod logged;
 #[cfg(test)]
+mod opened;
+#[cfg(test)]
 mod readme;
+#[cfg(test)]
+mod restarted;
 #[cfg(test)]
 mod restarts;
 #[cfg(test)]

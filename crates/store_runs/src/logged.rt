@@ -1,26 +1,24 @@
 //! Runs of a store of one page whose log stands on a disk in memory.
 ghost use Rattle.core_store.specs.Limited.{AreLimits};
 
+use crate::opened::open_fresh;
 use core_store::Limits;
 use disk_model::{Area, Disk, MemoryDisk};
 use framed_journal::FramedJournal;
 use plain_model::{Call, Reply};
-use restart_store::init;
 use std::alloc::Global;
 use std::process::Abort;
 use std::test::Fail;
 
-/// A fresh store of one page. Of the disk's calls those with these numbers fail.
-fn fresh(
+/// A fresh store of one page, opened. Of the disk's calls those with these numbers fail.
+fn opened(
     alloc: Global,
     fails: Vec<u64>,
     limits: Limits,
 ) -> Result<FramedJournal<6, MemoryDisk>, Fail>
     requires { AreLimits limits }
 {
-    let mut disk = MemoryDisk::failing(alloc, fails, None);
-    init(&mut disk, 1)?;
-    Ok(FramedJournal::fresh(alloc, disk, 1, limits)?)
+    open_fresh(alloc, MemoryDisk::failing(alloc, fails, None), 1, limits)
 }
 
 /// A client makes an object and lays it into the root. This is what its commit is answered.
@@ -51,7 +49,7 @@ fn expect_log(rt: &impl Abort, journal: &FramedJournal<6, MemoryDisk>, wanted: &
 #[test]
 fn the_log_of_a_commit(rt: HostRuntime) -> Result<(), Fail> {
     let alloc = rt.alloc();
-    let mut journal = fresh(alloc, Vec::new(alloc), Limits::GREATEST)?;
+    let mut journal = opened(alloc, Vec::new(alloc), Limits::GREATEST)?;
     expect_reply(&rt, commit_an_object(&mut journal), Reply::Done);
     let wanted = [
         1, 0, 0, 0, 4, 14, 1, 0, 1, 1, 0, 0, 0, 28, 1, 1, 2, 1, 0, 0, 0, 2, 3, 1, 0, 0, 0, 1, 0, 0,
@@ -65,8 +63,8 @@ fn the_log_of_a_commit(rt: HostRuntime) -> Result<(), Fail> {
 fn a_store_is_stopped_by_a_failed_commit(rt: HostRuntime) -> Result<(), Fail> {
     let alloc = rt.alloc();
     // The commit's four calls of the disk.
-    for call in [20, 21, 22, 23] {
-        let mut journal = fresh(alloc, Vec::from_array(alloc, [call])?, Limits::GREATEST)?;
+    for call in [41, 42, 43, 44] {
+        let mut journal = opened(alloc, Vec::from_array(alloc, [call])?, Limits::GREATEST)?;
         expect_reply(&rt, commit_an_object(&mut journal), Reply::DiskFault);
         let faults = journal.logged().disk().faults();
         let next = journal.call(2, &Call::Begin);
@@ -79,7 +77,7 @@ fn a_store_is_stopped_by_a_failed_commit(rt: HostRuntime) -> Result<(), Fail> {
 fn a_full_log(rt: HostRuntime) -> Result<(), Fail> {
     let alloc = rt.alloc();
     let limits = Limits { trace: 8, log: 24 };
-    let mut journal = fresh(alloc, Vec::new(alloc), limits)?;
+    let mut journal = opened(alloc, Vec::new(alloc), limits)?;
     expect_reply(&rt, journal.call(1, &Call::Begin), Reply::Done);
     let made = journal.call(1, &Call::Make { into: 1 });
     expect_reply(&rt, made, Reply::LogFull);

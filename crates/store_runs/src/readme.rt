@@ -26,12 +26,12 @@ fn readme(rt: HostRuntime) -> Result<(), Fail> {
     );
     let done = store.call(1, &Call::Commit);
     let idle = store.collect_step();
-    assert!(rt; made == Reply::Id(2));
-    assert!(rt; done == Reply::Done);
-    assert!(rt; idle == Ok(Collect::Idle));
     let disk = store.into_logged().into_disk();
     let store = open::<MemoryDisk, 6>(alloc, disk, Limits::GREATEST).map_err(|refused| refused.0)?;
     let stored = store.logged().journal().stored()?;
+    assert!(rt; made == Reply::Id(2));
+    assert!(rt; done == Reply::Done);
+    assert!(rt; idle == Ok(Collect::Idle));
     assert!(rt; stored.items() == [1, 2].as_slice());
     Ok(())
 }

@@ -1,11 +1,10 @@
 //! A store is opened after its disk stopped, at each of the disk's calls, and after each of some losses of power.
 use crate::logged::commit_an_object;
+use crate::opened::open_fresh;
 use core_store::Limits;
 use disk_model::{Disk, MemoryDisk};
-use framed_journal::FramedJournal;
 use opened_store::open_store;
 use plain_model::Reply;
-use restart_store::init;
 use std::alloc::Global;
 use std::process::Abort;
 use std::test::Fail;
@@ -13,14 +12,8 @@ use std::test::Fail;
 /// A client makes an object, lays it into the root and commits, on a new store of one page whose disk stops after so many
 /// calls. This is whether the commit was done, and the disk.
 fn committed(alloc: Global, stop_after: u64) -> Result<(bool, MemoryDisk), Fail> {
-    let mut disk = MemoryDisk::failing(alloc, Vec::new(alloc), Some(stop_after));
-    init(&mut disk, 1)?;
-    let mut journal: FramedJournal<6, MemoryDisk> = FramedJournal::fresh(
-        alloc,
-        disk,
-        1,
-        Limits::GREATEST,
-    )?;
+    let disk = MemoryDisk::failing(alloc, Vec::new(alloc), Some(stop_after));
+    let mut journal = open_fresh(alloc, disk, 1, Limits::GREATEST)?;
     let reply = commit_an_object(&mut journal);
     Ok((reply == Reply::Done, journal.into_logged().into_disk()))
 }
@@ -40,10 +33,10 @@ fn names_an_object(alloc: Global, disk: &MemoryDisk, pick: u32) -> Result<bool, 
 #[test]
 fn what_was_committed_is_there(rt: HostRuntime) -> Result<(), Fail> {
     let alloc = rt.alloc();
-    // Making the store takes 19 calls, and the commit 4.
-    for stop_after in 19..24 {
+    // Making the store takes 19 calls, opening it 21, and the commit 4.
+    for stop_after in 40..45 {
         let (is_done, disk) = committed(alloc, stop_after)?;
-        assert!(rt; is_done == (stop_after == 23));
+        assert!(rt; is_done == (stop_after == 44));
         let mut some = false;
         let mut none = false;
         for pick in 0..10 {
@@ -53,7 +46,7 @@ fn what_was_committed_is_there(rt: HostRuntime) -> Result<(), Fail> {
             none = none || !is_there;
         }
         // It may be there as soon as its batch's commit byte is written.
-        assert!(rt; some == (22 <= stop_after) && none == (stop_after < 23));
+        assert!(rt; some == (43 <= stop_after) && none == (stop_after < 44));
     }
     Ok(())
 }
@@ -62,7 +55,7 @@ fn what_was_committed_is_there(rt: HostRuntime) -> Result<(), Fail> {
 fn an_opening_that_stops_leaves_what_was_there(rt: HostRuntime) -> Result<(), Fail> {
     let alloc = rt.alloc();
     let mut last_stop = 0;
-    for stop_after in 23..60 {
+    for stop_after in 44..81 {
         let (_, mut disk) = committed(alloc, stop_after)?;
         if open_store::<MemoryDisk, 6>(alloc, &mut disk).is_err() {
             last_stop = stop_after;
@@ -72,6 +65,6 @@ fn an_opening_that_stops_leaves_what_was_there(rt: HostRuntime) -> Result<(), Fa
         }
     }
     // It asks its disk for more than four syncs.
-    assert!(rt; 27 <= last_stop && last_stop < 59);
+    assert!(rt; 48 <= last_stop && last_stop < 80);
     Ok(())
 }

@@ -16,16 +16,31 @@ struct Failing {
     disk: Option<u64>,
 }
 
-/// The status and the output of `replay` on a script, where these calls fail.
+/// The status and the output of `replay` on a script in a fresh store of one page, where these calls fail. Those of the
+/// disk are counted from the making of the store on.
 fn replayed(alloc: Global, script: &str, failing: Failing) -> Result<(u8, Vec<u8>), Memory> {
     let mut words = Words::new(alloc);
     words.push("replay")?;
     let bytes = Vec::from_slice(alloc, script.as_bytes())?;
     let mut source = MemorySource::new(bytes, calls(alloc, failing.read)?);
     let mut sink = MemorySink::new(alloc, calls(alloc, failing.write)?);
-    let disk = MemoryDisk::failing(alloc, calls(alloc, failing.disk)?, None);
+    let disk = made(
+        alloc,
+        MemoryDisk::failing(alloc, calls(alloc, failing.disk)?, None),
+    )?;
     let (status, _) = brahma(alloc, &words, &mut source, &mut sink, disk);
     Ok((status, Vec::from_slice(alloc, sink.bytes())?))
+}
+
+/// The disk, made anew as a fresh store of one page.
+fn made(alloc: Global, disk: MemoryDisk) -> Result<MemoryDisk, Memory> {
+    let mut words = Words::new(alloc);
+    words.push("init")?;
+    words.push("1")?;
+    let mut source = MemorySource::new(Vec::new(alloc), Vec::new(alloc));
+    let mut sink = MemorySink::new(alloc, Vec::new(alloc));
+    let (_, ended) = brahma(alloc, &words, &mut source, &mut sink, disk);
+    Ok(ended.disk())
 }
 
 /// With these calls failing, a replay of the script answers this status and writes this output.
@@ -90,7 +105,7 @@ fn reads_and_writes(rt: HostRuntime) -> Result<(), Fail> {
             "1 begin\n1 make 1\n1 store 0 0 1\n1 commit\n2 begin\n",
             None,
             None,
-            Some(21),
+            Some(42),
             6,
             "1 begin: ok\n1 make: 2\n1 store: ok\n1 commit: fault\nrefused: disk\n",
         ),
@@ -98,12 +113,12 @@ fn reads_and_writes(rt: HostRuntime) -> Result<(), Fail> {
             "1 begin\n1 make 1\n1 store 0 0 1\n1 commit\n2 begin\n",
             None,
             None,
-            Some(23),
+            Some(44),
             6,
             "1 begin: ok\n1 make: 2\n1 store: ok\n1 commit: fault\nrefused: disk\n",
         ),
-        // The last disk call of a store that is made anew.
-        ("1 begin\n", None, None, Some(19), 6, "refused: disk\n"),
+        // A disk call of the opening.
+        ("1 begin\n", None, None, Some(25), 6, "refused: disk\n"),
     ] {
         let failing = Failing { read, write, disk };
         expect_replayed(&rt, rt.alloc(), script, failing, status, output)?;

@@ -1,0 +1,162 @@
+-- What the program answers, by the command that its words name.
+use Rattle.std.proofs.Common.{◌≡◌, ◌⊎◌, ⊎_elim, inl, inr, ◌≤◌, ℕ, Bool, true, false, List, [], ◌∷◌, Option, Some, None, refl, sym, ap, subst, ◌∙◌, arith}
+use Rattle.std.specs.Prelude.{codes, bytes_eq, nat_le, nat_lt, ◌&&◌, if◌then◌else◌, option_and_then, option_map}
+use Rattle.std.proofs.lemmas.Bool.{leb-true, ltb-true}
+use Rattle.disk_model.specs.declared.area.Area.{Area}
+use Rattle.disk_model.specs.Areas.{Bytes}
+use Rattle.disk_model.specs.Told.{IsImage}
+use Rattle.disk_model.proofs.Moments.{no_call}
+use Rattle.store_opening.specs.Looks.{IsLookedAt}
+use Rattle.script_lines.specs.Numbers.{number_of, pages_of}
+use Rattle.brahma_shell.specs.declared.command.Command.{Command}
+use Rattle.brahma_shell.specs.declared.command.Command.TheVariants.{Init, Replay, Audit}
+use Rattle.brahma_shell.specs.declared.ended.Ended.{Ended}
+use Rattle.brahma_shell.specs.declared.ended.Ended.TheVariants.{Shut}
+use Rattle.brahma_shell.specs.Commands.{command_of}
+use Rattle.brahma_shell.specs.Ended.{disk_in}
+use Rattle.brahma_shell.specs.Top.{IsStatusOfReplay, GoesLater, Outside, Ends, Unopened, Replayed, Audited, Made, Answered}
+
+none-some : (o : Option Command) (c : Command) → o ≡ None → o ≡ Some c → ⊥
+none-some None c e f = cc (f)
+none-some (Some d) c e f = cc (e)
+
+same-pages : (o : Option Command) (p q : ℕ) → o ≡ Some (Init p) → o ≡ Some (Init q) → p ≡ q
+same-pages o p q e f = let h : Some (Init p) ≡ Some (Init q) = sym e ∙ f in cc (h)
+
+-- a word that asks one thing asks no other
+init-replay : (o : Option Command) (p : ℕ) → o ≡ Some (Init p) → o ≡ Some Replay → ⊥
+init-replay o p e f = let h : Some (Init p) ≡ Some Replay = sym e ∙ f in absurd (cc (h))
+
+init-audit : (o : Option Command) (p : ℕ) → o ≡ Some (Init p) → o ≡ Some Audit → ⊥
+init-audit o p e f = let h : Some (Init p) ≡ Some Audit = sym e ∙ f in absurd (cc (h))
+
+replay-audit : (o : Option Command) → o ≡ Some Replay → o ≡ Some Audit → ⊥
+replay-audit o e f = let h : Some Replay ≡ Some Audit = sym e ∙ f in absurd (cc (h))
+
+-- the usage is no status of a replay
+not-usage : (status : ℕ) → IsStatusOfReplay status → status ≡ 2 → ⊥
+not-usage status is e =
+    ⊎_elim (λ h. omega (arith, h, e))
+    (λ is. ⊎_elim (λ h. omega (arith, h, e))
+    (λ is. ⊎_elim (λ h. omega (arith, h, e))
+    (λ is. ⊎_elim (λ h. omega (arith, h, e))
+    (λ is. ⊎_elim (λ h. omega (arith, h, e))
+    (λ is. ⊎_elim (λ h. omega (arith, h, e))
+    (λ is. ⊎_elim (λ h. omega (arith, h, e)) (λ h. omega (arith, h, e)) is) is) is) is) is) is) is
+
+-- the statuses of the other commands are among them
+of-init : (status : ℕ) → (status ≡ 0) ⊎ ((status ≡ 5) ⊎ (status ≡ 6)) → IsStatusOfReplay status
+of-init status is = ⊎_elim (λ h. inl h) (λ is. ⊎_elim (λ h. inr (inr (inr (inl h)))) (λ h. inr (inr (inr (inr (inl h))))) is) is
+
+of-audit : (status : ℕ) → (status ≡ 0) ⊎ ((status ≡ 5) ⊎ ((status ≡ 6) ⊎ ((status ≡ 7) ⊎ (status ≡ 8)))) → IsStatusOfReplay status
+of-audit status is =
+    ⊎_elim (λ h. inl h)
+    (λ is. ⊎_elim (λ h. inr (inr (inr (inl h))))
+    (λ is. ⊎_elim (λ h. inr (inr (inr (inr (inl h)))))
+    (λ is. ⊎_elim (λ h. inr (inr (inr (inr (inr (inl h)))))) (λ h. inr (inr (inr (inr (inr (inr (inl h))))))) is) is) is) is
+
+module _ {S D : Type 0} (content : D → Area → Option (List ℕ)) (may_leave : D → Area → List ℕ → Type 0) (moment : D → ℕ) (left_since : D → ℕ → Bytes → Type 0)
+    (words : List (List ℕ)) (script later : S) (disk : D) (before after : Outside) (status : ℕ) (ended : Ended D) (goes : GoesLater before after) where
+  -- a disk that is asked for nothing is only looked at
+  not-asked : ((d : D) (image : Bytes) → left_since d (moment d) image → IsImage may_leave d image) → IsLookedAt content may_leave moment left_since disk disk
+  not-asked only_now = record { keeps = λ area. record { same = refl; no_more = λ c may. may }; moments = no_call may_leave (IsImage may_leave disk) only_now (λ image may. may) }
+
+  -- the words have no reading
+  pub asks-nothing : ((d : D) (image : Bytes) → left_since d (moment d) image → IsImage may_leave d image) → command_of words ≡ None → status ≡ 2 → later ≡ script → ended ≡ Shut disk → Ends before after [] (codes "usage\n") → Answered content may_leave moment left_since words script later disk before after status ended
+  asks-nothing only_now none two same back ends = record {
+    usage = (λ _. none, λ _. two);
+    statuses = inl two;
+    goes_later = goes;
+    only_looks = λ other image reads closed. subst (λ (e : Ended D). IsLookedAt content may_leave moment left_since disk (disk_in e)) (sym back) (not-asked only_now);
+    unread = λ _. (same, back, ends);
+    made = λ pages e. absurd (none-some (command_of words) (Init pages) none e);
+    replayed = λ e. absurd (none-some (command_of words) Replay none e);
+    audited = λ e. absurd (none-some (command_of words) Audit none e);
+  }
+
+  pub asks-init : (pages : ℕ) → command_of words ≡ Some (Init pages) → later ≡ script → Made may_leave moment left_since disk pages before after status ended → Answered content may_leave moment left_since words script later disk before after status ended
+  asks-init pages asked same made =
+      let is = of-init status made.statuses in
+      record {
+        usage = (λ two. absurd (not-usage status is two), λ none. absurd (none-some (command_of words) (Init pages) none asked));
+        statuses = inr is;
+        goes_later = goes;
+        only_looks = λ other. absurd (other pages asked);
+        unread = λ two. absurd (not-usage status is two);
+        made = λ other e. (same, subst (λ (n : ℕ). Made may_leave moment left_since disk n before after status ended) (same-pages (command_of words) pages other asked e) made);
+        replayed = λ e. absurd (init-replay (command_of words) pages asked e);
+        audited = λ e. absurd (init-audit (command_of words) pages asked e);
+      }
+
+  pub asks-replay : command_of words ≡ Some Replay → IsStatusOfReplay status → (later ≡ script) × Unopened content may_leave moment left_since disk before after status ended ⊎ Replayed content may_leave script later disk before after status ended
+      → Answered content may_leave moment left_since words script later disk before after status ended
+  asks-replay asked is replayed = record {
+    usage = (λ two. absurd (not-usage status is two), λ none. absurd (none-some (command_of words) Replay none asked));
+    statuses = inr is;
+    goes_later = goes;
+    only_looks = λ other image reads closed. ⊎_elim (λ u. u.1.refused.only_looks image reads closed) (λ r. absurd (closed r.run.opening (r.opened image reads))) replayed;
+    unread = λ two. absurd (not-usage status is two);
+    made = λ pages e. absurd (init-replay (command_of words) pages e asked);
+    replayed = λ _. replayed;
+    audited = λ e. absurd (replay-audit (command_of words) asked e);
+  }
+
+  pub asks-audit : command_of words ≡ Some Audit → (status ≡ 0) ⊎ ((status ≡ 5) ⊎ ((status ≡ 6) ⊎ ((status ≡ 7) ⊎ (status ≡ 8)))) → later ≡ script → Unopened content may_leave moment left_since disk before after status ended ⊎ Audited content may_leave disk before after status ended
+      → Answered content may_leave moment left_since words script later disk before after status ended
+  asks-audit asked statuses same audited =
+      let is = of-audit status statuses in
+      record {
+        usage = (λ two. absurd (not-usage status is two), λ none. absurd (none-some (command_of words) Audit none asked));
+        statuses = inr is;
+        goes_later = goes;
+        only_looks = λ other image reads closed. ⊎_elim (λ u. u.refused.only_looks image reads closed) (λ a. absurd (closed a.cells (a.opened image reads))) audited;
+        unread = λ two. absurd (not-usage status is two);
+        made = λ pages e. absurd (init-audit (command_of words) pages e asked);
+        replayed = λ e. absurd (replay-audit (command_of words) e asked);
+        audited = λ _. (same, audited);
+      }
+
+-- ---- a number of pages
+
+both : (a b : Bool) → (a && b) ≡ true → (a ≡ true) × (b ≡ true)
+both true true e = (refl, refl)
+both true false e = absurd (cc (e))
+both false b e = absurd (cc (e))
+
+if-some : (b : Bool) (n p : ℕ) → (if b then Some n else None) ≡ Some p → (b ≡ true) × (n ≡ p)
+if-some true n p e = (refl, cc (e))
+if-some false n p e = absurd (cc (e))
+
+within : (o : Option ℕ) (p : ℕ) → option_and_then (λ n. if nat_le 1 n && nat_lt n 1025 then Some n else None) o ≡ Some p → (1 ≤ p) × (p ≤ 1024)
+within None p e = absurd (cc (e))
+within (Some n) p e =
+    let h = if-some (nat_le 1 n && nat_lt n 1025) n p e in
+    let b = both (nat_le 1 n) (nat_lt n 1025) h.0 in
+    let low = leb-true 1 n b.0 in
+    let high = ltb-true n 1025 b.1 in
+    (omega (arith, low, h.1), omega (arith, high, h.1))
+
+mapped : (o : Option ℕ) (p : ℕ) → option_map Init o ≡ Some (Init p) → o ≡ Some p
+mapped None p e = absurd (cc (e))
+mapped (Some n) p e = cc (e)
+
+one-word : (a b : Bool) (p : ℕ) → (if a then Some Replay else if b then Some Audit else None) ≡ Some (Init p) → ⊥
+one-word true b p e = absurd (cc (e))
+one-word false true p e = absurd (cc (e))
+one-word false false p e = absurd (cc (e))
+
+two-words : (a : Bool) (o : Option ℕ) (p : ℕ) → (if a then option_map Init o else None) ≡ Some (Init p) → o ≡ Some p
+two-words true o p e = mapped o p e
+two-words false o p e = absurd (cc (e))
+
+-- `init` is asked with a number of pages from 1 to 1,024
+pub pages-within : (words : List (List ℕ)) (p : ℕ) → Some (Init p) ≡ command_of words → (1 ≤ p) × (p ≤ 1024)
+pages-within [] p e = absurd (cc (e))
+pages-within (word ∷ []) p e = absurd (one-word (bytes_eq word (codes "replay")) (bytes_eq word (codes "audit")) p (sym e))
+pages-within (word ∷ number ∷ []) p e = within (number_of number) p (two-words (bytes_eq word (codes "init")) (pages_of number) p (sym e))
+pages-within (word ∷ number ∷ other ∷ words) p e = absurd (cc (e))
+
+-- ---- the command that was read
+
+pub named : (r o : Option Command) (f c : Command) → r ≡ o → r ≡ Some f → f ≡ c → o ≡ Some c
+named r o f c e is i = sym e ∙ is ∙ ap (λ (d : Command). Some d) i

@@ -1,0 +1,72 @@
+//! The command `audit`.
+ghost use Rattle.std.specs.Prelude.{◌≡◌, ◌⊎◌, ◌≤◌, ◌*◌, ℕ, [], codes};
+ghost use Rattle.std.specs.Io.KnownBytes.{Appends};
+ghost use Rattle.disk_model.specs.Causes.{Rose};
+ghost use Rattle.core_store.specs.JournalView.{cells_of};
+ghost use Rattle.script_lines.specs.Output.{AppendsFront, EndsWith};
+ghost use Rattle.brahma_shell.specs.Ended.{disk_in};
+ghost use Rattle.brahma_shell.specs.Top.{audit_text, Unopened, Audited, outside};
+
+use crate::ended::Ended;
+use crate::refusing::refuse;
+use crate::status::{DONE, OUT_OF_MEMORY, WRITE_FAULT};
+use crate::store::Store;
+use disk_model::Disk;
+use outside_io::Sink;
+use script_lines::{audit_line, write_all, write_last};
+use std::alloc::Global;
+
+/// Counts all pointers of the store again, tells what it found, and answers the status.
+fn tell_audit<W: Sink, D: Disk>(alloc: Global, store: &Store<D>, out: &mut W) -> u8
+    ensures statuses { (result ≡ 0) ⊎ ((result ≡ 5) ⊎ (result ≡ 8)) }
+    ensures done { (pages : ℕ) → 8 * pages ≡ store.now.journal.history.ids → result ≡ 0
+        → Appends (W.written out.old) (W.written out.new) (audit_text (cells_of store.now.journal) pages) }
+    ensures write { (pages : ℕ) → 8 * pages ≡ store.now.journal.history.ids → result ≡ 5
+        → AppendsFront (W.written out.old) (W.written out.new) (audit_text (cells_of store.now.journal) pages)
+        × Rose (W.faults out.old) (W.faults out.new) }
+    ensures memory { result ≡ 8 → EndsWith (W.written out.old) (W.written out.new)
+        (W.faults out.old) (W.faults out.new) [] (codes "refused: memory\n") }
+    ensures later { W.faults out.old ≤ W.faults out.new }
+{
+    let Ok(report) = store.audit(alloc) else {
+        write_last(out, b"refused: memory\n");
+        return OUT_OF_MEMORY;
+    };
+    let line = audit_line(
+        store.pages() as u64,
+        u64::from(report.live),
+        u64::from(report.zero),
+        report.differences.items().len() as u64,
+    );
+    match write_all(out, line.as_str().as_bytes()) {
+        Ok(()) => DONE,
+        Err(_) => WRITE_FAULT,
+    }
+}
+
+/// Opens the store that the disk holds, audits it, and answers the status.
+pub(crate) fn audit_store<W: Sink, D: Disk>(alloc: Global, out: &mut W, disk: D) -> (u8, Ended<D>)
+    ensures audited { (left : _) (reads : ℕ) → Unopened D.content D.may_leave D.moment D.left_since disk
+        (outside left reads (W.written out.old) (W.faults out.old) (D.faults disk))
+        (outside left reads (W.written out.new) (W.faults out.new) (D.faults (disk_in result.1)))
+        result.0 result.1
+        ⊎ Audited D.content D.may_leave disk
+        (outside left reads (W.written out.old) (W.faults out.old) (D.faults disk))
+        (outside left reads (W.written out.new) (W.faults out.new) (D.faults (disk_in result.1)))
+        result.0 result.1 }
+    ensures statuses { (result.0 ≡ 0) ⊎ ((result.0 ≡ 5) ⊎ ((result.0 ≡ 6) ⊎ ((result.0 ≡ 7) ⊎ (result.0 ≡ 8)))) }
+    ensures out_later { W.faults out.old ≤ W.faults out.new }
+    ensures disk_later { D.faults disk ≤ D.faults (disk_in result.1) }
+{
+    match Store::open(alloc, disk) {
+        Ok(store) => {
+            // How many ids and pages there are, and what a power loss may leave: these calls hand the facts out.
+            let _ = store.ids();
+            let _ = store.pages();
+            let _ = store.history();
+            let status = tell_audit(alloc, &store, out);
+            (status, Ended::Kept(store.into_logged()))
+        }
+        Err((refusal, disk)) => (refuse(out, &refusal), Ended::Shut(disk)),
+    }
+}
