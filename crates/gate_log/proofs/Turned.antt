@@ -94,3 +94,15 @@ module _ {D : Type 0} (may_leave : D → Area → List ℕ → Type 0) where
         anew = anew (in_area image area) (now.others area (λ e. super_apart area is (sym e)));
         others = λ other apart named. kept other apart (in_area image other) (now.others other named);
       })
+
+  -- at each moment of a checkpoint the pages area is as before
+  pub pages_stay : (old : D) (area : Area) (first : List ℕ) → IsLogArea area → (image : Bytes) → IsAtCheckpoint may_leave old area first image → may_leave old Pages (in_area image Pages)
+  pages_stay old area first is image at = ⊎_elim (λ making. making.others Pages (pages_apart area is)) (λ naming. naming.others Pages (pages_apart area is) (λ e. not_super e)) at where
+    pages_apart : (area : Area) → IsLogArea area → Pages ≢ area
+    pages_apart LogA is e = cc
+    pages_apart LogB is e = cc
+    pages_apart Pages is e = is
+    pages_apart Super is e = is
+
+    not_super : Pages ≡ Super → ⊥
+    not_super e = cc

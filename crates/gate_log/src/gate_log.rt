@@ -1,5 +1,6 @@
 //! The log.
 ghost use Rattle.std.specs.Prelude.{◌≡◌, ◌↔◌, ◌⊎◌, ◌+◌, ◌<◌, ◌≤◌, ◌^◌, ◌++◌, ◌∷◌, [], ℕ, List, max, length, option_map, is_ok, if◌then◌else◌, None, IfOk, IfSome, IfErr, OnOk, IsOk, IsErrOf, ⊤};
+ghost use Rattle.disk_model.specs.Areas.{in_area};
 ghost use Rattle.disk_model.specs.Causes.{HasCause};
 ghost use Rattle.disk_model.specs.Changes.{written, Torn};
 ghost use Rattle.disk_model.specs.Told.{Keeps, KeepsAll, KeepsOthers, Follows, Leaves, IsImage, IsImageBut, EachImage};
@@ -209,10 +210,10 @@ impl GateLog {
     /// takes no memory.
     ///
     /// At `Ok` each image of the disk has the one batch, and what is forced from then on stands behind it.
-    /// At each moment of the call, whatever it answers, an image has it or the batches from before. The
-    /// old log area stays, and of the super area all but its first byte. [`LogRefusal::Disk`], the only
-    /// refusal, comes only where the disk's count of faults rose in this call; the log then has to be
-    /// read anew.
+    /// At each moment of the call, whatever it answers, an image has it or the batches from before, and the pages
+    /// area of an image from before. The old log area stays, and of the super area all but its first byte.
+    /// [`LogRefusal::Disk`], the only refusal, comes only where the disk's count of faults rose in this call; the
+    /// log then has to be read anew.
     pub fn turn<D: Disk>(&mut self, disk: &mut D, first: &[u8]) -> Result<(), LogRefusal>
         requires standing { self.old.stage ≡ Standing }
         requires empty { self.old.tail ≡ [] }
@@ -223,6 +224,7 @@ impl GateLog {
         ensures images { OnOk result (EachImage D.may_leave disk.new (HasLog (first.now ∷ []))) }
         ensures moments { (batches : List (List ℕ)) → IsOn D.may_leave self.old disk.old batches → used self.old ≤ most_bytes
             → LeavesOnlyImages D.moment D.left_since disk.old disk.new (HasEither batches (first.now ∷ [])) }
+        ensures in_place { LeavesOnlyImages D.moment D.left_since disk.old disk.new (λ image. D.may_leave disk.old Pages (in_area image Pages)) }
         ensures bytes { OnOk result (Leaves D.may_leave disk.new (other_log self.old.area) (λ c. c ≡ batch_bytes first.now ++ 0 ∷ [])) }
         ensures name { OnOk result (D.content disk.new Super
             ≡ option_map (written 0 (naming_byte (other_log self.old.area) ∷ [])) (D.content disk.old Super)) }

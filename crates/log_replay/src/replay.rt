@@ -1,14 +1,16 @@
 //! The replay of a log.
 
-ghost use Rattle.std.specs.Prelude.{◌≡◌, ◌≢◌, ◌↔◌, ◌+◌, ◌*◌, ◌<◌, ◌≤◌, [], true, Err, length, OnOk, OnErr, IfErr};
+ghost use Rattle.std.specs.Prelude.{◌≡◌, ◌≢◌, ◌↔◌, ◌+◌, ◌*◌, ◌<◌, ◌≤◌, [], true, Err, length, OnOk, OnErr};
 ghost use Rattle.cell_page.specs.Format.{IsSlotCount, IsPage};
 ghost use Rattle.cell_page.specs.Stored.{HoldsPage};
+ghost use Rattle.log_record.specs.declared.record.Record.TheVariants.{OfCells};
 ghost use Rattle.log_record.specs.Spelling.{HasSpelling, HasCellSpelling};
 ghost use Rattle.log_record.specs.Records.{record_of};
+ghost use Rattle.restart_laws.specs.Unended.{FitsUnended};
 ghost use Rattle.log_replay.specs.Inside.{cells_of_pages, AreStorePages};
 ghost use Rattle.log_replay.specs.Replays.{IsReplaying, IsWithin, is_skipped, NotesNothing, FitsUnskippedCells, FitsReplay, after_taking};
 ghost use Rattle.log_replay.specs.Steps.{FitsCell, changed_in, with_cells_after, taken_of_cells, taken_image};
-ghost use Rattle.log_replay.specs.declared.refusals.TakeRefusal.TheVariants.{Unfit, Memory};
+ghost use Rattle.log_replay.specs.declared.refusals.TakeRefusal.TheVariants.{Unfit};
 
 use crate::cell_steps;
 use crate::concerned::{concerned, is_within};
@@ -67,12 +69,12 @@ impl<const SLOTS: usize> Replay<SLOTS> {
         // `Unfit` is the answer exactly where the record doesn't fit.
         ensures unfit { (result ≢ Err Unfit) ↔ FitsReplay self.old rec.now }
     {
-        if !self.fits(rec) {
-            return Err(TakeRefusal::Unfit);
-        }
         match rec {
             Record::OfCells(r) => self.take_of_cells(r),
             Record::Image { page, cells } => {
+                if *page as usize >= self.skip.len() {
+                    return Err(TakeRefusal::Unfit);
+                }
                 self.take_image(*page, cells);
                 Ok(())
             }
@@ -80,18 +82,27 @@ impl<const SLOTS: usize> Replay<SLOTS> {
         }
     }
 
-    /// Whether the record fits.
-    fn fits(&self, rec: &Record<SLOTS>) -> bool
-        requires { HasSpelling rec.now }
-        ensures { (result ≡ true) ↔ FitsReplay self.now rec.now }
+    /// Takes the next record of the log, which is one of single cells, as [`Replay::take`] does.
+    pub fn take_of_cells(&mut self, r: &CellRecord) -> Result<(), TakeRefusal>
+        requires { HasCellSpelling SLOTS r.now }
+        ensures ok { OnOk result (self.new ≡ after_taking {slots = SLOTS} (OfCells r.now) self.old) }
+        ensures err { OnErr result (self.new ≡ self.old) }
+
+        // `Unfit` is the answer exactly where the record doesn't fit.
+        ensures unfit { (result ≢ Err Unfit) ↔ FitsReplay {slots = SLOTS} self.old (OfCells r.now) }
     {
-        match rec {
-            Record::OfCells(r) => is_within(r, self.ids())
-                && unended::fits(&self.unended, r)
-                && self.fits_cells(r),
-            Record::Image { page, .. } => (*page as usize) < self.skip.len(),
-            Record::Turn { .. } => true,
+        if !self.fits_store(r) {
+            return Err(TakeRefusal::Unfit);
         }
+        self.take_fitting(r)
+    }
+
+    /// Whether the record of single cells fits the pages and their cells.
+    fn fits_store(&self, r: &CellRecord) -> bool
+        requires { HasCellSpelling SLOTS r.now }
+        ensures { (result ≡ true) ↔ IsWithin (8 * length self.now.skips) r.now × FitsUnskippedCells self.now.skips self.now.cells (record_of r.now) }
+    {
+        is_within(r, self.ids()) && self.fits_cells(r)
     }
 
     /// The greatest id.
@@ -136,21 +147,25 @@ impl<const SLOTS: usize> Replay<SLOTS> {
         self.fits_cell(r, ids.own) & self.fits_cell(r, ids.from) & self.fits_cell(r, ids.to)
     }
 
-    /// Takes a record of single cells, which fits. Out of memory is its only error.
+    /// Takes a record of single cells, which fits the pages and their cells. An error changes nothing.
     #[tactic(auto, using(crate::proofs::PlacedLaws::placed_after))]
-    fn take_of_cells(&mut self, r: &CellRecord) -> Result<(), TakeRefusal>
+    fn take_fitting(&mut self, r: &CellRecord) -> Result<(), TakeRefusal>
         requires spelled { HasCellSpelling SLOTS r.now }
         requires within { IsWithin (8 * length self.old.skips) r.now }
         requires fits { FitsUnskippedCells self.old.skips self.old.cells (record_of r.now) }
         ensures ok { OnOk result (self.new ≡ taken_of_cells SLOTS (record_of r.now) self.old) }
         ensures err { OnErr result (self.new ≡ self.old) }
-        ensures memory { IfErr result (λ e. e ≡ Memory) }
+
+        // `Unfit` is the answer exactly where it doesn't fit the transactions.
+        ensures unfit { (result ≢ Err Unfit) ↔ FitsUnended self.old.unended (record_of r.now) }
     {
-        if unended::take(&mut self.unended, self.alloc, r).is_err() {
-            return Err(TakeRefusal::Memory);
+        match unended::take(&mut self.unended, self.alloc, r) {
+            Ok(()) => {
+                self.change_cells(r);
+                Ok(())
+            }
+            Err(refusal) => Err(refusal),
         }
-        self.change_cells(r);
-        Ok(())
     }
 
     /// Takes a record of single cells, which fits, and adds nothing to the transactions. It takes no memory.

@@ -1,11 +1,13 @@
 //! A transaction that hasn't ended, as the records of a log tell of it.
 
-ghost use Rattle.std.specs.Prelude.{◌≡◌, ◌↔◌, true, Some, None, [], IfNone, IfSome, OnOk, OnErr};
+ghost use Rattle.std.specs.Prelude.{◌≡◌, ◌≢◌, ◌↔◌, true, false, Some, None, Err, [], IfNone, IfSome, OnOk, OnErr};
 ghost use Rattle.std.specs.List.{last_or};
 ghost use Rattle.restart_laws.specs.Unended.{just_begun, with_change, without_change};
 ghost use Rattle.log_replay.specs.Steps.{change_by};
+ghost use Rattle.log_replay.specs.declared.refusals.TakeRefusal.TheVariants.{Unfit};
 
 use crate::Memory;
+use crate::refusals::TakeRefusal;
 use plain_model::Place;
 use std::alloc::Global;
 use std::marker::Model;
@@ -81,12 +83,27 @@ impl Transaction {
     }
 
     /// One write more. Out of memory is its only error.
-    pub(crate) fn note(&mut self, write: Write) -> Result<(), Memory>
+    fn note(&mut self, write: Write) -> Result<(), Memory>
         ensures ok { OnOk result (self.new ≡ with_change (change_by write) self.old) }
         ensures err { OnErr result (self.new ≡ self.old) }
     {
         self.changes.push(write)?;
         Ok(())
+    }
+
+    /// One write more, unless a write of it was undone. An error changes nothing.
+    pub(crate) fn note_if_running(&mut self, write: Write) -> Result<(), TakeRefusal>
+        ensures ok { OnOk result (self.new ≡ with_change (change_by write) self.old) }
+        ensures err { OnErr result (self.new ≡ self.old) }
+        ensures unfit { (result ≢ Err Unfit) ↔ (self.old.aborting ≡ false) }
+    {
+        if self.is_aborting() {
+            return Err(TakeRefusal::Unfit);
+        }
+        match self.note(write) {
+            Ok(()) => Ok(()),
+            Err(_) => Err(TakeRefusal::Memory),
+        }
     }
 
     /// The last write is undone.

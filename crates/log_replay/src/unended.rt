@@ -1,12 +1,15 @@
 //! The transactions that haven't ended, and which record fits them.
 
-ghost use Rattle.std.specs.Prelude.{◌≡◌, ◌≢◌, ◌↔◌, [], true, IfSome, IfNone, OnOk, OnErr};
-ghost use Rattle.restart_laws.specs.Unended.{unended_at, unended_after, changed_at, with_change, without_change, IsRunning, IsLastChange, IsAllUndone, FitsUnended};
+ghost use Rattle.std.specs.Prelude.{◌≡◌, ◌≢◌, ◌↔◌, [], true, None, Err, IfSome, IfNone, OnOk, OnErr};
+ghost use Rattle.std.specs.Ordering.{nat_cmp};
+ghost use Rattle.std.specs.BTreeMap.{insert_entry};
+ghost use Rattle.restart_laws.specs.Unended.{unended_at, unended_after, changed_at, just_begun, with_change, without_change, IsRunning, IsLastChange, IsAllUndone, FitsUnended};
 ghost use Rattle.log_record.specs.Records.{record_of};
 ghost use Rattle.log_replay.specs.Replays.{NotesNothing};
 ghost use Rattle.log_replay.specs.Steps.{change_by, place_of_byte, IsFirst};
+ghost use Rattle.log_replay.specs.declared.refusals.TakeRefusal.TheVariants.{Unfit};
 
-use crate::Memory;
+use crate::refusals::TakeRefusal;
 use crate::transaction::{Transaction, Write};
 use log_record::{CellRecord, PAYLOAD_PLACE};
 use plain_model::Place;
@@ -58,7 +61,7 @@ fn is_all_undone(unended: &UnendedMap, pass: u8) -> bool
 }
 
 /// Whether the record fits the transactions that haven't ended.
-pub(crate) fn fits(unended: &UnendedMap, r: &CellRecord) -> bool
+fn fits(unended: &UnendedMap, r: &CellRecord) -> bool
     ensures { (result ≡ true) ↔ FitsUnended unended.now.entries (record_of r.now) }
 {
     match *r {
@@ -88,14 +91,17 @@ pub(crate) fn fits(unended: &UnendedMap, r: &CellRecord) -> bool
     }
 }
 
-/// The client's transaction wrote once more. Out of memory is its only error, and changes nothing.
-fn note(unended: &mut UnendedMap, pass: u8, write: Write) -> Result<(), Memory>
+/// The client's transaction wrote once more. An error changes nothing.
+fn note(unended: &mut UnendedMap, pass: u8, write: Write) -> Result<(), TakeRefusal>
     ensures ok { OnOk result (unended.new.entries ≡ changed_at unended.old.entries pass (with_change (change_by write))) }
     ensures err { OnErr result (unended.new.entries ≡ unended.old.entries) }
+
+    // `Unfit` is the answer exactly where the client has no transaction, or one of which a write was undone.
+    ensures unfit { (result ≢ Err Unfit) ↔ IsRunning (unended_at unended.old.entries pass) }
 {
     match unended.get_mut(&pass) {
-        Some(transaction) => transaction.note(write),
-        None => Ok(()),
+        Some(transaction) => transaction.note_if_running(write),
+        None => Err(TakeRefusal::Unfit),
     }
 }
 
@@ -122,16 +128,37 @@ pub(crate) fn leave(unended: &mut UnendedMap, r: &CellRecord)
     }
 }
 
-/// The transactions after the record. Out of memory is its only error, and changes nothing.
-pub(crate) fn take(unended: &mut UnendedMap, alloc: Global, r: &CellRecord) -> Result<(), Memory>
+/// The client begins a transaction. An error changes nothing.
+fn begin(unended: &mut UnendedMap, alloc: Global, pass: u8) -> Result<(), TakeRefusal>
+    ensures ok { OnOk result (unended.new.entries ≡ insert_entry nat_cmp unended.old.entries pass just_begun) }
+    ensures err { OnErr result (unended.new.entries ≡ unended.old.entries) }
+
+    // `Unfit` is the answer exactly where the client has a transaction already.
+    ensures unfit { (result ≢ Err Unfit) ↔ (unended_at unended.old.entries pass ≡ None) }
+{
+    if unended.get(&pass).is_some() {
+        return Err(TakeRefusal::Unfit);
+    }
+    match unended.insert(pass, Transaction::new(alloc)) {
+        Ok(_) => Ok(()),
+        Err(_) => Err(TakeRefusal::Memory),
+    }
+}
+
+/// The transactions after the record. An error changes nothing.
+pub(crate) fn take(
+    unended: &mut UnendedMap,
+    alloc: Global,
+    r: &CellRecord,
+) -> Result<(), TakeRefusal>
     ensures ok { OnOk result (unended.new.entries ≡ unended_after unended.old.entries (record_of r.now)) }
     ensures err { OnErr result (unended.new.entries ≡ unended.old.entries) }
+
+    // `Unfit` is the answer exactly where the record doesn't fit them.
+    ensures unfit { (result ≢ Err Unfit) ↔ FitsUnended unended.old.entries (record_of r.now) }
 {
     match *r {
-        CellRecord::Begin { pass } => {
-            unended.insert(pass, Transaction::new(alloc))?;
-            Ok(())
-        }
+        CellRecord::Begin { pass } => begin(unended, alloc, pass),
         CellRecord::Store {
             pass,
             id,
@@ -163,6 +190,9 @@ pub(crate) fn take(unended: &mut UnendedMap, alloc: Global, r: &CellRecord) -> R
             note(unended, pass, write)
         }
         _ => {
+            if !fits(unended, r) {
+                return Err(TakeRefusal::Unfit);
+            }
             leave(unended, r);
             Ok(())
         }

@@ -24,6 +24,7 @@ use Rattle.log_record.specs.declared.record.Record.{Record}
 use Rattle.log_record.specs.declared.record.Record.TheVariants.{OfCells, Image, Turn}
 use Rattle.log_record.specs.Spelling.{record_bytes}
 use Rattle.page_area.specs.Place.{bytes_of_page}
+use Rattle.page_area.specs.InPlace.{HasCopy}
 use Rattle.page_area.proofs.InPlaceLaws.{torn_others}
 use Rattle.restart_laws.specs.Local.{is_in_page}
 use Rattle.restart_laws.specs.Unended.{Unended, unended_after, unended_after_all, AllFitUnended}
@@ -119,13 +120,17 @@ log_area (byte ∷ rest) Super image named = absurd (not_super (byte % 2 == 0) n
     not_super true e = cc
     not_super false e = cc
 
+-- bytes that stand in what an area is
+copy_there : (bytes area all : List ℕ) (image : Bytes) → (area ≡ image.log_a) ⊎ (area ≡ image.log_b) → area ≡ all → Has bytes all → HasCopy bytes image
+copy_there bytes area all image of_log is has = record { area = area; of_log = of_log; front = has.front; back = has.back; are = is ∙ has.are }
+
 -- the last image of a page in a log has the page's bytes
 pub copied : CopyLaw
 copied slots pages page image area batches held named log is =
     let first : List ℕ = body_of (first_records slots pages) in
     let found = ⊎_elim (λ (e : None ≡ Some held). absurd (cc)) (λ h. h) (image_in_batches page batches None held is) in
-    let all = has_before (page_bytes held) (batches_bytes (first ∷ bodies_of batches)) (log.commit_byte ∷ log.rest) (has_behind (page_bytes held) (batch_bytes first) (batches_bytes (bodies_of batches)) found) in
-    record { area = in_area image area; of_log = log_area image.super_area area image named; front = all.front; back = all.back; are = log.are ∙ all.are }
+    copy_there (page_bytes held) (in_area image area) (batches_bytes (first ∷ bodies_of batches) ++ log.commit_byte ∷ log.rest) image (log_area image.super_area area image named) log.are
+    (has_before (page_bytes held) (batches_bytes (first ∷ bodies_of batches)) (log.commit_byte ∷ log.rest) (has_behind (page_bytes held) (batch_bytes first) (batches_bytes (bodies_of batches)) found))
 
 -- ---- a page that is spelled in place
 

@@ -11,7 +11,7 @@ use Rattle.opened_images.specs.GoesOn.{logged_records, stored_records, in_parts,
 -- ---- the records of the parts
 
 -- the records that the events of two lists logged are those of the first, and behind them those of the second
-logged_append : {slots : ℕ} (rs ss : List (Option CellRecord)) → logged_records {slots = slots} (rs ++ ss) ≡ logged_records rs ++ logged_records ss
+pub logged_append : {slots : ℕ} (rs ss : List (Option CellRecord)) → logged_records {slots = slots} (rs ++ ss) ≡ logged_records rs ++ logged_records ss
 logged_append [] ss = refl
 logged_append {slots} (Some r ∷ rs) ss = ap (λ (l : List (Record slots)). OfCells r ∷ l) (logged_append rs ss)
 logged_append (None ∷ rs) ss = logged_append rs ss

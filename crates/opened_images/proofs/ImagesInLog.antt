@@ -1,5 +1,5 @@
 -- The records of a log that has images of pages among what events logged.
-use Rattle.std.proofs.Common.{◌≡◌, ℕ, ◌<◌, ◌≤◌, Bool, true, false, List, [], ◌∷◌, ◌++◌, Option, Some, None, refl, sym, ap, ◌∙◌, arith}
+use Rattle.std.proofs.Common.{◌≡◌, ℕ, ◌*◌, ◌+◌, ◌<◌, ◌≤◌, Bool, true, false, List, [], ◌∷◌, ◌++◌, Option, Some, None, refl, sym, ap, ◌∙◌, arith, length}
 use Rattle.std.specs.Prelude.{◌||◌}
 use Rattle.std.proofs.lemmas.Grind.{flat_map-append}
 use Rattle.cell_model.specs.Cells.{Cell}
@@ -8,12 +8,14 @@ use Rattle.log_record.specs.declared.cell_record.CellRecord.{CellRecord}
 use Rattle.log_record.specs.declared.record.Record.{Record}
 use Rattle.log_record.specs.declared.record.Record.TheVariants.{OfCells, Image, Turn}
 use Rattle.log_record.specs.Records.{record_of}
+use Rattle.log_record.proofs.ReadLaws.{first_byte}
 use Rattle.restart_laws.specs.Local.{is_in_page, has_image, records_in}
 use Rattle.restart_laws.specs.Unended.{Unended, unended_after}
-use Rattle.opened_images.specs.LogRecords.{all_of, HaveSpellings, unended_by_all, AllFitLog}
+use Rattle.opened_images.specs.LogRecords.{body_of, all_of, HaveSpellings, unended_by_all, AllFitLog}
 use Rattle.opened_images.specs.Replayed.{items_of}
 use Rattle.opened_images.specs.GoesOn.{logged_records, stored_records}
-use Rattle.opened_images.specs.WithImages.{without_images, AreOfEvents, HaveImages}
+use Rattle.opened_images.proofs.GoesOnLog.{logged_append}
+use Rattle.opened_images.specs.WithImages.{without_images, AreOfEvents, HaveImages, AreSamePages}
 
 -- the records of some batches, and of others behind them
 pub all_both : {slots : ℕ} (earlier later : List (List (Record slots))) → all_of (earlier ++ later) ≡ all_of earlier ++ all_of later
@@ -107,3 +109,43 @@ pub logged_images : (slots pages : ℕ) (cells : List Cell) (events : List (Opti
 logged_images slots pages cells [] = tt
 logged_images slots pages cells (Some r ∷ events) = logged_images slots pages (after_record slots cells (record_of r)) events
 logged_images slots pages cells (None ∷ events) = logged_images slots pages cells events
+
+-- ---- one list behind another
+
+-- the records without images
+pub without_both : {slots : ℕ} (rs ss : List (Record slots)) → without_images (rs ++ ss) ≡ without_images rs ++ without_images ss
+without_both [] ss = refl
+without_both {slots} (OfCells r ∷ rs) ss = ap (λ (l : List (Record slots)). OfCells r ∷ l) (without_both rs ss)
+without_both (Image page held ∷ rs) ss = without_both rs ss
+without_both {slots} (Turn version count ∷ rs) ss = ap (λ (l : List (Record slots)). Turn version count ∷ l) (without_both rs ss)
+
+-- are what events logged, and later ones
+pub of_events_both : {slots : ℕ} (events more : List (Option CellRecord)) (rs ss : List (Record slots)) → AreOfEvents events rs → AreOfEvents more ss → AreOfEvents (events ++ more) (rs ++ ss)
+of_events_both {slots} events more rs ss e f =
+    without_both rs ss ∙ ap (λ (l : List (Record slots)). l ++ without_images ss) e ∙ ap (λ (l : List (Record slots)). logged_records events ++ l) f ∙ sym (logged_append events more)
+
+-- the cells after the records are those after the events
+pub cells_are_of_events : {slots : ℕ} (events : List (Option CellRecord)) (rs : List (Record slots)) (cells : List Cell) → AreOfEvents events rs → cells_after slots cells (records_in (items_of rs)) ≡ cells_after slots cells (stored_records events)
+cells_are_of_events {slots} events rs cells e =
+    ap (λ (l : List (Option StoredRecord)). cells_after slots cells l) (records_of_events events rs e) ∙ cells_of_events slots events cells
+
+-- images of the cells as they are there, and later ones
+pub images_both : {slots : ℕ} (pages : ℕ) (cells : List Cell) (rs ss : List (Record slots)) → HaveImages pages cells rs → HaveImages pages (cells_after slots cells (records_in (items_of rs))) ss → HaveImages pages cells (rs ++ ss)
+images_both pages cells [] ss h more = more
+images_both {slots} pages cells (OfCells r ∷ rs) ss h more = images_both pages (after_record slots cells (record_of r)) rs ss h more
+images_both pages cells (Image page held ∷ rs) ss h more = (h.0, h.1, h.2, images_both pages cells rs ss h.3 more)
+images_both pages cells (Turn version count ∷ rs) ss h more = images_both pages cells rs ss h more
+
+-- pages without an image among more records
+pub same_pages_more : {slots : ℕ} (pages : ℕ) (rs ss : List (Record slots)) (before area : List ℕ) → AreSamePages pages rs before area → AreSamePages pages (rs ++ ss) before area
+same_pages_more pages rs ss before area same page low none = same page low (no_image_of_both (8 * page + 1) rs ss none).0
+
+-- records without bytes are none
+pub no_bytes_no_records : {slots : ℕ} (rs : List (Record slots)) → body_of rs ≡ [] → rs ≡ []
+no_bytes_no_records [] e = refl
+no_bytes_no_records {slots} (OfCells r ∷ rs) e =
+    let some = (first_byte r (body_of rs)).1 in
+    let none = ap (λ (l : List ℕ). length l) e in
+    absurd (omega (arith, some, none))
+no_bytes_no_records (Image page held ∷ rs) e = absurd (cc)
+no_bytes_no_records (Turn version count ∷ rs) e = absurd (cc)

@@ -14,7 +14,7 @@ use Rattle.log_record.specs.declared.record.Record.{Record}
 use Rattle.log_record.specs.declared.record.Record.TheVariants.{OfCells, Image}
 use Rattle.log_record.specs.Spelling.{cell_record_bytes}
 use Rattle.log_record.specs.Reading.{fields_in}
-use Rattle.log_record.proofs.ReadLaws.{of_fields, none_of_fields}
+use Rattle.log_record.proofs.ReadLaws.{of_fields, none_of_fields, only_of_cells}
 use Rattle.restart_laws.specs.Local.{is_in_page}
 use Rattle.restart_laws.specs.Restored.{opened}
 use Rattle.restart_laws.proofs.RuleLaws.{consistent-rules}
@@ -53,7 +53,7 @@ no_batches = record { some = lit≤ tt; few = lit≤ tt; bodies = tt; spelled = 
 -- no record begins a lone 3
 lone_3 : HasNoNext 6 1 [] (3 ∷ [])
 unfolding fields_in
-lone_3 r len begins fits = none_of_fields {slots = 6} (3 ∷ []) 3 len refl (of_fields (3 ∷ []) 3 r len refl (λ e. not_13 e) (λ e. not_14 e) begins)
+lone_3 r len begins fits = only_of_cells (3 ∷ []) (λ e. not_13 e) (λ e. not_14 e) (λ cells n b. none_of_fields {slots = 6} (3 ∷ []) 3 n refl (of_fields (3 ∷ []) cells n b)) r len begins
   where
     not_13 : ◌≡◌ {A = ℕ} 3 13 → ⊥
     not_13 e = omega arith

@@ -12,12 +12,18 @@ use Rattle.gate_log.specs.State.{LogState, reach}
 use Rattle.gate_log.specs.OnDisk.{IsOn, with_batch}
 use Rattle.gate_log.proofs.OneReading.{one_reading}
 use Rattle.log_replay.specs.Replays.{Replaying}
-use Rattle.opened_images.specs.GoesOn.{IsEndedLog, IsBegun}
-use Rattle.opened_images.specs.LogRecords.{body_of, bodies_of, first_records}
+use Rattle.opened_images.specs.GoesOn.{IsEndedLog}
+use Rattle.opened_images.specs.LogRecords.{body_of, bodies_of, all_of, first_records, HaveSpellings}
+use Rattle.log_record.specs.declared.record.Record.{Record}
+use Rattle.page_marks.specs.declared.marks.PageMark.{PageMark}
+use Rattle.page_marks.specs.Marks.{AreMarks, IsMarkedBegun}
+use Rattle.store_opening.proofs.FoundLaws.{few_records}
+use Rattle.std.proofs.lemmas.List.{append-nil}
+use Rattle.std.proofs.lemmas.Grind.{flat_map-append}
 use Rattle.restart_laws.specs.Restored.{restored}
 use Rattle.restart_laws.specs.Unended.{Unended}
 use Rattle.store_opening.specs.Store.{Reads, AreCellsFound}
-use Rattle.store_undo.specs.Undone.{IsUndone}
+use Rattle.store_undo.specs.Undone.{IsUndoneWithMarks}
 use Rattle.opened_store.proofs.OpenLaws.{bodies-behind, ended-behind, ended-before}
 use Rattle.opened_store.proofs.RoomLaws.{undo_size, undo-sized-all}
 
@@ -70,24 +76,41 @@ nothing-left : (us : List (ℕ × Unended)) → undo_size us ≡ 0 → us ≡ []
 nothing-left [] e = refl
 nothing-left (u ∷ us) e = absurd (omega (arith, e))
 
+-- records without bytes are none
+no-records : {slots : ℕ} (rs : List (Record slots)) → HaveSpellings rs → body_of rs ≡ [] → rs ≡ []
+no-records [] spelled e = refl
+no-records (r ∷ rs) spelled e = absurd (omega (arith, few_records (r ∷ rs) spelled, ap length e))
+
 -- the batches behind which the undo stands, and those with it
-pub begun-after : {D : Type 0} (may_leave : D → Area → List ℕ → Type 0) (slots : ℕ) (image : Bytes) (v w : Replaying) (log : LogState) (disk : D) (bytes : List ℕ) (ids : ℕ) (f : AreCellsFound may_leave slots image v log disk) → AreConsistent slots ids v.cells
-    → IsUndone slots v bytes w → AreBodies (with_batch (body_of (first_records slots f.count) ∷ bodies_of f.batches) bytes)
-    → IsBegun slots (length w.skips) image.pages (with_batch (body_of (first_records slots f.count) ∷ bodies_of f.batches) bytes) w.cells
-begun-after may_leave slots image v w log disk bytes ids f k u formed =
-    subst (λ (n : ℕ). IsBegun slots n image.pages (with_batch first bytes) w.cells) (sym (ap (λ (l : List ℕ). length l) u.skips ∙ f.replayed.long)) (by bytes u formed)
+pub begun-after : {D : Type 0} (may_leave : D → Area → List ℕ → Type 0) (slots : ℕ) (image : Bytes) (v w : Replaying) (before now : List PageMark) (log : LogState) (disk : D) (bytes : List ℕ) (ids : ℕ) (f : AreCellsFound may_leave slots image v before log disk)
+    → AreConsistent slots ids v.cells → IsUndoneWithMarks slots v bytes w before now → AreBodies (with_batch (body_of (first_records slots f.count) ∷ bodies_of f.batches) bytes)
+    → IsMarkedBegun slots (length w.skips) image.pages (with_batch (body_of (first_records slots f.count) ∷ bodies_of f.batches) bytes) w.cells now
+begun-after may_leave slots image v w before now log disk bytes ids f k undone formed =
+    subst (λ (n : ℕ). IsMarkedBegun slots n image.pages (with_batch first bytes) w.cells now) (sym (ap (λ (l : List ℕ). length l) undone.0.skips ∙ f.replayed.long)) (by bytes undone formed)
   where
     first : List (List ℕ)
     first = body_of (first_records slots f.count) ∷ bodies_of f.batches
 
-    by : (bytes : List ℕ) → IsUndone slots v bytes w → AreBodies (with_batch first bytes) → IsBegun slots f.count image.pages (with_batch first bytes) w.cells
-    by [] u formed =
+    by : (bytes : List ℕ) → IsUndoneWithMarks slots v bytes w before now → AreBodies (with_batch first bytes) → IsMarkedBegun slots f.count image.pages (with_batch first bytes) w.cells now
+    by [] undone formed =
+        let u = undone.0 in
         let size = undo-sized-all v w u.records [] u.finishes u.none u.are in
         let none : v.unended ≡ [] = nothing-left v.unended (sym size) in
         let same : w.cells ≡ v.cells = u.cells ∙ ap (λ us. restored slots v.cells us) none in
-        (f.batches, refl, subst (λ (cs : List Cell). IsEndedLog f.count image.pages f.batches cs) (sym same) (ended-before slots image log.area f.count f.batches v ids f.replayed k none))
-    by (byte ∷ more) u formed = (
-      f.batches ++ u.records ∷ [],
-      ap (λ (l : List (List ℕ)). body_of (first_records slots f.count) ∷ l) (sym (bodies-behind f.batches u.records (byte ∷ more) u.are)),
-      ended-behind slots image log.area f.count f.batches v w (byte ∷ more) f.replayed u formed.1,
-    )
+        let records : all_of f.batches ++ u.records ≡ all_of f.batches = ap (λ (rs : List (Record slots)). all_of f.batches ++ rs) (no-records u.records u.spelled (sym u.are)) ∙ append-nil (all_of f.batches) in
+        record {
+          begun = (f.batches, refl, subst (λ (cs : List Cell). IsEndedLog f.count image.pages f.batches cs) (sym same) (ended-before slots image log.area f.count f.batches v ids f.replayed k none));
+          marked = subst (λ (rs : List (Record slots)). AreMarks rs now) records (undone.1.more (all_of f.batches) f.marked);
+        }
+    by (byte ∷ more) undone formed =
+        let u = undone.0 in
+        let records : all_of (f.batches ++ u.records ∷ []) ≡ all_of f.batches ++ u.records =
+        flat_map-append (λ (b : List (Record slots)). b) f.batches (u.records ∷ []) ∙ ap (λ (rs : List (Record slots)). all_of f.batches ++ rs) (append-nil u.records) in
+        record {
+          begun = (
+            f.batches ++ u.records ∷ [],
+            ap (λ (l : List (List ℕ)). body_of (first_records slots f.count) ∷ l) (sym (bodies-behind f.batches u.records (byte ∷ more) u.are)),
+            ended-behind slots image log.area f.count f.batches v w (byte ∷ more) f.replayed u formed.1,
+          );
+          marked = subst (λ (rs : List (Record slots)). AreMarks rs now) (sym records) (undone.1.more (all_of f.batches) f.marked);
+        }

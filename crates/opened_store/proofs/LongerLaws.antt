@@ -21,7 +21,9 @@ use Rattle.log_record.specs.Records.{record_of}
 use Rattle.page_area.specs.Place.{bytes_of_page}
 use Rattle.opened_images.specs.LogRecords.{all_of, IsRecordLog}
 use Rattle.opened_images.specs.Replayed.{items_of, cell_in_place, cell_after, cells_of_log, IsDamagedPage, FitsCellsOf, AllFitCells}
-use Rattle.opened_images.specs.GoesOn.{IsEndedLog, IsBegun}
+use Rattle.opened_images.specs.GoesOn.{IsEndedLog}
+use Rattle.page_marks.specs.declared.marks.PageMark.{PageMark}
+use Rattle.page_marks.specs.Marks.{IsMarkedBegun}
 use Rattle.opened_images.specs.Opened.{no_store, damaged_log, unknown_version, damaged_page, unfit, unsound, stuck, opens, AreCellsRead}
 use Rattle.restart_laws.specs.Local.{Item, OfCells as CellsItem, Image as ImageItem, is_in_page, cell_in, effect, FitsAt, has_image, replayed}
 use Rattle.opened_store.specs.Longer.{LongerPagesLaw}
@@ -233,5 +235,5 @@ ended-longer {slots} count area rest batches cells e = record {
 }
 
 -- what has begun on a pages area has begun on a longer one
-pub begun-longer : (slots count : ℕ) (area rest : List ℕ) (batches : List (List ℕ)) (cells : List Cell) → IsBegun slots count area batches cells → IsBegun slots count (area ++ rest) batches cells
-begun-longer slots count area rest batches cells b = (b.0, b.1, ended-longer count area rest b.0 cells b.2)
+pub begun-longer : (slots count : ℕ) (area rest : List ℕ) (batches : List (List ℕ)) (cells : List Cell) (marks : List PageMark) → IsMarkedBegun slots count area batches cells marks → IsMarkedBegun slots count (area ++ rest) batches cells marks
+begun-longer slots count area rest batches cells marks b = record { begun = (b.begun.0, b.begun.1, ended-longer count area rest b.begun.0 cells b.begun.2); marked = b.marked }

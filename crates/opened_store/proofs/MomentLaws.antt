@@ -16,6 +16,7 @@ use Rattle.log_replay.specs.Replays.{Replaying}
 use Rattle.opened_images.specs.LogRecords.{body_of, bodies_of, first_records}
 use Rattle.opened_images.specs.Opened.{Outcome, Opened, OpensTo}
 use Rattle.opened_images.proofs.OneOutcome.{one_outcome}
+use Rattle.page_marks.specs.declared.marks.PageMark.{PageMark}
 use Rattle.store_opening.specs.Store.{AreCellsFound}
 use Rattle.store_undo.specs.Undone.{IsUndone}
 use Rattle.opened_store.proofs.OpenLaws.{opens-before, opens-after, opens-itself, pages-apart, same-pages}
@@ -44,12 +45,12 @@ super-apart : (area : Area) → IsLogArea area → Super ≢ area
 super-apart area is e = subst IsLogArea (sym e) is
 
 -- an image at such a moment opens to the cells
-pub moment-opens : {D : Type 0} (content : D → Area → Option (List ℕ)) (may_leave : D → Area → List ℕ → Type 0) (slots : ℕ) (image : Bytes) (cells : List Cell) (v w : Replaying) (log : LogState) (disk before : D) (bytes : List ℕ) (ids : ℕ)
-    → IsSlotCount slots → (f : AreCellsFound may_leave slots image v log disk) → AreConsistent slots ids v.cells → IsUndone slots v bytes w → Opened slots image (OpensTo cells)
+pub moment-opens : {D : Type 0} (content : D → Area → Option (List ℕ)) (may_leave : D → Area → List ℕ → Type 0) (slots : ℕ) (image : Bytes) (cells : List Cell) (v w : Replaying) (marks : List PageMark) (log : LogState) (disk before : D) (bytes : List ℕ) (ids : ℕ)
+    → IsSlotCount slots → (f : AreCellsFound may_leave slots image v marks log disk) → AreConsistent slots ids v.cells → IsUndone slots v bytes w → Opened slots image (OpensTo cells)
     → ((area : Area) → IsSettled content may_leave disk area) → content disk Pages ≡ content before Pages → content before Pages ≡ Some image.pages
     → (other : Bytes) → HasEither (body_of (first_records slots f.count) ∷ bodies_of f.batches) (with_batch (body_of (first_records slots f.count) ∷ bodies_of f.batches) bytes) other → IsImageBut may_leave disk log.area (λ _. ⊤) other
     → Opened slots other (OpensTo cells)
-moment-opens content may_leave slots image cells v w log disk before bytes ids known f k u opened settled same reads other either but =
+moment-opens content may_leave slots image cells v w marks log disk before bytes ids known f k u opened settled same reads other either but =
     subst (λ (cs : List Cell). Opened slots other (OpensTo cs)) (sym is) (by either)
   where
     is : cells ≡ w.cells

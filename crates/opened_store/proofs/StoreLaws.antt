@@ -1,5 +1,5 @@
 -- A store whose pages area was lengthened.
-use Rattle.std.proofs.Common.{◌≡◌, ◌≢◌, ℕ, ◌⊎◌, inr, List, Option, Some, None, refl, sym, ◌∙◌, subst}
+use Rattle.std.proofs.Common.{◌≡◌, ◌≢◌, ℕ, ◌≤◌, ◌⊎◌, inr, length, List, Option, Some, None, refl, sym, ◌∙◌, subst}
 use Rattle.std.specs.Prelude.{IfSome, IsSome, option_map}
 use Rattle.cell_model.specs.Cells.{Cell}
 use Rattle.disk_model.specs.declared.area.Area.{Area}
@@ -13,7 +13,8 @@ use Rattle.opened_images.proofs.OneOutcome.{one_outcome}
 use Rattle.opened_store.proofs.MomentLaws.{same-cells}
 use Rattle.gate_log.specs.State.{LogState}
 use Rattle.gate_log.specs.OnDisk.{IsOn}
-use Rattle.opened_images.specs.GoesOn.{IsBegun}
+use Rattle.page_marks.specs.declared.marks.PageMark.{PageMark}
+use Rattle.page_marks.specs.Marks.{IsMarkedBegun}
 use Rattle.opened_images.specs.Opened.{Opened, OpensTo}
 use Rattle.page_lengths.specs.Lengths.{Extends, lengthened}
 use Rattle.store_opening.specs.Store.{Reads}
@@ -74,11 +75,17 @@ module _ {D : Type 0} (content : D → Area → Option (List ℕ)) (may_leave : 
       (λ other but. inr (subst (λ (cs : List Cell). Opened slots other (OpensTo cs)) same (opens-longer stays slots mid image.pages found other told each but))) run next
 
   -- whatever a power loss leaves in the pages area, a journal goes on from it
-  pub begun-left : ((disk : D) (area other : Area) → IfSome (content disk area) (λ _. IsSome (content disk other))) → (slots count wanted : ℕ) (before mid now : D) (batches : List (List ℕ)) (cells : List Cell) → Keeps content may_leave before mid Pages
+  pub begun-left : (marks : List PageMark) → ((disk : D) (area other : Area) → IfSome (content disk area) (λ _. IsSome (content disk other))) → (slots count wanted : ℕ) (before mid now : D) (batches : List (List ℕ)) (cells : List Cell) → Keeps content may_leave before mid Pages
       → content now Pages ≡ option_map (lengthened wanted) (content mid Pages) → IsSettled content may_leave now Pages
-      → ((image : Bytes) → Reads content before image → IsBegun slots count image.pages batches cells) → Leaves may_leave now Pages (λ area. IsBegun slots count area batches cells)
-  begun-left told slots count wanted before mid now batches cells keeps bytes settled begun area may =
+      → ((image : Bytes) → Reads content before image → IsMarkedBegun slots count image.pages batches cells marks) → Leaves may_leave now Pages (λ area. IsMarkedBegun slots count area batches cells marks)
+  begun-left marks told slots count wanted before mid now batches cells keeps bytes settled begun area may =
       let was = was-some (lengthened wanted) (content mid Pages) area (sym bytes ∙ settled area may) in
       let there = told-image content told before was.0 (sym keeps.same ∙ was.1) in
-      let first = subst (λ (c : List ℕ). IsBegun slots count c batches cells) there.1 (begun there.0 there.2) in
-      subst (λ (c : List ℕ). IsBegun slots count c batches cells) (sym was.2) (begun-longer slots count was.0 _ batches cells first)
+      let first = subst (λ (c : List ℕ). IsMarkedBegun slots count c batches cells marks) there.1 (begun there.0 there.2) in
+      subst (λ (c : List ℕ). IsMarkedBegun slots count c batches cells marks) (sym was.2) (begun-longer slots count was.0 _ batches cells marks first)
+
+  -- what the disk reads there has so many bytes, and that is what a power loss leaves
+  pub long-left : (wanted bytes : ℕ) (now : D) → bytes ≡ wanted → IfSome (content now Pages) (λ (c : List ℕ). bytes ≤ length c) → IsSettled content may_leave now Pages
+      → Leaves may_leave now Pages (λ area. wanted ≤ length area)
+  long-left wanted bytes now same long settled area may =
+      subst (λ (n : ℕ). n ≤ length area) same (subst (λ (o : Option (List ℕ)). IfSome o (λ (c : List ℕ). bytes ≤ length c)) (settled area may) long)

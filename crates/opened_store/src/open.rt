@@ -13,8 +13,8 @@ ghost use Rattle.gate_log.specs.Batches.{most_bytes};
 ghost use Rattle.gate_log.specs.declared.stage.Stage.TheVariants.{Standing};
 ghost use Rattle.gate_log.specs.State.{used};
 ghost use Rattle.gate_log.specs.OnDisk.{IsOn};
-ghost use Rattle.opened_images.specs.GoesOn.{IsBegun};
 ghost use Rattle.opened_images.specs.Opened.{Opened, OpensTo};
+ghost use Rattle.page_marks.specs.Marks.{IsMarkedBegun};
 ghost use Rattle.store_opening.specs.Looks.{IsLookedAt};
 ghost use Rattle.store_opening.specs.Store.{Reads, Refuses, HasOpenCause};
 
@@ -47,7 +47,8 @@ pub(crate) fn open_cells<D: Disk, const SLOTS: usize>(
         → LeavesOnlyImages D.moment D.left_since disk.old disk.new (λ other. IsImage D.may_leave disk.old other ⊎ Opened SLOTS other (OpensTo cells)) }
     ensures bounded { IfOk result (λ found. used found.log ≤ most_bytes) }
     ensures begun { IfOk result (λ found. (batches : List (List ℕ)) × IsOn D.may_leave found.log disk.new batches
-        × ((image : Bytes) → Reads D.content disk.old image → IsBegun SLOTS (length found.replay.skips) image.pages batches found.replay.cells)) }
+        × ((image : Bytes) → Reads D.content disk.old image → IsMarkedBegun SLOTS (length found.replay.skips) image.pages batches found.replay.cells found.marks)) }
+    ensures marked { IfOk result (λ found. length found.marks ≡ length found.replay.skips) }
     ensures settled { OnOk result (IsSettled D.content D.may_leave disk.new Pages) }
     ensures pages { Keeps D.content D.may_leave disk.old disk.new Pages }
     ensures unwritten { IfErr result (λ e. IsLate e ⊎ IsLookedAt D.content D.may_leave D.moment D.left_since disk.old disk.new) }
@@ -61,13 +62,14 @@ pub(crate) fn open_cells<D: Disk, const SLOTS: usize>(
     let ReplayedLog {
         mut replay,
         mut log,
+        mut marks,
     } = found;
-    let bytes = match restart(alloc, &mut replay) {
+    let bytes = match restart(alloc, &mut replay, &mut marks) {
         Ok(bytes) => bytes,
         Err(refusal) => return Err(refusal),
     };
     match force_undo(&mut log, disk, &bytes) {
-        Ok(()) => Ok(ReplayedLog { replay, log }),
+        Ok(()) => Ok(ReplayedLog { replay, log, marks }),
         Err(refusal) => Err(refusal),
     }
 }

@@ -11,10 +11,10 @@ ghost use Rattle.gate_log.specs.Batches.{most_bytes};
 ghost use Rattle.gate_log.specs.declared.stage.Stage.TheVariants.{Standing};
 ghost use Rattle.gate_log.specs.State.{used};
 ghost use Rattle.gate_log.specs.OnDisk.{IsOn};
-ghost use Rattle.opened_images.specs.GoesOn.{IsBegun};
 ghost use Rattle.opened_images.specs.Opened.{Opened, OpensTo};
 ghost use Rattle.opened_store.specs.Steps.{IsLate};
 ghost use Rattle.opened_store.specs.Unopened.{OnlyLooksUnlessOpen};
+ghost use Rattle.page_marks.specs.Marks.{IsMarkedBegun};
 ghost use Rattle.page_lengths.specs.Lengths.{lengthened};
 ghost use Rattle.store_opening.specs.Looks.{IsLookedAt};
 ghost use Rattle.store_opening.specs.Store.{Reads, Refuses, HasOpenCause};
@@ -49,7 +49,7 @@ fn pages_len<const SLOTS: usize>(replay: &Replay<SLOTS>) -> u64
 /// [`OpenRefusal::Memory`] comes for want of memory, or of room in the log area for the undo and what begins a further batch.
 ///
 /// What the disk then holds is what a journal goes on from: the log stands with its first batch and batches that have ended,
-/// which make these cells.
+/// which make these cells, and the marks are those of their records. The pages area has the bytes of all pages.
 pub fn open_store<D: Disk, const SLOTS: usize>(
     alloc: Global,
     disk: &mut D,
@@ -63,7 +63,9 @@ pub fn open_store<D: Disk, const SLOTS: usize>(
     ensures stands { IfOk result (λ found. (found.log.stage ≡ Standing) × (found.log.tail ≡ [])) }
     ensures on { IfOk result (λ found. (batches : List (List ℕ)) × IsOn D.may_leave found.log disk.new batches) }
     ensures begun { IfOk result (λ found. (batches : List (List ℕ)) × IsOn D.may_leave found.log disk.new batches
-        × Leaves D.may_leave disk.new Pages (λ area. IsBegun SLOTS (length found.replay.skips) area batches found.replay.cells)) }
+        × Leaves D.may_leave disk.new Pages (λ area. IsMarkedBegun SLOTS (length found.replay.skips) area batches found.replay.cells found.marks)) }
+    ensures marked { IfOk result (λ found. length found.marks ≡ length found.replay.skips) }
+    ensures long { IfOk result (λ found. Leaves D.may_leave disk.new Pages (λ area. page_size SLOTS * length found.replay.skips ≤ length area)) }
     ensures pages { IfOk result (λ found. D.content disk.new Pages ≡ option_map (lengthened (page_size SLOTS * length found.replay.skips)) (D.content disk.old Pages)) }
     ensures long_enough { IfOk result (λ found. (area : List ℕ) → D.content disk.old Pages ≡ Some area → page_size SLOTS * length found.replay.skips ≤ length area
         → Keeps D.content D.may_leave disk.old disk.new Pages) }

@@ -6,9 +6,10 @@ ghost use Rattle.disk_model.specs.Areas.{Bytes};
 ghost use Rattle.log_replay.specs.Finishes.{AreNoneAwaited};
 ghost use Rattle.opened_store.specs.Steps.{IsStoreOf, IsNoDisk};
 ghost use Rattle.store_opening.specs.Store.{Refuses};
-ghost use Rattle.store_undo.specs.Undone.{IsUndone};
+ghost use Rattle.store_undo.specs.Undone.{IsUndone, IsUndoneWithMarks};
 
 use log_replay::Replay;
+use page_marks::PageMarks;
 use std::alloc::Global;
 use store_opening::OpenRefusal;
 use store_rules::first_broken;
@@ -36,38 +37,44 @@ pub fn test_rules<const SLOTS: usize>(
     }
 }
 
-/// Undoes what has not ended, and answers the records of it as bytes.
+/// Undoes what has not ended, and answers the records of it as bytes. The marks of the pages follow these records.
 ///
 /// Of an image for which the replay stands, a refusal but [`OpenRefusal::Memory`] is what it opens to.
 pub fn undo<const SLOTS: usize>(
     alloc: Global,
     replay: &mut Replay<SLOTS>,
+    marks: &mut PageMarks,
 ) -> Result<Vec<u8>, OpenRefusal>
     requires size { IsSlotCount SLOTS }
     requires skips { AreNoneAwaited replay.old.skips }
     requires rules { AreConsistent SLOTS (8 * length replay.old.skips) replay.old.cells }
+    requires as_many { length marks.old ≡ length replay.old.skips }
     ensures done { IfOk result (λ bytes. IsUndone SLOTS replay.old bytes.items replay.new) }
+    ensures marked { IfOk result (λ bytes. IsUndoneWithMarks SLOTS replay.old bytes.items replay.new marks.old marks.new) }
     ensures refused { (image : Bytes) → IsStoreOf SLOTS image replay.old → IfErr result (Refuses SLOTS image) }
     ensures no_disk { IfErr result IsNoDisk }
 {
-    match undo_all(alloc, replay) {
+    match undo_all(alloc, replay, marks) {
         Ok(bytes) => Ok(bytes),
         Err(UndoRefusal::Unsound { id }) => Err(OpenRefusal::Unsound { id, rule: 5 }),
         Err(UndoRefusal::Memory) => Err(OpenRefusal::Memory),
     }
 }
 
-/// Tests the rules on the cells of a replayed log, and undoes what has not ended.
+/// Tests the rules on the cells of a replayed log, and undoes what has not ended. The marks of the pages follow the undo.
 ///
 /// Of an image for which the replay stands, a refusal but [`OpenRefusal::Memory`] is what it opens to. That comes too where
 /// the log was told to have images that it had no more when it was replayed, as no disk does whose areas are told.
 pub fn restart<const SLOTS: usize>(
     alloc: Global,
     replay: &mut Replay<SLOTS>,
+    marks: &mut PageMarks,
 ) -> Result<Vec<u8>, OpenRefusal>
     requires size { IsSlotCount SLOTS }
+    requires as_many { length marks.old ≡ length replay.old.skips }
     ensures rules { OnOk result (AreConsistent SLOTS (8 * length replay.old.skips) replay.old.cells) }
     ensures done { IfOk result (λ bytes. IsUndone SLOTS replay.old bytes.items replay.new) }
+    ensures marked { IfOk result (λ bytes. IsUndoneWithMarks SLOTS replay.old bytes.items replay.new marks.old marks.new) }
     ensures refused { (image : Bytes) → IsStoreOf SLOTS image replay.old → IfErr result (Refuses SLOTS image) }
     ensures no_disk { IfErr result IsNoDisk }
 {
@@ -75,7 +82,7 @@ pub fn restart<const SLOTS: usize>(
         return Err(OpenRefusal::Memory);
     }
     match test_rules(alloc, replay) {
-        Ok(()) => undo(alloc, replay),
+        Ok(()) => undo(alloc, replay, marks),
         Err(refusal) => Err(refusal),
     }
 }

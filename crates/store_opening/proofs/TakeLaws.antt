@@ -11,6 +11,9 @@ use Rattle.cell_page.specs.Format.{IsSlotCount}
 use Rattle.log_replay.specs.Replays.{Replaying, FitsReplay, after_taking}
 use Rattle.opened_images.specs.LogRecords.{body_of, HaveSpellings}
 use Rattle.opened_images.proofs.Bodies.{begins}
+use Rattle.page_marks.specs.declared.marks.PageMark.{PageMark}
+use Rattle.page_marks.specs.Marks.{AreMarkedBy}
+use Rattle.page_marks.proofs.MarkLaws.{no-marks, one-record, both-marks}
 use Rattle.store_opening.specs.Walks.{CanTake, CanTakeAll, taken_all, Takes, TakesFirst, TakesNone, TakesFront, TakesBody, StopsInBody}
 
 -- ---- two runs of records
@@ -66,11 +69,12 @@ none_taken known bytes r len v b denied s n c can = denied (subst (λ t. CanTake
 
 -- ---- the body of a batch
 
-pub front_start : (slots : ℕ) (body : List ℕ) (v : Replaying) → TakesFront slots body 0 v v
-front_start slots body v = record { rs = []; takes = takes_none slots v; so_far = refl; split = refl }
+pub front_start : (slots : ℕ) (body : List ℕ) (v : Replaying) (marks : List PageMark) → TakesFront slots body 0 v v marks marks
+front_start slots body v marks = record { rs = []; takes = takes_none slots v; so_far = refl; split = refl; marked = no-marks slots marks }
 
-pub front_more : (slots : ℕ) (body : List ℕ) (at len : ℕ) (v w u : Replaying) → TakesFront slots body at v w → TakesFirst slots (drop at body) len w u → TakesFront slots body (at + len) v u
-front_more slots body at len v w u front first =
+pub front_more : (slots : ℕ) (body : List ℕ) (at len : ℕ) (v w u : Replaying) (before mid now : List PageMark) → TakesFront slots body at v w before mid → TakesFirst slots (drop at body) len w u mid now
+    → TakesFront slots body (at + len) v u before now
+front_more slots body at len v w u before mid now front first =
     let bytes : body_of (front.rs ++ first.r ∷ []) ≡ body_of front.rs ++ record_bytes first.r =
     flat_map-append record_bytes front.rs (first.r ∷ []) ∙ ap (λ (l : List ℕ). body_of front.rs ++ l) (append-nil (record_bytes first.r)) in
     let split : body ≡ body_of (front.rs ++ first.r ∷ []) ++ first.begins.rest =
@@ -85,18 +89,21 @@ front_more slots body at len v w u front first =
       takes = takes_both front.rs (first.r ∷ []) v w u front.takes (takes_one (drop at body) first.r len w u first.begins first.fits first.are);
       so_far = count;
       split = split ∙ ap (λ (l : List ℕ). body_of (front.rs ++ first.r ∷ []) ++ l) (sym behind);
+      marked = both-marks front.rs (first.r ∷ []) before mid now front.marked (one-record first.r mid now first.marked);
     }
 
-pub front_all : (slots : ℕ) (body : List ℕ) (at : ℕ) (v w : Replaying) → length body ≤ at → TakesFront slots body at v w → TakesBody slots body v w
-front_all slots body at v w over front =
+pub front_all : (slots : ℕ) (body : List ℕ) (at : ℕ) (v w : Replaying) (before now : List PageMark) → length body ≤ at → TakesFront slots body at v w before now → TakesBody slots body v w before now
+front_all slots body at v w before now over front =
     record {
       rs = front.rs;
       takes = front.takes;
       split = front.split ∙ ap (λ (l : List ℕ). body_of front.rs ++ l) (drop_all at body over) ∙ append-nil (body_of front.rs);
+      marked = front.marked;
     }
 
-pub front_stops : (slots : ℕ) (body : List ℕ) (at : ℕ) (v w : Replaying) → at < length body → TakesFront slots body at v w → TakesNone slots (drop at body) w → StopsInBody slots body at v
-front_stops slots body at v w within front none =
+pub front_stops : (slots : ℕ) (body : List ℕ) (at : ℕ) (v w : Replaying) (before now : List PageMark) → at < length body → TakesFront slots body at v w before now → TakesNone slots (drop at body) w
+    → StopsInBody slots body at v
+front_stops slots body at v w before now within front none =
     record {
       rs = front.rs;
       w = w;

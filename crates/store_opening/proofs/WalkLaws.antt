@@ -1,6 +1,6 @@
 -- Batches that are walked one after another.
 use Rattle.std.proofs.Common.{◌≡◌, ℕ, ◌+◌, ◌<◌, ◌≤◌, List, [], ◌∷◌, ◌++◌, length, Option, Some, None, refl, sym, ap, subst, ◌∙◌, ⊎_elim, arith, append_assoc}
-use Rattle.std.specs.Prelude.{IfSome, slice_index}
+use Rattle.std.specs.Prelude.{IfSome, slice_index, replicate}
 use Rattle.std.proofs.lemmas.Bool.{cases_lt}
 use Rattle.std.proofs.lemmas.List.{append-nil, map-append}
 use Rattle.std.proofs.lemmas.Grind.{flat_map-append}
@@ -14,6 +14,9 @@ use Rattle.gate_log.specs.State.{LogState, reach}
 use Rattle.gate_log.specs.OnDisk.{IsRead, IsOn}
 use Rattle.log_replay.specs.Replays.{Replaying}
 use Rattle.opened_images.specs.LogRecords.{body_of, bodies_of, all_of, BeginsWithBody}
+use Rattle.page_marks.specs.declared.marks.PageMark.{PageMark}
+use Rattle.page_marks.specs.Marks.{AreMarks, unmarked}
+use Rattle.page_marks.proofs.MarkLaws.{first-marks}
 use Rattle.store_opening.specs.Walks.{Takes, TakesBody, StopsInBody}
 use Rattle.store_opening.specs.Walked.{HasWalked, EndsWalk, StopsWalk, no_batch, no_record}
 use Rattle.store_opening.specs.declared.refusal.ReadRefusal.{ReadRefusal}
@@ -41,11 +44,11 @@ module _ {D : Type 0} (content : D → Area → Option (List ℕ)) (may_leave : 
   told_begins s disk batches is may = some_more (content disk s.area) (may_leave disk s.area) (Begins batches) is.begins may
 
   -- one batch more
-  pub walked_more : (slots : ℕ) (read : List (List ℕ)) (v w u : Replaying) (log next : LogState) (disk now : D) (body : List ℕ)
-      → (walked : HasWalked content may_leave slots read v w log disk)
+  pub walked_more : (slots : ℕ) (read : List (List ℕ)) (v w u : Replaying) (before marks : List PageMark) (log next : LogState) (disk now : D) (body : List ℕ)
+      → (walked : HasWalked content may_leave slots read v w before log disk)
       → ((batches : List (List ℕ)) → IsRead content may_leave log disk batches → IsRead content may_leave next now (batches ++ body ∷ []))
-      → TakesBody slots body w u → HasWalked content may_leave slots read v u next now
-  walked_more slots read v w u log next disk now body walked reads took =
+      → TakesBody slots body w u before marks → HasWalked content may_leave slots read v u marks next now
+  walked_more slots read v w u before marks log next disk now body walked reads took =
       let rs = took.rs in
       let records : all_of (walked.batches ++ rs ∷ []) ≡ all_of walked.batches ++ rs =
       flat_map-append (λ (b : List (Record slots)). b) walked.batches (rs ∷ []) ∙ ap (λ (l : List (Record slots)). all_of walked.batches ++ l) (append-nil rs) in
@@ -55,20 +58,22 @@ module _ {D : Type 0} (content : D → Area → Option (List ℕ)) (may_leave : 
       record {
         batches = walked.batches ++ rs ∷ [];
         takes = subst (λ (l : List (Record slots)). Takes l v u) (sym records) (takes_both (all_of walked.batches) rs v w u walked.takes took.takes);
+        marked = subst (λ (l : List (Record slots)). AreMarks l marks) (sym records) (took.marked.more (all_of walked.batches) walked.marked);
         is_read = subst (λ (l : List (List ℕ)). IsRead content may_leave next now l) bodies (reads (read ++ bodies_of walked.batches) walked.is_read);
       }
 
   -- the log's end
-  pub walked_end : (slots : ℕ) (read : List (List ℕ)) (v w : Replaying) (log next : LogState) (disk now : D) → (walked : HasWalked content may_leave slots read v w log disk)
+  pub walked_end : (slots : ℕ) (read : List (List ℕ)) (v w : Replaying) (marks : List PageMark) (log next : LogState) (disk now : D) → (walked : HasWalked content may_leave slots read v w marks log disk)
       → ((batches : List (List ℕ)) → IsRead content may_leave log disk batches → IsOn may_leave next now batches)
       → IfSome (content disk log.area) (λ area. (place : ℕ) → IsDamaged log.durable place area → ⊥) → content now next.area ≡ content disk log.area
-      → IfSome (content now next.area) (may_leave now next.area) → EndsWalk content may_leave slots read v w next now
-  walked_end slots read v w log next disk now walked ends sound same may =
+      → IfSome (content now next.area) (may_leave now next.area) → EndsWalk content may_leave slots read v w marks next now
+  walked_end slots read v w marks log next disk now walked ends sound same may =
       let batches : List (List ℕ) = read ++ bodies_of walked.batches in
       let is_on = ends batches walked.is_read in
       record {
         batches = walked.batches;
         takes = walked.takes;
+        marked = walked.marked;
         is_on = is_on;
         whole = some_both (content now next.area) (may_leave now next.area) (λ area. (place : ℕ) → IsDamaged log.durable place area → ⊥) (IsLog most_bytes batches)
             (λ area leaves fine.
@@ -85,10 +90,10 @@ module _ {D : Type 0} (content : D → Area → Option (List ℕ)) (may_leave : 
       }
 
   -- no batch behind them
-  pub walked_cut : (slots : ℕ) (read : List (List ℕ)) (v w : Replaying) (log : LogState) (disk : D) (place : ℕ) → HasWalked content may_leave slots read v w log disk
+  pub walked_cut : (slots : ℕ) (read : List (List ℕ)) (v w : Replaying) (marks : List PageMark) (log : LogState) (disk : D) (place : ℕ) → HasWalked content may_leave slots read v w marks log disk
       → IfSome (content disk log.area) (IsDamaged log.durable place) → IfSome (content disk log.area) (may_leave disk log.area)
       → IfSome (content disk log.area) (StopsWalk slots read v place)
-  walked_cut slots read v w log disk place walked damaged may =
+  walked_cut slots read v w marks log disk place walked damaged may =
       let batches : List (List ℕ) = read ++ bodies_of walked.batches in
       some_both (content disk log.area) (Begins batches) (IsDamaged log.durable place) (StopsWalk slots read v place)
       (λ area begins is.
@@ -96,13 +101,13 @@ module _ {D : Type 0} (content : D → Area → Option (List ℕ)) (may_leave : 
       (told_begins log disk batches walked.is_read may) damaged
 
   -- no record in the batch behind them
-  pub walked_stop : (slots : ℕ) (read : List (List ℕ)) (v w : Replaying) (log next : LogState) (disk now : D) (body : List ℕ) (place offset : ℕ)
-      → (walked : HasWalked content may_leave slots read v w log disk)
+  pub walked_stop : (slots : ℕ) (read : List (List ℕ)) (v w : Replaying) (marks : List PageMark) (log next : LogState) (disk now : D) (body : List ℕ) (place offset : ℕ)
+      → (walked : HasWalked content may_leave slots read v w marks log disk)
       → ((batches : List (List ℕ)) → IsRead content may_leave log disk batches → IsRead content may_leave next now (batches ++ body ∷ []))
       → IfSome (content disk log.area) (λ area. (place : ℕ) → IsDamaged log.durable place area → ⊥) → content now next.area ≡ content disk log.area
       → IfSome (content now next.area) (may_leave now next.area) → StopsInBody slots body offset w → place ≡ log.durable + 5 + offset
       → IfSome (content disk log.area) (StopsWalk slots read v place)
-  walked_stop slots read v w log next disk now body place offset walked reads sound same may stops is =
+  walked_stop slots read v w marks log next disk now body place offset walked reads sound same may stops is =
       let batches : List (List ℕ) = read ++ bodies_of walked.batches in
       some_both (content disk log.area) (Begins (batches ++ body ∷ [])) (λ area. (place : ℕ) → IsDamaged log.durable place area → ⊥) (StopsWalk slots read v place)
       (λ area begins fine.
@@ -110,9 +115,10 @@ module _ {D : Type 0} (content : D → Area → Option (List ℕ)) (may_leave : 
       (subst (λ (o : Option (List ℕ)). IfSome o (Begins (batches ++ body ∷ []))) same (told_begins next now (batches ++ body ∷ []) (reads batches walked.is_read) may)) sound
 
   -- nothing was walked yet
-  pub walked_none : (slots : ℕ) (read : List (List ℕ)) (v : Replaying) (log : LogState) (disk : D) → IsRead content may_leave log disk read → HasWalked content may_leave slots read v v log disk
-  walked_none slots read v log disk is =
-      record { batches = []; takes = takes_none slots v; is_read = subst (λ (l : List (List ℕ)). IsRead content may_leave log disk l) (sym (append-nil read)) is }
+  pub walked_none : (slots : ℕ) (read : List (List ℕ)) (v : Replaying) (marks : List PageMark) (log : LogState) (disk : D) → AreMarks {slots = slots} [] marks → IsRead content may_leave log disk read
+      → HasWalked content may_leave slots read v v marks log disk
+  walked_none slots read v marks log disk none is =
+      record { batches = []; takes = takes_none slots v; marked = none; is_read = subst (λ (l : List (List ℕ)). IsRead content may_leave log disk l) (sym (append-nil read)) is }
 
   -- an area that is told begins with the batch that was read first
   pub told_first : (log next : LogState) (disk now : D) (body : List ℕ) → IsRead content may_leave next now (body ∷ [])
@@ -141,6 +147,10 @@ module _ {D : Type 0} (content : D → Area → Option (List ℕ)) (may_leave : 
         closed = λ one. is_log.closed (sym (ap (λ (l : List ℕ). slice_index l 0) is_log.are) ∙ one);
       }) refl zero)
       (subst (λ (o : Option (List ℕ)). IfSome o (IsLog (reach next) [])) same (some_more (content now next.area) (may_leave now next.area) (IsLog (reach next) []) is.logs may)) sound
+
+-- before the first record no page is marked
+pub unmarked-yet : (slots pages : ℕ) (marks : List PageMark) → marks ≡ replicate pages unmarked → AreMarks {slots = slots} [] marks
+unmarked-yet slots pages marks none = subst (λ (m : List PageMark). AreMarks {slots = slots} [] m) (sym none) (first-marks slots pages)
 
 -- the refusal was one of the log
 pub told_damaged : (r : LogRefusal) (s : ReadRefusal) (at : ℕ) → s ≡ told r → s ≡ Damaged at → r ≡ LogDamaged at

@@ -13,6 +13,7 @@ use Rattle.log_replay.specs.Replays.{Replaying}
 use Rattle.opened_images.specs.LogRecords.{body_of, all_of, unended_behind, first_records, IsDamagedLog}
 use Rattle.opened_images.specs.Replayed.{cell_after, cells_of_log}
 use Rattle.opened_images.specs.Opened.{ArePagesRead, AreCellsRead}
+use Rattle.page_marks.specs.declared.marks.PageMark.{PageMark}
 use Rattle.store_opening.specs.Walks.{count_images}
 use Rattle.store_opening.specs.Loaded.{AreLoaded}
 use Rattle.store_opening.specs.Walked.{EndsWalk, StopsWalk}
@@ -22,11 +23,11 @@ abbrev pub replay_start : {slots : ℕ} → List (List (Cell slots)) → List �
 replay_start pages images = record { cells = cells_of_pages pages; unended = []; skips = images }
 
 module _ {D : Type 0} (content : D → Area → Option (List ℕ)) (may_leave : D → Area → List ℕ → Type 0) where
-  -- the log has a first batch, and the replay took the records of all batches behind it
-  pub record HasReplayed (slots : ℕ) (v w : Replaying) (log : LogState) (disk : D) : Type 0 where
+  -- the log has a first batch, the replay took the records of all batches behind it, and the marks are those of them
+  pub record HasReplayed (slots : ℕ) (v w : Replaying) (marks : List PageMark) (log : LogState) (disk : D) : Type 0 where
     pub count : ℕ
     pub rules : HasSpelling {slots = slots} (Turn (known_version slots) count)
-    pub ends : EndsWalk content may_leave slots (body_of (first_records slots count) ∷ []) v w log disk
+    pub ends : EndsWalk content may_leave slots (body_of (first_records slots count) ∷ []) v w marks log disk
 
 -- the area stops here to be a log whose records the replay can take: in its first batch, or behind it
 pub data StopsReplay (slots : ℕ) (v : Replaying) (place : ℕ) (area : List ℕ) : Type 0 where

@@ -8,7 +8,9 @@ use Rattle.cell_page.specs.declared.cell.Cell.{Cell}
 use Rattle.gate_log.specs.State.{LogState}
 use Rattle.gate_log.specs.OnDisk.{IsOn}
 use Rattle.log_record.specs.declared.record.Record.{Record}
-use Rattle.opened_images.specs.LogRecords.{body_of, bodies_of, first_records}
+use Rattle.opened_images.specs.LogRecords.{body_of, bodies_of, all_of, first_records}
+use Rattle.page_marks.specs.declared.marks.PageMark.{PageMark}
+use Rattle.page_marks.specs.Marks.{AreMarks}
 use Rattle.opened_images.specs.Opened.{Opened, NoStore as NoStoreOutcome, UnknownVersion as UnknownVersionOutcome, DamagedLog, DamagedPage, Unsound as UnsoundOutcome}
 use Rattle.store_opening.specs.declared.open_refusal.OpenRefusal.{OpenRefusal}
 use Rattle.store_opening.specs.declared.open_refusal.OpenRefusal.TheVariants.{Disk, Damaged, NoStore, UnknownVersion, Unsound, Memory}
@@ -71,9 +73,10 @@ module _ {D : Type 0} (may_leave : D → Area → List ℕ → Type 0) where
     pub is_on : IsOn may_leave log disk (body_of (first_records slots ready.count) ∷ bodies_of ready.batches)
 
   -- The records of its log fit its cells, and the replay stands for the cells after them and for what has not ended; the
-  -- log stands on the disk with its batches.
-  pub record AreCellsFound (slots : ℕ) (image : Bytes) (w : Replaying) (log : LogState) (disk : D) : Type 0 where
+  -- log stands on the disk with its batches, and the marks are those of its records.
+  pub record AreCellsFound (slots : ℕ) (image : Bytes) (w : Replaying) (marks : List PageMark) (log : LogState) (disk : D) : Type 0 where
     pub count : ℕ
     pub batches : List (List (Record slots))
     pub replayed : IsReplayed slots image log.area count batches w
     pub is_on : IsOn may_leave log disk (body_of (first_records slots count) ∷ bodies_of batches)
+    pub marked : AreMarks (all_of batches) marks

@@ -8,19 +8,23 @@ use Rattle.gate_log.specs.State.{LogState}
 use Rattle.gate_log.specs.OnDisk.{IsRead, IsOn}
 use Rattle.log_replay.specs.Replays.{Replaying}
 use Rattle.opened_images.specs.LogRecords.{bodies_of, all_of}
+use Rattle.page_marks.specs.declared.marks.PageMark.{PageMark}
+use Rattle.page_marks.specs.Marks.{AreMarks}
 use Rattle.store_opening.specs.Walks.{Takes, StopsInBody}
 
 module _ {D : Type 0} (content : D → Area → Option (List ℕ)) (may_leave : D → Area → List ℕ → Type 0) where
-  -- behind the batches that were read before, these were read, and the replay took their records
-  pub record HasWalked (slots : ℕ) (read : List (List ℕ)) (v w : Replaying) (log : LogState) (disk : D) : Type 0 where
+  -- behind the batches that were read before, these were read, the replay took their records, and the marks are those of them
+  pub record HasWalked (slots : ℕ) (read : List (List ℕ)) (v w : Replaying) (marks : List PageMark) (log : LogState) (disk : D) : Type 0 where
     pub batches : List (List (Record slots))
     pub takes : Takes (all_of batches) v w
+    pub marked : AreMarks (all_of batches) marks
     pub is_read : IsRead content may_leave log disk (read ++ bodies_of batches)
 
   -- and then the log's end was read
-  pub record EndsWalk (slots : ℕ) (read : List (List ℕ)) (v w : Replaying) (log : LogState) (disk : D) : Type 0 where
+  pub record EndsWalk (slots : ℕ) (read : List (List ℕ)) (v w : Replaying) (marks : List PageMark) (log : LogState) (disk : D) : Type 0 where
     pub batches : List (List (Record slots))
     pub takes : Takes (all_of batches) v w
+    pub marked : AreMarks (all_of batches) marks
     pub is_on : IsOn may_leave log disk (read ++ bodies_of batches)
     pub whole : IfSome (content disk log.area) (IsLog most_bytes (read ++ bodies_of batches))
 

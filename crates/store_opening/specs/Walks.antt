@@ -5,6 +5,8 @@ use Rattle.log_record.specs.declared.record.Record.TheVariants.{OfCells, Image, 
 use Rattle.log_record.specs.Spelling.{BeginsWith}
 use Rattle.log_replay.specs.Replays.{Replaying, FitsReplay, after_taking}
 use Rattle.opened_images.specs.LogRecords.{body_of, HaveSpellings}
+use Rattle.page_marks.specs.declared.marks.PageMark.{PageMark}
+use Rattle.page_marks.specs.Marks.{AreMarkedBy, AreMarkedByAll}
 
 -- the record may stand behind a log's first one, and it fits what the replay has
 abbrev pub CanTake : {slots : ℕ} → Replaying → Record slots → Type 0
@@ -30,12 +32,13 @@ pub record Takes {slots : ℕ} (rs : List (Record slots)) (v w : Replaying) : Ty
 
 -- ---- one record
 
--- it took the record that the bytes begin with, which has so many
-pub record TakesFirst (slots : ℕ) (bytes : List ℕ) (len : ℕ) (v w : Replaying) : Type 0 where
+-- it took the record that the bytes begin with, which has so many, and the marks are changed by it
+pub record TakesFirst (slots : ℕ) (bytes : List ℕ) (len : ℕ) (v w : Replaying) (before now : List PageMark) : Type 0 where
   pub r : Record slots
   pub begins : BeginsWith bytes r len
   pub fits : CanTake v r
   pub are : w ≡ after_taking r v
+  pub marked : AreMarkedBy r before now
 
 -- the bytes begin with no record that it can take
 abbrev pub TakesNone : (slots : ℕ) → List ℕ → Replaying → Type 0
@@ -43,18 +46,20 @@ TakesNone slots bytes v = (r : Record slots) (len : ℕ) → BeginsWith bytes r 
 
 -- ---- the body of a batch
 
--- it took the records of the first bytes of the body, so many
-pub record TakesFront (slots : ℕ) (body : List ℕ) (count : ℕ) (v w : Replaying) : Type 0 where
+-- it took the records of the first bytes of the body, so many, and the marks are changed by them
+pub record TakesFront (slots : ℕ) (body : List ℕ) (count : ℕ) (v w : Replaying) (before now : List PageMark) : Type 0 where
   pub rs : List (Record slots)
   pub takes : Takes rs v w
   pub so_far : count ≡ length (body_of rs)
   pub split : body ≡ body_of rs ++ drop count body
+  pub marked : AreMarkedByAll rs before now
 
--- it took all its records
-pub record TakesBody (slots : ℕ) (body : List ℕ) (v w : Replaying) : Type 0 where
+-- it took all its records, and the marks are changed by them
+pub record TakesBody (slots : ℕ) (body : List ℕ) (v w : Replaying) (before now : List PageMark) : Type 0 where
   pub rs : List (Record slots)
   pub takes : Takes rs v w
   pub split : body ≡ body_of rs
+  pub marked : AreMarkedByAll rs before now
 
 -- it can take the records in front of this offset, and there begins none that it can take
 pub record StopsInBody (slots : ℕ) (body : List ℕ) (offset : ℕ) (v : Replaying) : Type 0 where

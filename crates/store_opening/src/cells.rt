@@ -1,5 +1,5 @@
 //! The cells of a store, from what its disk holds.
-ghost use Rattle.std.specs.Prelude.{◌≡◌, ℕ, List, [], IfOk, IfErr, OnOk};
+ghost use Rattle.std.specs.Prelude.{◌≡◌, ℕ, List, [], length, IfOk, IfErr, OnOk};
 ghost use Rattle.disk_model.specs.Areas.{Bytes};
 ghost use Rattle.disk_model.specs.Told.{IsSettled};
 ghost use Rattle.cell_page.specs.Format.{IsSlotCount};
@@ -25,8 +25,9 @@ pub fn read_cells<D: Disk, const SLOTS: usize>(
 ) -> Result<ReplayedLog<SLOTS>, OpenRefusal>
     requires count { IsSlotCount SLOTS }
     ensures read { IfOk result (λ found. (image : Bytes) → Reads D.content disk.old image
-        → AreCellsFound D.may_leave SLOTS image found.replay found.log disk.new) }
+        → AreCellsFound D.may_leave SLOTS image found.replay found.marks found.log disk.new) }
     ensures on { IfOk result (λ found. (batches : List (List ℕ)) × IsOn D.may_leave found.log disk.new batches) }
+    ensures as_many { IfOk result (λ found. length found.marks ≡ length found.replay.skips) }
     ensures refused { (image : Bytes) → Reads D.content disk.old image → IfErr result (Refuses SLOTS image) }
     ensures stands { IfOk result (λ found. (found.log.stage ≡ Standing) × (found.log.tail ≡ [])) }
     ensures settled { OnOk result ((area : _) → IsSettled D.content D.may_leave disk.new area) }

@@ -1,11 +1,12 @@
 //! The log of a store, read for what it tells of itself: its records fit one another.
-ghost use Rattle.std.specs.Prelude.{◌≡◌, ◌≢◌, ◌-◌, ◌<◌, ◌≤◌, ℕ, List, [], ◌∷◌, length, map, IfOk, IfErr, IfSome, IsErrOf};
+ghost use Rattle.std.specs.Prelude.{◌≡◌, ◌≢◌, ◌-◌, ◌<◌, ◌≤◌, ℕ, List, [], ◌∷◌, length, map, replicate, IfOk, IfErr, IfSome, IsErrOf};
 ghost use Rattle.cell_page.specs.Format.{IsSlotCount};
 ghost use Rattle.gate_log.specs.declared.stage.Stage.TheVariants.{Reading, Standing};
 ghost use Rattle.gate_log.specs.State.{IsLogArea, log_at};
 ghost use Rattle.gate_log.specs.OnDisk.{IsRead};
 ghost use Rattle.log_replay.specs.Inside.{AreStorePages};
 ghost use Rattle.opened_images.specs.LogRecords.{IsOfVersion, IsDamagedLog};
+ghost use Rattle.page_marks.specs.Marks.{unmarked};
 ghost use Rattle.store_opening.specs.declared.refusal.ReadRefusal.TheVariants.{Damaged, UnknownVersion};
 ghost use Rattle.store_opening.specs.Refusals.{IsCaused};
 ghost use Rattle.store_opening.specs.Looks.{IsLookedAt};
@@ -19,6 +20,7 @@ use cell_page::Page;
 use disk_model::{Area, Disk};
 use gate_log::GateLog;
 use log_replay::Replay;
+use page_marks::PageMarks;
 use std::alloc::{AllocError, Global};
 
 /// The log of a store, where its records fit one another.
@@ -79,13 +81,16 @@ fn waiting<const SLOTS: usize>(alloc: Global, pages: u16) -> Result<Walk<SLOTS>,
     requires pages { (1 ≤ pages) × (pages ≤ 1024) }
     ensures waits { IfOk result (λ walk. IsWaiting pages walk.replay) }
     ensures same { IfOk result (λ walk. walk.awaited.items ≡ walk.replay.skips) }
+    ensures none { IfOk result (λ walk. walk.marks ≡ replicate pages unmarked) }
 {
     let held = placeholders::<SLOTS>(alloc, pages)?;
     let skip = vec![in alloc; u32::MAX; pages as usize]?;
     let awaited = vec![in alloc; u32::MAX; pages as usize]?;
+    let marks = PageMarks::new(alloc, pages)?;
     Ok(Walk {
         replay: Replay::over(alloc, held, skip),
         awaited,
+        marks,
     })
 }
 

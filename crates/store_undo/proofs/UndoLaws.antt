@@ -22,7 +22,9 @@ use Rattle.restart_laws.specs.Restored.{undo_of, undo_records, after_records, re
 use Rattle.restart_laws.proofs.EntryLists.{changed-split, remove-split}
 use Rattle.restart_laws.proofs.ReopenLaws.{undo-ends, last-push, shorter}
 use Rattle.restart_laws.proofs.NextLaws.{next-some}
-use Rattle.store_undo.specs.Undone.{to_undo, UndoesOne, Finishes, IsUndoing, IsUndone, IsStuck}
+use Rattle.page_marks.specs.declared.marks.PageMark.{PageMark}
+use Rattle.page_marks.proofs.MarkLaws.{one-record, both-marks}
+use Rattle.store_undo.specs.Undone.{to_undo, UndoesOne, Finishes, IsUndoing, IsUndone, IsUndoneWithMarks, IsStuck}
 
 -- ---- a list and its last item
 
@@ -238,11 +240,13 @@ finishes-more v u w (s ∷ ss) r h k f t = (h.0, h.1, h.2, h.3, finishes-more h.
 pub body-more : {slots : ℕ} (rs : List (Record slots)) (r : Record slots) → body_of (rs ++ r ∷ []) ≡ body_of rs ++ record_bytes r
 body-more rs r = flat_map-append record_bytes rs (r ∷ []) ∙ ap (λ (bs : List ℕ). body_of rs ++ bs) (append-nil (record_bytes r))
 
-pub undoing-more : (slots : ℕ) (v u w : Replaying) (bytes new_bytes : List ℕ) → IsUndoing slots v bytes u → AreConsistent slots (8 * length u.skips) u.cells → UndoesOne slots u bytes w new_bytes → IsUndoing slots v new_bytes w
-undoing-more slots v u w bytes new_bytes i k o = record {
+pub undoing-more : (slots : ℕ) (v u w : Replaying) (bytes new_bytes : List ℕ) (before mid now : List PageMark) → IsUndoing slots v bytes u before mid → AreConsistent slots (8 * length u.skips) u.cells
+    → UndoesOne slots u bytes mid w new_bytes now → IsUndoing slots v new_bytes w before now
+undoing-more slots v u w bytes new_bytes before mid now i k o = record {
   records = i.records ++ o.r ∷ [];
   finishes = finishes-more v u w i.records o.r i.finishes k o.finishes o.typed;
   are = o.appended ∙ (ap (λ (bs : List ℕ). bs ++ record_bytes o.r) i.are ∙ sym (body-more i.records o.r));
+  marked = both-marks i.records (o.r ∷ []) before mid now i.marked (one-record o.r mid now o.marked);
 }
 
 pub all-stuck : {slots : ℕ} (v w : Replaying) (rs : List (Record slots)) (id : ℕ) → Finishes v rs w → RestartsStuckAt slots w.cells w.unended id → RestartsStuckAt slots v.cells v.unended id
@@ -291,11 +295,15 @@ all-fit {slots} v w (r ∷ rs) pages p f =
     )
 
 -- nothing is left
-pub all-undone : (slots : ℕ) (v w u : Replaying) (bytes new_bytes : List ℕ) → IsUndoing slots v bytes w → AreConsistent slots (8 * length w.skips) w.cells → w.unended ≡ [] → u ≡ w → new_bytes ≡ bytes → IsUndone slots v new_bytes u
-all-undone slots v w u bytes new_bytes i k none same same_bytes =
-    subst (λ (bs : List ℕ). IsUndone slots v bs u) (sym same_bytes)
-    (subst (λ (x : Replaying). IsUndone slots v bytes x) (sym same)
-    (record {
+pub all-undone : (slots : ℕ) (v w u : Replaying) (bytes new_bytes : List ℕ) (before mid now : List PageMark) → IsUndoing slots v bytes w before mid → AreConsistent slots (8 * length w.skips) w.cells
+    → w.unended ≡ [] → u ≡ w → new_bytes ≡ bytes → now ≡ mid → IsUndoneWithMarks slots v new_bytes u before now
+all-undone slots v w u bytes new_bytes before mid now i k none same same_bytes same_marks =
+    subst (λ (ms : List PageMark). IsUndoneWithMarks slots v new_bytes u before ms) (sym same_marks)
+    (subst (λ (bs : List ℕ). IsUndoneWithMarks slots v bs u before mid) (sym same_bytes)
+    (subst (λ (x : Replaying). IsUndoneWithMarks slots v bytes x before mid) (sym same) (done, i.marked)))
+  where
+    done : IsUndone slots v bytes w
+    done = record {
       records = i.records;
       finishes = i.finishes;
       are = i.are;
@@ -306,10 +314,10 @@ all-undone slots v w u bytes new_bytes i k none same same_bytes =
       none = none;
       skips = all-skips v w i.records i.finishes;
       consistent = k;
-    }))
+    }
 
-pub undoing-stuck : (slots : ℕ) (v w : Replaying) (bytes : List ℕ) (id : ℕ) → IsUndoing slots v bytes w → IsStuck w id → RestartsStuckAt slots v.cells v.unended id
-undoing-stuck slots v w bytes id i s = all-stuck v w i.records id i.finishes (stuck-here slots w.cells w.unended id s.0 s.1 s.2 s.3)
+pub undoing-stuck : (slots : ℕ) (v w : Replaying) (bytes : List ℕ) (before now : List PageMark) (id : ℕ) → IsUndoing slots v bytes w before now → IsStuck w id → RestartsStuckAt slots v.cells v.unended id
+undoing-stuck slots v w bytes before now id i s = all-stuck v w i.records id i.finishes (stuck-here slots w.cells w.unended id s.0 s.1 s.2 s.3)
 
 pub step-skips : {slots : ℕ} (v w : Replaying) (r : Record slots) → FinishesBy {slots = slots} v (Some r) w → w.skips ≡ v.skips
 step-skips v w r f = (step-of v w r f).skips

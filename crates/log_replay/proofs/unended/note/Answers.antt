@@ -9,7 +9,7 @@ use Rattle.log_replay.proofs.unended.note.Goals as goal
 pub returns-in-Some-clause-err : goal.returns-in-Some-clause-err
 returns-in-Some-clause-err c =
     let es = c.args.unended.now.entries in
-    more_on_err c.note.result _ _
-    (λ (same : c.note.new.self ≡ c.in-Some.transaction.now).
-    (c.get_mut.follows.holds c.note.new.self).0 ∙ (ap (λ (t : Unended). set_value (is_at (nat_cmp c.args.pass)) es t) same ∙ set-own c.args.pass c.in-Some.transaction.now es (sym c.in-Some.ensures.value)))
-    c.note.ensures.err
+    more_on_err c.note_if_running.result _ _
+    (λ (same : c.note_if_running.new.self ≡ c.in-Some.transaction.now).
+    (c.get_mut.follows.holds c.note_if_running.new.self).0 ∙ (ap (λ (t : Unended). set_value (is_at (nat_cmp c.args.pass)) es t) same ∙ set-own c.args.pass c.in-Some.transaction.now es (sym c.in-Some.ensures.value)))
+    c.note_if_running.ensures.err

@@ -16,7 +16,7 @@ use Rattle.opened_images.specs.Opened.{Opened, OpensTo}
 use Rattle.opened_store.proofs.MomentLaws.{both-moments, moment-opens}
 use Rattle.std.proofs.Common.{List, sym}
 use Rattle.gate_log.specs.Batches.{AreBodies}
-use Rattle.opened_images.specs.GoesOn.{IsBegun}
+use Rattle.page_marks.specs.Marks.{IsMarkedBegun}
 use Rattle.opened_store.proofs.BegunLaws.{left-there, reads-left, keeps-then, same-batches, begun-after}
 use Rattle.opened_store.proofs.open.open_cells.Goals as goal
 
@@ -71,7 +71,7 @@ returns-in-Ok-force_undo-clause-moments g c =
     subst (λ (bs : List ℕ). LeavesOnlyImages g.D.Disk.moment g.D.Disk.left_since disk c.force_undo.new.disk (λ other. IsImage g.D.Disk.may_leave disk other ⊎ HasEither first (with_batch first bs) other)) c.deref.ensures.value (c.in-Ok-force_undo.ensures.moments first f.is_on) in
     and_then (λ other. IsImage g.D.Disk.may_leave c.args.disk.now other ⊎ Opened g.row.SLOTS other (OpensTo cells)) (λ other may. inl may) (λ other either. either) c.read_cells.ensures.looks.moments
     (both-moments (λ other. IsImage g.D.Disk.may_leave c.args.disk.now other ⊎ Opened g.row.SLOTS other (OpensTo cells))
-    (λ other either but. ⊎_elim (λ may. inl (λ area. (c.read_cells.ensures.looks.keeps area).no_more (in_area other area) (may area))) (λ has. inr (moment-opens g.D.Disk.content g.D.Disk.may_leave g.row.SLOTS image cells v w log disk c.args.disk.now bytes (8 * length v.skips) c.requires.count f c.in-Ok-restart.ensures.rules u opened c.in-Ok.ensures.settled
+    (λ other either but. ⊎_elim (λ may. inl (λ area. (c.read_cells.ensures.looks.keeps area).no_more (in_area other area) (may area))) (λ has. inr (moment-opens g.D.Disk.content g.D.Disk.may_leave g.row.SLOTS image cells v w c.in-Ok.found.marks log disk c.args.disk.now bytes (8 * length v.skips) c.requires.count f c.in-Ok-restart.ensures.rules u opened c.in-Ok.ensures.settled
     (c.read_cells.ensures.looks.keeps Pages).same (reads Pages) other has but)) either) forced c.in-Ok-force_undo.ensures.others)
 
 pub returns-in-Err-force_undo-clause-moments : goal.returns-in-Err-force_undo-clause-moments
@@ -89,7 +89,7 @@ returns-in-Err-force_undo-clause-moments g c =
     subst (λ (bs : List ℕ). LeavesOnlyImages g.D.Disk.moment g.D.Disk.left_since disk c.force_undo.new.disk (λ other. IsImage g.D.Disk.may_leave disk other ⊎ HasEither first (with_batch first bs) other)) c.deref.ensures.value (c.in-Err-force_undo.ensures.moments first f.is_on) in
     and_then (λ other. IsImage g.D.Disk.may_leave c.args.disk.now other ⊎ Opened g.row.SLOTS other (OpensTo cells)) (λ other may. inl may) (λ other either. either) c.read_cells.ensures.looks.moments
     (both-moments (λ other. IsImage g.D.Disk.may_leave c.args.disk.now other ⊎ Opened g.row.SLOTS other (OpensTo cells))
-    (λ other either but. ⊎_elim (λ may. inl (λ area. (c.read_cells.ensures.looks.keeps area).no_more (in_area other area) (may area))) (λ has. inr (moment-opens g.D.Disk.content g.D.Disk.may_leave g.row.SLOTS image cells v w log disk c.args.disk.now bytes (8 * length v.skips) c.requires.count f c.in-Ok-restart.ensures.rules u opened c.in-Ok.ensures.settled
+    (λ other either but. ⊎_elim (λ may. inl (λ area. (c.read_cells.ensures.looks.keeps area).no_more (in_area other area) (may area))) (λ has. inr (moment-opens g.D.Disk.content g.D.Disk.may_leave g.row.SLOTS image cells v w c.in-Ok.found.marks log disk c.args.disk.now bytes (8 * length v.skips) c.requires.count f c.in-Ok-restart.ensures.rules u opened c.in-Ok.ensures.settled
     (c.read_cells.ensures.looks.keeps Pages).same (reads Pages) other has but)) either) forced c.in-Err-force_undo.ensures.others)
 
 pub returns-in-Err-clause-unwritten : goal.returns-in-Err-clause-unwritten
@@ -120,8 +120,8 @@ returns-in-Ok-force_undo-clause-begun g c =
           let kept = (c.force_undo.ensures.keeps Pages (pages-apart log.area f.is_on.area)).same ∙ (c.read_cells.ensures.looks.keeps Pages).same ∙ reads Pages in
           let left = left-there g.D.Disk.content g.D.Disk.told_together g.D.Disk.may_leave g.D.Disk.reads_may_stay disk new.area image.pages kept in
           let formed : AreBodies (with_batch first bytes) = subst (λ (b : List (List ℕ)). AreBodies (with_batch b bytes)) (sym same) (on.logs left.0 left.1).bodies in
-          subst (λ (b : List (List ℕ)). IsBegun g.row.SLOTS (length c.restart.new.replay.skips) image.pages (with_batch b bytes) c.restart.new.replay.cells) same
-          (begun-after g.D.Disk.may_leave g.row.SLOTS image c.in-Ok.found.replay c.restart.new.replay log mid bytes (8 * length c.in-Ok.found.replay.skips) f c.in-Ok-restart.ensures.rules c.in-Ok-restart.ensures.done formed),
+          subst (λ (b : List (List ℕ)). IsMarkedBegun g.row.SLOTS (length c.restart.new.replay.skips) image.pages (with_batch b bytes) c.restart.new.replay.cells c.restart.new.marks) same
+          (begun-after g.D.Disk.may_leave g.row.SLOTS image c.in-Ok.found.replay c.restart.new.replay c.in-Ok.found.marks c.restart.new.marks log mid bytes (8 * length c.in-Ok.found.replay.skips) f c.in-Ok-restart.ensures.rules c.in-Ok-restart.ensures.marked formed),
     )
 
 pub returns-in-Ok-force_undo-clause-pages : goal.returns-in-Ok-force_undo-clause-pages

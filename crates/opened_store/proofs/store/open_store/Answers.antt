@@ -1,7 +1,8 @@
-use Rattle.std.proofs.Common.{ℕ, ◌≤◌, sym, subst, length, ◌∙◌}
+use Rattle.std.proofs.Common.{ℕ, ◌*◌, ◌≤◌, sym, subst, length, ◌∙◌}
+use Rattle.cell_page.specs.Format.{page_size}
 use Rattle.disk_model.specs.declared.area.Area.TheVariants.{Pages}
 use Rattle.opened_store.proofs.BegunLaws.{keeps-then}
-use Rattle.opened_store.proofs.StoreLaws.{on-kept, all-longer, moments-longer, begun-left}
+use Rattle.opened_store.proofs.StoreLaws.{on-kept, all-longer, moments-longer, begun-left, long-left}
 use Rattle.opened_store.proofs.store.open_store.Goals as goal
 
 pub returns-in-Ok-lengthen-clause-on : goal.returns-in-Ok-lengthen-clause-on
@@ -17,9 +18,14 @@ returns-in-Ok-lengthen-clause-begun g c =
     let skips = length c.in-Ok.found.replay.skips in (
       b.0,
       on-kept g.D.Disk.content g.D.Disk.may_leave c.open_cells.new.disk c.lengthen.new.disk c.in-Ok.found.log b.0 c.lengthen.ensures.keeps b.1,
-      begun-left g.D.Disk.content g.D.Disk.may_leave g.D.Disk.told_together g.row.SLOTS skips c.pages_len.result c.args.disk.now c.open_cells.new.disk c.lengthen.new.disk b.0 c.in-Ok.found.replay.cells c.open_cells.ensures.pages
+      begun-left g.D.Disk.content g.D.Disk.may_leave c.in-Ok.found.marks g.D.Disk.told_together g.row.SLOTS skips c.pages_len.result c.args.disk.now c.open_cells.new.disk c.lengthen.new.disk b.0 c.in-Ok.found.replay.cells c.open_cells.ensures.pages
           c.in-Ok-lengthen.ensures.bytes (c.in-Ok-lengthen.ensures.settled c.in-Ok.ensures.settled) b.2,
     )
+
+pub returns-in-Ok-lengthen-clause-long : goal.returns-in-Ok-lengthen-clause-long
+returns-in-Ok-lengthen-clause-long g c =
+    long-left g.D.Disk.content g.D.Disk.may_leave (page_size g.row.SLOTS * length c.in-Ok.found.replay.skips) c.pages_len.result c.lengthen.new.disk c.pages_len.ensures.len c.in-Ok-lengthen.ensures.longer
+    (c.in-Ok-lengthen.ensures.settled c.in-Ok.ensures.settled)
 
 pub returns-in-Ok-lengthen-clause-images : goal.returns-in-Ok-lengthen-clause-images
 returns-in-Ok-lengthen-clause-images g c =

@@ -25,6 +25,7 @@ returns-in-Ok-replay_log-clause-read g c image reads =
       replayed = subst (λ (a : Area). IsReplayed g.row.SLOTS image a ready.count ready.batches c.in-Ok-replay_log.done.replay) (sym c.in-Ok-replay_log.ensures.stands.1)
           (c.in-Ok-replay_log.ensures.replayed image told ready);
       is_on = c.in-Ok-replay_log.ensures.on image told ready;
+      marked = c.in-Ok-replay_log.ensures.marked image told ready;
     }
 
 pub returns-clause-refused : goal.returns-clause-refused

@@ -8,7 +8,7 @@ use Rattle.store_opening.specs.declared.refusal.ReadRefusal.TheVariants.{Damaged
 use Rattle.store_opening.specs.Walks.{count_images, most_images}
 use Rattle.store_opening.specs.Walked.{StopsWalk}
 use Rattle.store_opening.proofs.LookLaws.{and_look}
-use Rattle.store_opening.proofs.WalkLaws.{some_more, walked_none}
+use Rattle.store_opening.proofs.WalkLaws.{some_more, walked_none, unmarked-yet}
 use Rattle.store_opening.proofs.FoundLaws.{found_log, found_damage, found_number, found_count}
 use Rattle.store_opening.proofs.found.read_log.Goals as goal
 
@@ -25,7 +25,8 @@ pub returns-in-Err-clause-damaged : goal.returns-in-Err-clause-damaged
 returns-in-Err-clause-damaged g c at is =
     let first = c.in_ok-pages.ensures.first in
     let refused : c.in-Err.refusal ≡ Damaged at = cc is in
-    let walked = walked_none g.D.Disk.content g.D.Disk.may_leave g.row.SLOTS (body_of (first_records g.row.SLOTS c.in_ok-pages.pages) ∷ []) c.in_ok-walk.walk.replay c.read_first.new.log c.read_first.new.disk first.is_read in
+    let walked = walked_none g.D.Disk.content g.D.Disk.may_leave g.row.SLOTS (body_of (first_records g.row.SLOTS c.in_ok-pages.pages) ∷ []) c.in_ok-walk.walk.replay c.in_ok-walk.walk.marks c.read_first.new.log c.read_first.new.disk
+    (unmarked-yet g.row.SLOTS c.in_ok-pages.pages c.in_ok-walk.walk.marks c.in_ok-walk.ensures.none) first.is_read in
     let area_is : c.read_first.new.log.area ≡ c.args.area = c.read_first.ensures.area ∙ ap (λ (s : LogState). s.area) c.start-log.ensures in
     let same : g.D.Disk.content c.read_first.new.disk c.read_first.new.log.area ≡ g.D.Disk.content c.args.disk.now c.args.area =
     ap (λ (a : Area). g.D.Disk.content c.read_first.new.disk a) area_is ∙ (c.read_first.ensures.looks.keeps c.args.area).same in
@@ -40,7 +41,8 @@ returns-clause-found g c =
     let first = c.in_ok-pages.ensures.first in
     let v = c.in_ok-walk.walk.replay in
     let read : List (List ℕ) = body_of (first_records g.row.SLOTS c.in_ok-pages.pages) ∷ [] in
-    let walked = walked_none g.D.Disk.content g.D.Disk.may_leave g.row.SLOTS read v c.read_first.new.log c.read_first.new.disk first.is_read in
+    let walked = walked_none g.D.Disk.content g.D.Disk.may_leave g.row.SLOTS read v c.in_ok-walk.walk.marks c.read_first.new.log c.read_first.new.disk
+    (unmarked-yet g.row.SLOTS c.in_ok-pages.pages c.in_ok-walk.walk.marks c.in_ok-walk.ensures.none) first.is_read in
     let ends = c.in_default.ensures.done v read walked in
     let images_are = c.in_ok-images.ensures ∙ ap (map (λ left. most_images - left)) c.deref.ensures.value in
     record {

@@ -6,4 +6,5 @@ abbrev pub decreases-records : goal.decreases-records
 decreases-records g l = length l.body - l.at
 
 abbrev pub invariant-records : goal.invariant-records
-invariant-records g l = TakesFront g.row.SLOTS l.body l.at l.initial.walk.replay l.walk.replay × (l.at ≤ length l.body) × (l.walk.awaited.items ≡ l.walk.replay.skips)
+invariant-records g l = TakesFront g.row.SLOTS l.body l.at l.initial.walk.replay l.walk.replay l.initial.walk.marks l.walk.marks × (l.at ≤ length l.body) × (l.walk.awaited.items ≡ l.walk.replay.skips)
+    × (length l.walk.marks ≡ length l.walk.replay.skips)

@@ -14,9 +14,9 @@ returns-in-Ok-clause-step g c v read walked =
     → IsRead g.D.Disk.content g.D.Disk.may_leave c.next_batch.new.self c.next_batch.new.disk (batches ++ c.in-Ok-Some.body.items ∷ []) =
     λ batches is. subst (λ (o : Option (Vec ℕ Global)). IfSome o (λ body. IsRead g.D.Disk.content g.D.Disk.may_leave c.next_batch.new.self c.next_batch.new.disk (batches ++ body.items ∷ [])))
     c.in-Ok-Some.field-0-is (c.in-Ok-Some.ensures.batch batches is) in
-    walked_more g.D.Disk.content g.D.Disk.may_leave g.row.SLOTS read v c.args.walk.now.replay c.take_records.new.walk.replay c.args.log.now c.next_batch.new.self c.args.disk.now c.next_batch.new.disk
+    walked_more g.D.Disk.content g.D.Disk.may_leave g.row.SLOTS read v c.args.walk.now.replay c.take_records.new.walk.replay c.args.walk.now.marks c.take_records.new.walk.marks c.args.log.now c.next_batch.new.self c.args.disk.now c.next_batch.new.disk
     c.in-Ok-Some.body.items walked reads
-    (subst (λ (l : List ℕ). TakesBody g.row.SLOTS l c.args.walk.now.replay c.take_records.new.walk.replay) c.deref.ensures.value c.in-Ok.ensures.took)
+    (subst (λ (l : List ℕ). TakesBody g.row.SLOTS l c.args.walk.now.replay c.take_records.new.walk.replay c.args.walk.now.marks c.take_records.new.walk.marks) c.deref.ensures.value c.in-Ok.ensures.took)
 
 pub returns-in-Ok-Some-clause-damaged : goal.returns-in-Ok-Some-clause-damaged
 returns-in-Ok-Some-clause-damaged g c v read walked at is =
@@ -30,7 +30,7 @@ returns-in-Ok-Some-clause-damaged g c v read walked at is =
     let durable_is : c.next_batch.new.self.durable ≡ c.args.log.now.durable + 5 + length c.in-Ok-Some.body.items = ap (λ (s : LogState). s.durable) next_is in
     let refused : c.in-Err-take_records.refusal ≡ Damaged at = cc is in
     let stop = c.in-Err-take_records.ensures.damaged at (ap Err refused) in
-    walked_stop g.D.Disk.content g.D.Disk.may_leave g.row.SLOTS read v c.args.walk.now.replay c.args.log.now c.next_batch.new.self c.args.disk.now c.next_batch.new.disk
+    walked_stop g.D.Disk.content g.D.Disk.may_leave g.row.SLOTS read v c.args.walk.now.replay c.args.walk.now.marks c.args.log.now c.next_batch.new.self c.args.disk.now c.next_batch.new.disk
     c.in-Ok-Some.body.items at stop.0 walked reads c.in-Ok-Some.ensures.sound
     (ap (λ (a : Area). g.D.Disk.content c.next_batch.new.disk a) area_is ∙ (c.next_batch.ensures.keeps c.args.log.now.area).same)
     (g.D.Disk.reads_may_stay c.next_batch.new.disk c.next_batch.new.self.area)
@@ -42,7 +42,7 @@ returns-in-Ok-None-clause-step g c v read walked =
     let next_is : c.next_batch.new.self ≡ after_next c.args.log.now (Ok None) =
     c.in-Ok-None.ensures.log ∙ ap (λ (o : Option (Vec ℕ Global)). after_next c.args.log.now (Ok o)) c.in-Ok-None.field-0-is in
     let area_is : c.next_batch.new.self.area ≡ c.args.log.now.area = ap (λ (s : LogState). s.area) next_is in
-    walked_end g.D.Disk.content g.D.Disk.may_leave g.row.SLOTS read v c.args.walk.now.replay c.args.log.now c.next_batch.new.self c.args.disk.now c.next_batch.new.disk walked
+    walked_end g.D.Disk.content g.D.Disk.may_leave g.row.SLOTS read v c.args.walk.now.replay c.args.walk.now.marks c.args.log.now c.next_batch.new.self c.args.disk.now c.next_batch.new.disk walked
     (λ batches is. c.in-Ok-None.ensures.closed batches is c.in-Ok-None.field-0-is) c.in-Ok-None.ensures.sound
     (ap (λ (a : Area). g.D.Disk.content c.next_batch.new.disk a) area_is ∙ (c.next_batch.ensures.keeps c.args.log.now.area).same)
     (g.D.Disk.reads_may_stay c.next_batch.new.disk c.next_batch.new.self.area)
@@ -50,6 +50,6 @@ returns-in-Ok-None-clause-step g c v read walked =
 pub returns-clause-damaged : goal.returns-clause-damaged
 returns-clause-damaged g c v read walked at is =
     let was : c.told.result ≡ Damaged at = cc is in
-    walked_cut g.D.Disk.content g.D.Disk.may_leave g.row.SLOTS read v c.args.walk.now.replay c.args.log.now c.args.disk.now at walked
+    walked_cut g.D.Disk.content g.D.Disk.may_leave g.row.SLOTS read v c.args.walk.now.replay c.args.walk.now.marks c.args.log.now c.args.disk.now at walked
     (c.in-Err.ensures.damaged at (ap Err (told_damaged c.in-Err.refusal c.told.result at c.told.ensures was)))
     (g.D.Disk.reads_may_stay c.args.disk.now c.args.log.now.area)

@@ -1,4 +1,4 @@
-use Rattle.std.proofs.Common.{◌≡◌, ap, sym, ◌∙◌}
+use Rattle.std.proofs.Common.{◌≡◌, ℕ, List, length, ap, sym, ◌∙◌}
 use Rattle.std.specs.Prelude.{Result, Ok, Err, IsErrOf, IsErrAnd}
 use Rattle.store_undo.specs.declared.undo.UndoRefusal.{UndoRefusal}
 use Rattle.store_undo.specs.declared.undo.UndoRefusal.TheVariants.{Unsound}
@@ -15,16 +15,20 @@ undo-preserved g c =
     let o = c.in_ok-undo_next.ensures.more c.if-branch.true in
     let i = c.undo.invariant in
     record {
-      undoing = undoing-more g.row.SLOTS c.args.replay.now c.undo.replay c.undo_next.new.replay c.undo.bytes.items c.undo_next.new.bytes.items i.undoing i.consistent o;
+      undoing = undoing-more g.row.SLOTS c.args.replay.now c.undo.replay c.undo_next.new.replay c.undo.bytes.items c.undo_next.new.bytes.items c.args.marks.now c.undo.marks c.undo_next.new.marks i.undoing i.consistent o;
       skips = step-skips c.undo.replay c.undo_next.new.replay o.r o.finishes ∙ i.skips;
+      as_many = o.marked.as_many ∙ i.as_many ∙ ap (λ (l : List ℕ). length l) (sym (step-skips c.undo.replay c.undo_next.new.replay o.r o.finishes));
       consistent = c.undo_next.ensures.rules;
     }
 
-pub returns-clause-done : goal.returns-clause-done
-returns-clause-done g c =
+pub returns-clause-marked : goal.returns-clause-marked
+returns-clause-marked g c =
     let o = c.in_ok-undo_next.ensures.last c.if-branch.false in
     let i = c.undo.invariant in
-    all-undone g.row.SLOTS c.args.replay.now c.undo.replay c.undo_next.new.replay c.undo.bytes.items c.undo_next.new.bytes.items i.undoing i.consistent o.0 o.1 o.2
+    all-undone g.row.SLOTS c.args.replay.now c.undo.replay c.undo_next.new.replay c.undo.bytes.items c.undo_next.new.bytes.items c.args.marks.now c.undo.marks c.undo_next.new.marks i.undoing i.consistent o.0 o.1 o.2 o.3
+
+pub returns-clause-done : goal.returns-clause-done
+returns-clause-done g c = (returns-clause-marked g c).0
 
 abbrev error_of : {T : Type 0} → UndoRefusal → Result T UndoRefusal → UndoRefusal
 error_of f (Ok t) = f
@@ -38,5 +42,5 @@ handed {S = S} (Err e) f x is h = ap (λ (q : UndoRefusal). let r : Result S Und
 pub returns-in_err-undo_next-clause-refused : goal.returns-in_err-undo_next-clause-refused
 returns-in_err-undo_next-clause-refused g c =
     λ id err.
-    undoing-stuck g.row.SLOTS c.args.replay.now c.undo.replay c.undo.bytes.items id c.undo.invariant.undoing
+    undoing-stuck g.row.SLOTS c.args.replay.now c.undo.replay c.undo.bytes.items c.args.marks.now c.undo.marks id c.undo.invariant.undoing
     (c.in_err-undo_next.ensures.refused id (handed c.from_residual.result c.in_err-undo_next.field-0.0 (Unsound id) err c.from_residual.ensures.1))

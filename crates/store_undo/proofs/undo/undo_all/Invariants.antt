@@ -5,8 +5,9 @@ use Rattle.store_undo.proofs.undo.undo_all.Given as goal
 
 abbrev pub invariant-undo : goal.invariant-undo
 invariant-undo g l = record {
-  undoing : IsUndoing g.row.SLOTS l.initial.replay l.bytes.items l.replay;
+  undoing : IsUndoing g.row.SLOTS l.initial.replay l.bytes.items l.replay l.initial.marks l.marks;
   skips : l.replay.skips ≡ l.initial.replay.skips;
+  as_many : length l.marks ≡ length l.replay.skips;
   consistent : AreConsistent g.row.SLOTS (8 * length l.replay.skips) l.replay.cells;
 }
 
