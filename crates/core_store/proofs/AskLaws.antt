@@ -1,5 +1,6 @@
 -- What the tables of a journal ask for before they work.
 use Rattle.std.proofs.Common.{◌≡◌, ℕ, ◌+◌, ◌<◌, ◌≤◌, List, [], map, length, true, false, refl, sym, ap, ◌∙◌, subst, arith}
+use Rattle.std.specs.Prelude.{Option}
 use Rattle.std.specs.List.{AllByRecursion}
 use Rattle.std.specs.Option.{option_map_or}
 use Rattle.plain_model.specs.declared.calls.Call.{Call as TransactionCall}
@@ -13,6 +14,7 @@ use Rattle.core_store.specs.declared.note.Note.{Note}
 use Rattle.core_store.specs.declared.three.HeldFrame.{HeldFrame}
 use Rattle.core_store.specs.declared.trace.Trace.{Trace}
 use Rattle.core_store.specs.declared.want.Want.TheVariants.{Ready}
+use Rattle.core_store.specs.declared.want.Work.{Work}
 use Rattle.core_store.specs.Collecting.{CanCollect, pages_to_collect}
 use Rattle.core_store.specs.Frames.{Agree, is_held, pages_held}
 use Rattle.core_store.specs.JournalView.{JournalView, cells_of, core_of}
@@ -26,6 +28,8 @@ use Rattle.core_store.specs.Slots.{HoldsPagesOf}
 use Rattle.core_store.specs.Steppings.{IsReadyForCollector}
 use Rattle.core_store.specs.Tables.{TablesView}
 use Rattle.core_store.specs.Views.{view_of as tables_of}
+use Rattle.core_store.specs.Work.{IsWorkIn}
+use Rattle.core_store.proofs.JournalSteps.{ids-same}
 use Rattle.core_store.proofs.ReplyLaws.{each-map}
 use Rattle.core_store.proofs.WantLaws.{ready-all}
 
@@ -112,6 +116,15 @@ ready-call a now held pass call s is agree within ready = record {
       subst (λ (j : JournalView). AllByRecursion (λ p. is_held held p ≡ true) (pages_for (end_of j.history).state (cells_of j) pass call)) (sym is)
       (ready-all (pages_for (end_of now.history).state (cells_of now) pass call) held (sym (ap (λ ps. want_of ps (pages_held held)) (call-within now pass call within)) ∙ ready));
 }
+
+-- what is work in the store of the tables is work in the journal's
+pub works-journal : {slots : ℕ} (a : Inside slots) (now : JournalView) (work : Option Work) → IsJournalInside a → view_of a ≡ now → IsWorkIn slots a.tables.ids (core_of (view_of a)).cells work → IsWorkIn slots now.history.ids (cells_of now) work
+works-journal {slots} a now work s is works =
+    subst (λ (j : JournalView). IsWorkIn slots j.history.ids (cells_of j) work) is (subst (λ n. IsWorkIn slots n (cells_of (view_of a)) work) (ids-same (view_of a) (tables_of a.tables) s.keeps) works)
+
+pub works-tables : {slots : ℕ} (a : Inside slots) (now : JournalView) (work : Option Work) → IsJournalInside a → view_of a ≡ now → IsWorkIn slots now.history.ids (cells_of now) work → IsWorkIn slots a.tables.ids (core_of (view_of a)).cells work
+works-tables {slots} a now work s is works =
+    subst (λ n. IsWorkIn slots n (cells_of (view_of a)) work) (sym (ids-same (view_of a) (tables_of a.tables) s.keeps)) (subst (λ (j : JournalView). IsWorkIn slots j.history.ids (cells_of j) work) (sym is) works)
 
 -- ---- an abort step
 

@@ -18,15 +18,11 @@ use Rattle.core_store.specs.Frames.{pages_held, AreOnce, IsNext}
 use Rattle.core_store.specs.Logged.{want_of, if_any, object_and_targets, objects_of_undo}
 use Rattle.core_store.specs.Plans.{IsGranted}
 use Rattle.core_store.specs.Ready.{objects_of_plan}
+use Rattle.core_store.specs.Work.{AreFew}
 use Rattle.core_store.specs.Tables.{TablesView}
 use Rattle.core_store.specs.Stands.{CanLay, Stands}
 use Rattle.core_store.proofs.PlanLaws.{IsLiveId, live-id, granted-read, granted-make, granted-store, granted-get, granted-set}
 use Rattle.core_store.proofs.WantLaws.{wanted-other, wanted-needed, wanted-room, needed-there}
-
--- ids of a store, three at most
-pub record AreFew (ids : ℕ) (objects : List ℕ) : Type 0 where
-  pub few : length objects ≤ 3
-  pub within : AllByRecursion (λ id. (0 < id) × (id ≤ ids)) objects
 
 pub next-of : {slots : ℕ} (ids : ℕ) (held : List (HeldFrame slots)) (objects : List ℕ) (p : ℕ) → AreOnce held → AreFew ids objects → want_of (map page_of_id objects) (pages_held held) ≡ Page p → IsNext ids held p
 next-of ids held objects p once k wants = record {

@@ -1,6 +1,7 @@
 -- Held pages beside the cells of a store.
 use Rattle.std.proofs.Common.{◌≡◌, ◌≢◌, ℕ, zero, suc, ◌+◌, ◌-◌, ◌*◌, ◌<◌, ◌≤◌, ◌⊎◌, true, false, List, [], ◌∷◌, ◌++◌, length, get_or, set, take, drop, refl, sym, ap, subst, ◌∙◌, inl, inr, arith}
 use Rattle.std.specs.Prelude.{◌==◌, ◌||◌}
+use Rattle.std.specs.List.{AllByRecursion}
 use Rattle.std.proofs.lemmas.Bool.{ne_eqb, eq-eqb, cases_Bool, cases_lt, cases_eq}
 use Rattle.std.proofs.Math.Bool.{or-false, or_assoc}
 use Rattle.std.proofs.lemmas.List.{map-append, drop-set-lt, drop-set-add, take-set-le}
@@ -98,6 +99,11 @@ Agree-put cells (x ∷ hs) h agree holds = (agree.0, Agree-put cells hs h agree.
 pub Agree-taken : {slots : ℕ} (cells : List StoredCell) (hs : List (HeldFrame slots)) (h : HeldFrame slots) → Agree cells (hs ++ h ∷ []) → Agree cells hs × HoldsPage cells h.page h.frame.page
 Agree-taken cells [] h agree = (tt, agree.0)
 Agree-taken cells (x ∷ hs) h agree = let rest = Agree-taken cells hs h agree.1 in ((agree.0, rest.0), rest.1)
+
+-- what holds of all holds of the last and of those before
+pub each-taken : {slots : ℕ} (P : HeldFrame slots → Type 0) (hs : List (HeldFrame slots)) (h : HeldFrame slots) → AllByRecursion P (hs ++ h ∷ []) → AllByRecursion P hs × P h
+each-taken P [] h all = (tt, all.0)
+each-taken P (x ∷ hs) h all = let rest = each-taken P hs h all.1 in ((all.0, rest.0), rest.1)
 
 -- ---- an edit of one cell
 

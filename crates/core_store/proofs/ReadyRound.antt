@@ -29,14 +29,14 @@ use Rattle.core_store.specs.Frames.{pages_held, is_held}
 use Rattle.core_store.specs.Logged.{want_of}
 use Rattle.core_store.specs.Slots.{HoldsPagesOf}
 use Rattle.core_store.specs.RoundView.{RoundView, Closed, Walking, Sweeping, asked, asked_by_walk, asked_by_green, asked_by_sweep, round_of, IsWalking, IsSweeping, IsInStep}
-use Rattle.core_store.specs.Work.{IsWork}
+use Rattle.core_store.specs.Work.{IsWork, AreFew}
 use Rattle.core_store.specs.Collecting.{work_at, objects_at, pages_to_collect, CanCollect}
 use Rattle.core_store.specs.Tables.{TablesView}
 use Rattle.core_store.specs.Stands.{Stands}
 use Rattle.core_store.proofs.AskedGreen.{IsAskedBy, asked-by}
 use Rattle.core_store.proofs.PlanLaws.{live-id}
 use Rattle.core_store.proofs.WantLaws.{ready-all}
-use Rattle.core_store.proofs.NextLaws.{AreFew, few-change, few-one, one-live}
+use Rattle.core_store.proofs.NextLaws.{few-change, few-one, one-live}
 
 -- the object is live, and the slot is one of an object's
 abbrev pub IsThere : ℕ → List Cell → RoundAt → Type 0

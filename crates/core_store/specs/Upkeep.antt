@@ -13,6 +13,6 @@ IsUpkeep m Hidden = Unit {0}
 IsUpkeep m (TurnBusy pass) = least_active m.state ≡ Some pass
 IsUpkeep m _ = ⊥
 
--- the journal with this entry, which logs nothing, in the room that was taken for it
+-- the journal with this entry, which logs nothing, in the room that was reserved for it
 abbrev pub with_upkeep : ℕ → JournalView → Entry → JournalView
 with_upkeep slots j entry = record j { history = with_entry j.history entry; notes = with_note j.notes entry None (left_of slots j.round) Other; reserved = false }

@@ -1,5 +1,6 @@
 -- The object on which a call works.
-use Rattle.std.specs.Prelude.{ℕ, ◌<◌, ◌==◌, if◌then◌else◌, List, [], ◌∷◌, map, Option, Some, None, IfSome}
+use Rattle.std.specs.Prelude.{ℕ, ◌<◌, ◌≤◌, ◌==◌, if◌then◌else◌, List, [], ◌∷◌, length, map, Option, Some, None, IfSome}
+use Rattle.std.specs.List.{AllByRecursion}
 use Rattle.std.specs.Option.{option_map_or}
 use Rattle.cell_model.specs.Cells.{Cell, pointer_at}
 use Rattle.plain_model.specs.declared.write.Place.{Place}
@@ -52,6 +53,16 @@ pub record IsWork (slots : ℕ) (w : Work) : Type 0 where
   pub above : 0 < w.id
   pub small : w.id < 65536
   pub change : IfSome w.change (λ c. (c.0 < slots) × (c.1 < 65536))
+
+-- ids of a store, three at most
+pub record AreFew (ids : ℕ) (objects : List ℕ) : Type 0 where
+  pub few : length objects ≤ 3
+  pub within : AllByRecursion (λ id. (0 < id) × (id ≤ ids)) objects
+
+-- it is work in a store with so many ids and these cells, or there is none
+pub record IsWorkIn (slots ids : ℕ) (cells : List Cell) (work : Option Work) : Type 0 where
+  pub small : IfSome work (IsWork slots)
+  pub few : AreFew ids (option_map_or (objects_of cells) work [])
 
 -- in these cells what the slot holds is small
 abbrev pub HasSmallTargets : List Cell → Type 0

@@ -109,6 +109,7 @@ impl<const SLOTS: usize> Tables<SLOTS> {
     pub(crate) fn least_active(&self) -> Option<u8>
         ensures { (c : Core) → Stands SLOTS (view_of self.now) c → result ≡ least_active c.moment.state }
     {
+        // The clients ascend, by what this tells.
         let _ = self.transactions.len();
         match self.transactions.first_key_value() {
             Some((pass, _)) => Some(*pass),

@@ -1,6 +1,7 @@
 //! The pages that a call works on.
 
-ghost use Rattle.std.specs.Prelude.{◌≡◌, ℕ, ◌<◌, ◌==◌, List, [], ◌∷◌, ◌++◌, length, true, false, slice_index_or, IfSome, IfNone};
+ghost use Rattle.std.specs.Prelude.{◌≡◌, ℕ, ◌<◌, ◌==◌, List, [], ◌∷◌, ◌++◌, length, true, false, slice_index_or, slice_set, IfSome, IfNone};
+ghost use Rattle.std.specs.List.{AllByRecursion};
 ghost use Rattle.cell_model.specs.Cells.{Cell as StoredCell, cell_at, edit};
 ghost use Rattle.cell_page.specs.Format.{IsSlotCount, IsCell, page_of_id};
 ghost use Rattle.cell_page.specs.Stored.{cell_of};
@@ -94,26 +95,30 @@ impl<const SLOTS: usize> Three<SLOTS> {
     }
 
     /// Holds the frame of one page more.
-    pub fn put(&mut self, page: u16, frame: Frame<SLOTS>)
+    pub fn put(&mut self, page: u16, frame: &Frame<SLOTS>)
         requires room { length self.old < 3 }
         requires other { is_held self.old page ≡ false }
-        ensures { self.new ≡ self.old ++ record { page = page; frame = frame.entry } ∷ [] }
+        ensures { self.new ≡ self.old ++ record { page = page; frame = frame.now } ∷ [] }
     {
-        self.frames[self.count] = HeldFrame { page, frame };
+        self.frames[self.count].page = page;
+        self.frames[self.count].frame = *frame;
         self.count += 1;
     }
 
-    /// Gives the frame that was put last, with its page, and `None` exactly where none is held.
-    pub fn take(&mut self) -> Option<(u16, Frame<SLOTS>)>
-        ensures last { IfSome result (λ given. self.old ≡ self.new ++ record { page = given.0; frame = given.1 } ∷ []) }
-        ensures none { IfNone result ((self.old ≡ []) × (self.new ≡ [])) }
+    /// Puts the frame that was put last into its place among the frames of all pages, and lets it go. Gives its page, and
+    /// `None` exactly where none is held.
+    pub fn put_back(&mut self, frames: &mut [Frame<SLOTS>]) -> Option<u16>
+        requires within { AllByRecursion (λ h. h.page < length frames.old) self.old }
+        ensures last { IfSome result (λ page. (frame : Frame SLOTS) × (self.old ≡ self.new ++ record { page = page; frame = frame } ∷ []) × (frames.new ≡ slice_set frames.old page frame)) }
+        ensures none { IfNone result ((self.old ≡ []) × (self.new ≡ []) × (frames.new ≡ frames.old)) }
     {
         if self.count == 0 {
             return None;
         }
         self.count -= 1;
         let held = &self.frames[self.count];
-        Some((held.page, held.frame))
+        frames[held.page as usize] = held.frame;
+        Some(held.page)
     }
 
     /// Whether no frame is held.

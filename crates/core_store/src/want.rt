@@ -22,10 +22,12 @@ pub enum Want {
 }
 
 /// The object that a call works on, and, where it changes a slot, this slot and what it is to hold.
-#[derive(Clone, Copy)]
-pub(crate) struct Work {
-    pub(crate) id: u32,
-    pub(crate) change: Option<(u8, u32)>,
+#[derive(Clone, Copy, PartialEq, Eq, Debug)]
+pub struct Work {
+    /// The object's id.
+    pub id: u32,
+    /// The slot that changes, and the id that it is to hold, or 0 for null.
+    pub change: Option<(u8, u32)>,
 }
 
 /// The page of an id, or the other one for null.

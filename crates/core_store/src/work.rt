@@ -7,10 +7,9 @@ ghost use Rattle.core_store.specs.Transactions.{running_at};
 ghost use Rattle.core_store.specs.Frames.{Agree, IsNext, pages_held};
 ghost use Rattle.core_store.specs.Logged.{want_of, pages_for, pages_for_undo};
 ghost use Rattle.core_store.specs.Replaced.{next_to_restore};
-ghost use Rattle.core_store.specs.Work.{work_of, work_of_undo};
+ghost use Rattle.core_store.specs.Work.{work_of, work_of_undo, pages_of_work, IsWorkIn};
 ghost use Rattle.core_store.specs.Views.{view_of};
 ghost use Rattle.core_store.specs.Stands.{Stands};
-ghost use Rattle.core_store.specs.Ready.{IsStanding};
 
 use crate::plan::Plan;
 use crate::tables::Tables;
@@ -20,30 +19,38 @@ use crate::want::{Want, Work, wanted};
 use plain_model::{Call, Place, Write};
 
 impl<const SLOTS: usize> Tables<SLOTS> {
-    /// What is to be done with the held pages before the call can be made.
-    pub(crate) fn wants(&self, held: &Three<SLOTS>, pass: u8, call: &Call) -> Want
+    /// What the call works on: nothing where it is refused.
+    pub(crate) fn work(&self, pass: u8, call: &Call) -> Option<Work>
         requires in_range { IsInRange SLOTS call.now }
         requires no_abort { call.now ≡ Call.Abort → running_at self.now.transactions.entries pass ≡ None }
-        requires standing { IsStanding (view_of self.now) held.now }
-        ensures exact { (c : Core) → Stands SLOTS (view_of self.now) c → Agree c.cells held.now → result ≡ want_of (pages_for c.moment.state c.cells pass call.now) (pages_held held.now) }
-        ensures next { (page : ℕ) → result ≡ Want.Page page → IsNext self.now.ids held.now page }
+        ensures works { (c : Core) → Stands SLOTS (view_of self.now) c → IsWorkIn SLOTS self.now.ids c.cells result }
+        ensures pages { (c : Core) → Stands SLOTS (view_of self.now) c → pages_of_work c.cells result ≡ pages_for c.moment.state c.cells pass call.now }
     {
         match self.plan(pass, call) {
-            Ok(plan) => wanted(held, work_of(plan)),
-            Err(_) => wanted(held, None),
+            Ok(plan) => work_of(plan),
+            Err(_) => None,
         }
     }
 
-    /// What is to be done with the held pages before an abort step of the client can be made.
-    pub(crate) fn wants_abort_step(&self, held: &Three<SLOTS>, pass: u8) -> Want
-        requires standing { IsStanding (view_of self.now) held.now }
-        ensures exact { (c : Core) → Stands SLOTS (view_of self.now) c → Agree c.cells held.now → result ≡ want_of (pages_for_undo c.cells (next_to_restore c.moment pass)) (pages_held held.now) }
-        ensures next { (page : ℕ) → result ≡ Want.Page page → IsNext self.now.ids held.now page }
+    /// What the next abort step of the client works on: nothing where it ends the transaction.
+    pub(crate) fn undo_work(&self, pass: u8) -> Option<Work>
+        requires standing { (c : Core) × Stands SLOTS (view_of self.now) c }
+        ensures works { (c : Core) → Stands SLOTS (view_of self.now) c → IsWorkIn SLOTS self.now.ids c.cells result }
+        ensures pages { (c : Core) → Stands SLOTS (view_of self.now) c → pages_of_work c.cells result ≡ pages_for_undo c.cells (next_to_restore c.moment pass) }
     {
         match transactions::last_replaced(&self.transactions, pass) {
-            Some(replaced) => wanted(held, Some(work_of_undo(replaced))),
-            None => wanted(held, None),
+            Some(replaced) => Some(work_of_undo(replaced)),
+            None => None,
         }
+    }
+
+    /// What is to be done with the held pages before this can be worked on.
+    pub(crate) fn wants(&self, work: Option<Work>, held: &Three<SLOTS>) -> Want
+        requires standing { (c : Core) × Stands SLOTS (view_of self.now) c × Agree c.cells held.now × IsWorkIn SLOTS self.now.ids c.cells work }
+        ensures exact { (c : Core) → Stands SLOTS (view_of self.now) c → Agree c.cells held.now → result ≡ want_of (pages_of_work c.cells work) (pages_held held.now) }
+        ensures next { (page : ℕ) → result ≡ Want.Page page → IsNext self.now.ids held.now page }
+    {
+        wanted(held, work)
     }
 }
 

@@ -7,11 +7,58 @@ use std::io::ErrorKind;
 use std::os::unix::fs::FileExt;
 use std::path::{Path, PathBuf};
 
+/// An open file, and how many bytes it has, where that was asked and no call on it failed since. Whoever works on the
+/// files has their lock, so nobody else changes the number.
+#[derive(Drop)]
+struct OpenFile {
+    file: File,
+    len: Option<u64>,
+}
+
+impl OpenFile {
+    /// How many bytes the file has.
+    fn len(&mut self) -> io::Result<u64> {
+        if let Some(len) = self.len {
+            return Ok(len);
+        }
+        let len = self.file.metadata()?.len();
+        self.len = Some(len);
+        Ok(len)
+    }
+
+    /// Fails where the file has fewer bytes than so many, and else gives how many it has.
+    fn require_bytes(&mut self, count: u64) -> io::Result<u64> {
+        let len = self.len()?;
+        if len < count {
+            return Err(ErrorKind::InvalidInput.into());
+        }
+        Ok(len)
+    }
+
+    /// Writes the bytes at this offset, which can't be past the end.
+    fn write_at(&mut self, at: u64, bytes: &[u8]) -> io::Result<()> {
+        let len = self.require_bytes(at)?;
+        self.len = None;
+        self.file.write_all_at(bytes, at)?;
+        self.len = Some(len.max(at.saturating_add(bytes.len() as u64)));
+        Ok(())
+    }
+
+    /// Takes the bytes from this length on away. The file can't be shorter.
+    fn cut(&mut self, len: u64) -> io::Result<()> {
+        self.require_bytes(len)?;
+        self.len = None;
+        self.file.set_len(len)?;
+        self.len = Some(len);
+        Ok(())
+    }
+}
+
 /// The file of an area, and whether it was opened.
 #[derive(Drop)]
 struct AreaFile {
     path: PathBuf,
-    file: Option<File>,
+    open: Option<OpenFile>,
 }
 
 impl AreaFile {
@@ -19,16 +66,21 @@ impl AreaFile {
     fn new(alloc: Global, folder: Path<'_>, name: &str) -> Result<AreaFile, AllocError> {
         Ok(AreaFile {
             path: folder.join(alloc, name)?,
-            file: None,
+            open: None,
         })
     }
 
     /// The open file. The first call opens it.
-    fn opened<R: Files<File = File>>(&mut self, files: &R, folder: Path<'_>) -> io::Result<&File> {
-        if self.file.is_none() {
-            self.file = Some(open_for_good(files, folder, self.path.as_path())?);
+    fn opened<R: Files<File = File>>(
+        &mut self,
+        files: &R,
+        folder: Path<'_>,
+    ) -> io::Result<&mut OpenFile> {
+        if self.open.is_none() {
+            let file = open_for_good(files, folder, self.path.as_path())?;
+            self.open = Some(OpenFile { file, len: None });
         }
-        Ok(self.file.as_ref().unwrap())
+        Ok(self.open.as_mut().unwrap())
     }
 }
 
@@ -75,7 +127,7 @@ impl<R: Files<File = File> + Drop> HostFiles<R> {
     }
 
     /// The open file of the area. The first call on the area opens it.
-    fn opened(&mut self, area: Area) -> io::Result<&File> {
+    fn opened(&mut self, area: Area) -> io::Result<&mut OpenFile> {
         let folder = self.folder.as_path();
         match area {
             Area::Pages => self.pages.opened(&self.files, folder),
@@ -87,46 +139,34 @@ impl<R: Files<File = File> + Drop> HostFiles<R> {
 
     /// Takes the lock of the super area's file. It is held until these files are dropped.
     pub(crate) fn lock(&mut self) -> Result<(), TryLockError> {
-        let file = self.opened(Area::Super).map_err(TryLockError::Error)?;
-        file.try_lock()
+        let open = self.opened(Area::Super).map_err(TryLockError::Error)?;
+        open.file.try_lock()
     }
 
     /// How many bytes the area has.
     pub(crate) fn len(&mut self, area: Area) -> io::Result<u64> {
-        Ok(self.opened(area)?.metadata()?.len())
+        self.opened(area)?.len()
     }
 
     /// Fills the buffer with the bytes of the area from this offset on. All of them have to be there.
     pub(crate) fn read_at(&mut self, area: Area, at: u64, into: &mut [u8]) -> io::Result<()> {
-        let file = self.opened(area)?;
-        require_bytes(file, at.saturating_add(into.len() as u64))?;
-        file.read_exact_at(into, at)
+        let open = self.opened(area)?;
+        open.require_bytes(at.saturating_add(into.len() as u64))?;
+        open.file.read_exact_at(into, at)
     }
 
     /// Writes the bytes at this offset of the area, which can't be past the end.
     pub(crate) fn write_at(&mut self, area: Area, at: u64, bytes: &[u8]) -> io::Result<()> {
-        let file = self.opened(area)?;
-        require_bytes(file, at)?;
-        file.write_all_at(bytes, at)
+        self.opened(area)?.write_at(at, bytes)
     }
 
     /// Takes the bytes of the area from this length on away. The area can't be shorter.
     pub(crate) fn cut(&mut self, area: Area, len: u64) -> io::Result<()> {
-        let file = self.opened(area)?;
-        require_bytes(file, len)?;
-        file.set_len(len)
+        self.opened(area)?.cut(len)
     }
 
     /// Makes what the area reads last.
     pub(crate) fn sync(&mut self, area: Area) -> io::Result<()> {
-        self.opened(area)?.sync_data()
+        self.opened(area)?.file.sync_data()
     }
-}
-
-/// Fails where the file has fewer bytes than so many.
-fn require_bytes(file: &File, count: u64) -> io::Result<()> {
-    if file.metadata()?.len() < count {
-        return Err(ErrorKind::InvalidInput.into());
-    }
-    Ok(())
 }
