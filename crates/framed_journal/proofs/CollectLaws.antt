@@ -1,5 +1,5 @@
 -- What a step of the collector is to the journal before the looks.
-use Rattle.std.proofs.Common.{◌≡◌, ℕ, ◌<◌, max, true, false, [], Ok, Err, None, refl, sym, ap, subst, ◌∙◌}
+use Rattle.std.proofs.Common.{◌≡◌, ℕ, ◌<◌, max, true, false, List, [], ◌∷◌, ◌++◌, Ok, Err, None, refl, sym, ap, subst, ◌∙◌}
 use Rattle.std.specs.Prelude.{◌↔◌, Result, IfOk, IsErrOf, Some}
 use Rattle.plain_model.specs.History.{History, end_of}
 use Rattle.plain_model.specs.Outcomes.{IsReachableInSomeOutcome}
@@ -13,7 +13,9 @@ use Rattle.core_store.specs.Steppings.{left_told, pops, OnlyLooks}
 use Rattle.logged_journal.specs.declared.collect.CollectRefusal.{CollectRefusal}
 use Rattle.logged_journal.specs.declared.collect.CollectRefusal.TheVariants.{LogFull}
 use Rattle.logged_journal.specs.View.{LoggedView, bytes_counted}
-use Rattle.logged_journal.specs.Calls.{KeepsDisk, GoesOn, IsPastLogToCollect, DoesCollect}
+use Rattle.page_marks.specs.declared.marks.PageMark.{PageMark}
+use Rattle.logged_journal.specs.Records.{AreMarkedAfter}
+use Rattle.logged_journal.specs.Calls.{KeepsDisk, GoesOn, GoWithNotes, stayed, joined, IsPastLogToCollect, DoesCollect}
 use Rattle.framed_journal.specs.Steps.{CollectsOnFrames, CollectsNext, FillsLog}
 
 -- looks leave the history as full as it was
@@ -102,17 +104,26 @@ fills-log {D} slots u v w same l ready past marked = record {
   marked = marked ∙ ap (λ (x : LoggedView D). let y : LoggedView D = record x { log_full = true } in y) same;
 }
 
-pub goes_on-before : {D : Type 0} (u v w : LoggedView D) → v ≡ record u { journal = v.journal } → GoesOn v w → GoesOn u w
-goes_on-before {D} u v w same on = record {
+-- looks join no note, and so leave the marks of pages
+with_notes-before : {D : Type 0} (slots : ℕ) (u v w : LoggedView D) → v ≡ record u { journal = v.journal } → OnlyLooks slots u.journal v.journal → GoWithNotes v w → GoWithNotes u w
+with_notes-before {D} slots u v w same l (stayed notes marks) = stayed (notes ∙ ap (λ (j : JournalView). j.notes) l.same) (marks ∙ ap (λ (x : LoggedView D). x.marks) same)
+with_notes-before {D} slots u v w same l (joined n notes marked) =
+    joined n (notes ∙ ap (λ (j : JournalView). j.notes ++ n ∷ []) l.same)
+    (subst (λ (ms : List PageMark). AreMarkedAfter u.journal.history.slots n.logged ms w.marks) (ap (λ (x : LoggedView D). x.marks) same)
+    (subst (λ (k : ℕ). AreMarkedAfter k n.logged v.marks w.marks) (ap (λ (j : JournalView). j.history.slots) l.same) marked))
+
+pub goes_on-before : {D : Type 0} (slots : ℕ) (u v w : LoggedView D) → v ≡ record u { journal = v.journal } → OnlyLooks slots u.journal v.journal → GoesOn v w → GoesOn u w
+goes_on-before {D} slots u v w same l on = record {
+  marks = with_notes-before slots u v w same l on.marks;
   running = on.running;
   log_full = on.log_full ∙ ap (λ (x : LoggedView D). x.log_full) same;
   peak = on.peak ∙ ap (λ (x : LoggedView D). max x.peak (bytes_counted w)) same;
   opened = on.opened ∙ ap (λ (x : LoggedView D). x.opened) same;
 }
 
-pub all_go_on-before : {D : Type 0} (u v w : LoggedView D) (r : Result Collect CollectRefusal) → v ≡ record u { journal = v.journal } → IfOk r (λ _. GoesOn v w) → IfOk r (λ _. GoesOn u w)
-all_go_on-before u v w (Ok step) same on = goes_on-before u v w same on
-all_go_on-before u v w (Err e) same on = tt
+pub all_go_on-before : {D : Type 0} (slots : ℕ) (u v w : LoggedView D) (r : Result Collect CollectRefusal) → v ≡ record u { journal = v.journal } → OnlyLooks slots u.journal v.journal → IfOk r (λ _. GoesOn v w) → IfOk r (λ _. GoesOn u w)
+all_go_on-before slots u v w (Ok step) same l on = goes_on-before slots u v w same l on
+all_go_on-before slots u v w (Err e) same l on = tt
 
 pub disk-before : {D : Type 0} (u v w : LoggedView D) → v ≡ record u { journal = v.journal } → KeepsDisk v w → KeepsDisk u w
 disk-before {D} u v w same kept = record { disk = kept.disk ∙ ap (λ (x : LoggedView D). x.disk) same; durable = kept.durable ∙ ap (λ (x : LoggedView D). x.durable) same }

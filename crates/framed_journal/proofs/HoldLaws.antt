@@ -24,7 +24,7 @@ slots-few slots size = ⊎_elim (λ six. omega arith) (λ fourteen. omega arith)
 -- ---- frames are held
 
 -- the frame of a page
-AllAgree-at : {slots : ℕ} (cells : List Cell) (frames : List (Frame slots)) (page : ℕ) (d : Frame slots) → AllAgree cells frames → page < length frames → HoldsPage cells page (get_or frames page d).page
+pub AllAgree-at : {slots : ℕ} (cells : List Cell) (frames : List (Frame slots)) (page : ℕ) (d : Frame slots) → AllAgree cells frames → page < length frames → HoldsPage cells page (get_or frames page d).page
 AllAgree-at cells frames page d agree within = agree page (get_or frames page d) (slice_get-get_or frames page d within)
 
 -- a page of the store has its frame

@@ -5,3 +5,4 @@ pub mod CollectLaws
 pub mod UndoLaws
 pub mod SizeLaws
 pub mod StopLaws
+pub mod UpkeepLaws

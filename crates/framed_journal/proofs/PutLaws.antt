@@ -1,7 +1,7 @@
 -- Frames are put back into their places.
-use Rattle.std.proofs.Common.{◌≡◌, ◌≢◌, ℕ, ◌<◌, false, List, [], ◌∷◌, ◌++◌, length, set, refl, sym, ap, ◌∙◌, inl, inr}
+use Rattle.std.proofs.Common.{◌≡◌, ◌≢◌, ℕ, ◌<◌, false, List, [], ◌∷◌, ◌++◌, length, set, take, drop, refl, sym, ap, ◌∙◌, inl, inr}
 use Rattle.std.specs.Prelude.{◌==◌, Some, slice_get}
-use Rattle.std.specs.List.{AllByRecursion}
+use Rattle.std.proofs.Math.Seq.{take-append_seam}
 use Rattle.std.proofs.lemmas.Bool.{eqb-true, eq-eqb, cases_Bool}
 use Rattle.std.proofs.lemmas.List.{length-set, get_or-set_other}
 use Rattle.std.proofs.lemmas.Grind.{get_or-set_at}
@@ -44,7 +44,6 @@ PutsBack-more old now held left h within p = record {
 pub FollowsChange-all : {slots : ℕ} (old now : List (Frame slots)) (held left : List (HeldFrame slots)) → left ≡ [] → PutsBack old now held left → FollowsChange old now held
 FollowsChange-all old now held left none p before after fits agree elsewhere page frame got = p.put_agree before after fits agree elsewhere page frame got (rw none refl)
 
--- what holds of all holds of the last and of those before
-pub each-taken : {slots : ℕ} (P : HeldFrame slots → Type 0) (hs : List (HeldFrame slots)) (h : HeldFrame slots) → AllByRecursion P (hs ++ h ∷ []) → AllByRecursion P hs × P h
-each-taken P [] h all = (tt, all.0)
-each-taken P (x ∷ hs) h all = let rest = each-taken P hs h all.1 in ((all.0, rest.0), rest.1)
+-- what was written through a slice of all frames is all of them
+pub written : {X : Type 0} (old new : List X) (n : ℕ) → n ≡ length old → length new ≡ length old → take n (new ++ drop (length new) old) ≡ new
+written old new n all same = ap (λ (m : ℕ). take m (new ++ drop (length new) old)) (all ∙ sym same) ∙ take-append_seam new (drop (length new) old)

@@ -15,17 +15,17 @@ use Rattle.core_store.specs.JournalView.{JournalView}
 use Rattle.core_store.specs.Steppings.{IsEntered}
 use Rattle.logged_journal.specs.declared.collect.CollectRefusal.{CollectRefusal}
 use Rattle.logged_journal.specs.declared.collect.CollectRefusal.TheVariants as refusal
-use Rattle.logged_journal.specs.declared.failed.FailedCommit.{FailedCommit}
+use Rattle.logged_journal.specs.declared.failed.FailedCall.{FailedCall}
 use Rattle.logged_journal.specs.declared.failed.Stopped.{Stopped}
 use Rattle.logged_journal.specs.View.{LoggedView}
 use Rattle.logged_journal.specs.Calls.{IsOfJournal, DoesCall, DoesAbortStep, DoesCollect}
 use Rattle.framed_journal.proofs.HoldLaws.{IsSameSize, size-kept, size-marked, size-more}
 
 -- where the disk failed a commit before, nothing changed
-pub stopped-same : {D : Type 0} (old new : LoggedView D) (P : FailedCommit → Type 0) (Q : Type 0) → IfSome old.failed (λ f. P f × (new ≡ old) × Q) → IsSome old.failed → new.journal ≡ old.journal
+pub stopped-same : {D : Type 0} (old new : LoggedView D) (P : FailedCall → Type 0) (Q : Type 0) → IfSome old.failed (λ f. P f × (new ≡ old) × Q) → IsSome old.failed → new.journal ≡ old.journal
 stopped-same {D} old new P Q stopped some = at_some old.failed stopped some
   where
-    at_some : (o : Option FailedCommit) → IfSome o (λ f. P f × (new ≡ old) × Q) → IsSome o → new.journal ≡ old.journal
+    at_some : (o : Option FailedCall) → IfSome o (λ f. P f × (new ≡ old) × Q) → IsSome o → new.journal ≡ old.journal
     at_some None all some = absurd (cc)
     at_some (Some f) all some = ap (λ (v : LoggedView D). v.journal) all.1
 

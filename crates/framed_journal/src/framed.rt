@@ -1,32 +1,37 @@
 //! A journal with its log, and the frames of its pages.
-ghost use Rattle.std.specs.Prelude.{◌≡◌, ◌≢◌, ◌↔◌, ℕ, ◌*◌, ◌≤◌, List, [], true, false, length, IfOk, IfErr, IfSome, IsErrOf, OnOk, IsSome, Some, None};
+ghost use Rattle.std.specs.Prelude.{◌≡◌, ◌≢◌, ◌↔◌, ◌⊎◌, ℕ, ◌*◌, ◌<◌, ◌≤◌, List, [], true, false, length, IfOk, IfErr, IfSome, IsErrOf, OnOk, IsSome, Some, None};
 ghost use Rattle.plain_model.specs.Machine.{IsInRange, refusal_of, transaction_of};
-ghost use Rattle.plain_model.specs.History.{with_entry, end_of, left_to_undo};
+ghost use Rattle.plain_model.specs.History.{with_entry, end_of, left_to_undo, least_active};
 ghost use Rattle.cell_model.specs.Consistent.{AreConsistent};
 ghost use Rattle.restart_laws.specs.Graph.{zeros_of};
 ghost use Rattle.disk_model.specs.declared.area.Area.TheVariants.{Pages};
-ghost use Rattle.disk_model.specs.Told.{Leaves};
+ghost use Rattle.disk_model.specs.Told.{Leaves, EachImage};
 ghost use Rattle.disk_model.specs.Time.{LeavesOnlyImages};
-ghost use Rattle.cell_page.specs.Format.{IsSlotCount};
+ghost use Rattle.cell_page.specs.Format.{IsSlotCount, page_size};
 ghost use Rattle.gate_log.specs.declared.stage.Stage.TheVariants.{Standing};
 ghost use Rattle.gate_log.specs.Batches.{most_bytes};
-ghost use Rattle.gate_log.specs.State.{used};
+ghost use Rattle.gate_log.specs.State.{used, other_log};
 ghost use Rattle.gate_log.specs.OnDisk.{IsOn};
-ghost use Rattle.opened_images.specs.GoesOn.{IsBegun};
+ghost use Rattle.page_marks.specs.Marks.{IsMarkedBegun};
 ghost use Rattle.core_store.specs.RoundView.{Closed};
-ghost use Rattle.core_store.specs.Limited.{AreLimits};
+ghost use Rattle.core_store.specs.Limited.{AreLimits, is_past_limit};
+ghost use Rattle.core_store.specs.JournalView.{cells_of};
 ghost use Rattle.core_store.specs.Opening.{ArePages, stored_in, opened_history};
-ghost use Rattle.logged_journal.specs.Records.{MayHave};
-ghost use Rattle.logged_journal.specs.Opens.{OpensDuring};
+ghost use Rattle.logged_journal.specs.View.{OnlyTakesRoom, bytes_counted, history_of};
+ghost use Rattle.logged_journal.specs.Records.{MayHave, MayHaveAll};
+ghost use Rattle.logged_journal.specs.Opens.{OpensAfter, OpensDuring};
+ghost use Rattle.logged_journal.specs.Upkeep.{IsPastLogToClean, IsTurned, Turns, TellsBusy, FailsUpkeep};
 ghost use Rattle.logged_journal.specs.Calls.{IsOfJournal, IsGranted, IsPastLog, DoesCall, KeepsDisk, GoesOn, FailsCommit, DoesAbortStep};
 ghost use Rattle.framed_journal.specs.Holding.{AreFramesOf};
+ghost use Rattle.framed_journal.specs.Upkeep.{CleansPage};
 ghost use Rattle.framed_journal.specs.Steps.{CollectsNext, CollectsOnFrames, FillsLog, UndoesAll, with_undos};
 
 use crate::holding::{hold_for_abort_step, hold_for_call, hold_for_collect_step, put_back};
 use core_store::{AbortStep, Collect, Frame, Limits, Three};
 use disk_model::Disk;
 use gate_log::GateLog;
-use logged_journal::{CollectRefusal, LoggedJournal, Stopped};
+use logged_journal::{CollectRefusal, LoggedJournal, Stopped, Upkeep};
+use page_marks::PageMarks;
 use plain_model::{Call, Entry, Memory, Reply};
 use std::alloc::Global;
 use std::marker::Model;
@@ -64,6 +69,7 @@ impl<const SLOTS: usize, D: Disk> FramedJournal<SLOTS, D> {
         alloc: Global,
         disk: D,
         log: GateLog,
+        marks: PageMarks,
         frames: Vec<Frame<SLOTS>>,
         limits: Limits,
     ) -> Result<FramedJournal<SLOTS, D>, (Memory, D)>
@@ -73,20 +79,23 @@ impl<const SLOTS: usize, D: Disk> FramedJournal<SLOTS, D> {
         requires consistent { AreConsistent SLOTS (8 * length frames.items) (stored_in frames.items) }
         requires limits { AreLimits limits }
         requires standing { (log.stage ≡ Standing) × (log.tail ≡ []) × (used log ≤ most_bytes) }
+        requires marked { length marks ≡ length frames.items }
         requires begun { (batches : List (List ℕ)) × IsOn D.may_leave log disk batches
-            × Leaves D.may_leave disk Pages (λ area. IsBegun SLOTS (length frames.items) area batches (stored_in frames.items)) }
+            × Leaves D.may_leave disk Pages (λ area. IsMarkedBegun SLOTS (length frames.items) area batches (stored_in frames.items) marks) }
+        requires long { Leaves D.may_leave disk Pages (λ area. page_size SLOTS * length marks ≤ length area) }
         ensures opening { IfOk result (λ j. j.journal.opening ≡ stored_in frames.entry.items) }
         ensures history { IfOk result (λ j. j.journal.history ≡ opened_history SLOTS (8 * length frames.entry.items) (stored_in frames.entry.items)) }
         ensures notes { IfOk result (λ j. (j.journal.notes ≡ []) × (j.durable ≡ 0)) }
         ensures limits { IfOk result (λ j. (j.journal.limits ≡ limits) × (j.journal.marks ≡ record { disk = false; trace = false; log = false })) }
         ensures collector { IfOk result (λ j. (j.journal.queue ≡ zeros_of (stored_in frames.entry.items)) × (j.journal.round ≡ Closed)) }
+        ensures marked { IfOk result (λ j. j.marks ≡ marks) }
         ensures running { IfOk result (λ j. (j.failed ≡ None) × (j.log_full ≡ false)) }
         ensures log { IfOk result (λ j. (j.log ≡ log) × (j.peak ≡ used log)) }
         ensures disk { IfOk result (λ j. j.disk ≡ disk) }
         ensures opened { IfOk result (λ j. j.opened ≡ D.faults disk) }
         ensures back { IfErr result (λ e. e.1 ≡ disk) }
     {
-        let logged = LoggedJournal::resume(alloc, disk, log, frames.as_slice(), limits)?;
+        let logged = LoggedJournal::resume(alloc, disk, log, marks, frames.as_slice(), limits)?;
         Ok(FramedJournal {
             logged,
             frames,
@@ -112,7 +121,7 @@ impl<const SLOTS: usize, D: Disk> FramedJournal<SLOTS, D> {
     /// Does the call, adds its entry and answers what the entry says. What it changed joins the log with it, and a commit
     /// is answered when it is there for good.
     ///
-    /// `Reply::Stopped` comes exactly where the disk failed a commit before, `Reply::LogFull` exactly where the call would
+    /// `Reply::Stopped` comes exactly where the disk failed a call before, `Reply::LogFull` exactly where the call would
     /// be done and what it needs would go past the log's limit. Both do nothing. `Reply::DiskFault` comes of a commit alone,
     /// and only where the disk's count of faults rose in this call.
     pub fn call(&mut self, client: u8, call: &Call) -> Reply
@@ -153,7 +162,7 @@ impl<const SLOTS: usize, D: Disk> FramedJournal<SLOTS, D> {
     /// Undoes the last write of the client's transaction that isn't undone, or ends the transaction where none is left. It
     /// takes no memory.
     ///
-    /// [`Stopped`] comes exactly where the disk failed a commit before.
+    /// [`Stopped`] comes exactly where the disk failed a call before.
     pub fn abort_step(&mut self, client: u8) -> Result<AbortStep, Stopped>
         requires { IsSome (transaction_of (end_of self.old.journal.history).state client) }
         ensures stopped { IfSome self.old.failed (λ f. IsErrOf result (record { faults = f.faults }) × (self.new ≡ self.old)) }
@@ -172,7 +181,7 @@ impl<const SLOTS: usize, D: Disk> FramedJournal<SLOTS, D> {
     /// Undoes each write of the client's transaction that isn't undone, the last one first, and ends the transaction. It
     /// takes no memory.
     ///
-    /// [`Stopped`] comes exactly where the disk failed a commit before. Then nothing is done.
+    /// [`Stopped`] comes exactly where the disk failed a call before. Then nothing is done.
     pub fn abort(&mut self, client: u8) -> Result<(), Stopped>
         requires { IsSome (transaction_of (end_of self.old.journal.history).state client) }
         ensures stopped { IfSome self.old.failed (λ f. IsErrOf result (record { faults = f.faults }) × (self.new ≡ self.old)) }
@@ -194,7 +203,7 @@ impl<const SLOTS: usize, D: Disk> FramedJournal<SLOTS, D> {
     ///
     /// It looks at slots until there is something to do. Where the history is not full, it is idle exactly where the queue is
     /// empty and no round is open. No object is deleted that is reachable, from the root or a held reference, in any outcome of
-    /// the active transactions. [`CollectRefusal::Stopped`] comes exactly where the disk failed a commit before,
+    /// the active transactions. [`CollectRefusal::Stopped`] comes exactly where the disk failed a call before,
     /// [`CollectRefusal::LogFull`] exactly where the event's record would go past the log's limit.
     pub fn collect_step(&mut self) -> Result<Collect, CollectRefusal>
         ensures stopped { IfSome self.old.failed (λ f. IsErrOf result (CollectRefusal.Stopped f.faults) × (self.new ≡ self.old)) }
@@ -215,6 +224,73 @@ impl<const SLOTS: usize, D: Disk> FramedJournal<SLOTS, D> {
         let step = self.logged.collect_step(&mut self.held);
         put_back(&mut self.frames, &mut self.held);
         step
+    }
+
+    /// Cleans the page of this number, from 0: an image of it joins the log where its last image isn't current, the log is
+    /// forced, and the page is made to last in place. It changes no object, and enters an entry that says so.
+    ///
+    /// [`Upkeep::Stopped`] comes exactly where the disk failed a call before, [`Upkeep::TraceFull`] exactly where the history has
+    /// no room for one entry, [`Upkeep::LogFull`] exactly where the page's image would go past the log's limit. These and
+    /// [`Upkeep::Memory`] do nothing. [`Upkeep::DiskFault`] comes only where the disk's count of faults rose in this call; the store
+    /// is then stopped. [`Upkeep::Busy`] never comes.
+    pub fn clean(&mut self, page: u16) -> Upkeep
+        requires { 8 * page < self.old.journal.history.ids }
+        ensures stopped { IfSome self.old.failed (λ f. (result ≡ Upkeep.Stopped f.faults) × (self.new ≡ self.old)) }
+        ensures only_stopped { (faults : ℕ) → result ≡ Upkeep.Stopped faults → IsSome self.old.failed }
+        ensures never_busy { (pass : ℕ) → result ≢ Upkeep.Busy pass }
+        ensures full { (result ≡ Upkeep.TraceFull) ↔ (self.old.failed ≡ None) × (is_past_limit self.old.journal 1 ≡ true) }
+        ensures marked { result ≡ Upkeep.TraceFull → self.new ≡ record self.old { journal = record self.old.journal { marks = record self.old.journal.marks { trace = true } } } }
+        ensures log_full { (result ≡ Upkeep.LogFull) ↔ IsPastLogToClean SLOTS self.old }
+        ensures log_marked { result ≡ Upkeep.LogFull → OnlyTakesRoom (record self.old { log_full = true }) self.new }
+        ensures memory { result ≡ Upkeep.Memory → OnlyTakesRoom self.old self.new }
+
+        // After it each image of the disk has the page in place and as the log's last image of it.
+        ensures done { result ≡ Upkeep.Done → CleansPage SLOTS D.may_leave self.old self.new page }
+        ensures fault { result ≡ Upkeep.DiskFault → FailsUpkeep D.faults self.old self.new }
+        ensures later { D.faults self.old.disk ≤ D.faults self.new.disk }
+
+        // At each moment of the call a power loss leaves a log of what was there for good before, or of all that was done. So
+        // at each of them the store opens, to a graph that a crash before the call may leave.
+        ensures moments { LeavesOnlyImages D.moment D.left_since self.old.disk self.new.disk (MayHaveAll self.old) }
+        ensures opens { LeavesOnlyImages D.moment D.left_since self.old.disk self.new.disk (OpensAfter SLOTS (history_of self.old)) }
+    {
+        self.logged.clean(&self.frames[page as usize], page)
+    }
+
+    /// Turns the log: images of all pages that changed since it began join it where none is current, it is forced, and each of
+    /// these pages is made to last in place. Then it begins anew in the other log area, with its first batch alone. It changes no
+    /// object, and enters an entry that says so.
+    ///
+    /// [`Upkeep::Stopped`] comes exactly where the disk failed a call before, [`Upkeep::TraceFull`] exactly where the history has
+    /// no room for one entry, and [`Upkeep::Busy`] exactly where a transaction is active; it names the least such client, and
+    /// enters the history. [`Upkeep::LogFull`] never comes where the bytes of the log in use and those that are owed are within
+    /// its limit. These but `Busy`, and [`Upkeep::Memory`], do nothing. [`Upkeep::DiskFault`] comes only where the disk's count of
+    /// faults rose in this call; the store is then stopped.
+    pub fn turn(&mut self) -> Upkeep
+        ensures stopped { IfSome self.old.failed (λ f. (result ≡ Upkeep.Stopped f.faults) × (self.new ≡ self.old)) }
+        ensures only_stopped { (faults : ℕ) → result ≡ Upkeep.Stopped faults → IsSome self.old.failed }
+        ensures full { (result ≡ Upkeep.TraceFull) ↔ (self.old.failed ≡ None) × (is_past_limit self.old.journal 1 ≡ true) }
+        ensures marked { result ≡ Upkeep.TraceFull → self.new ≡ record self.old { journal = record self.old.journal { marks = record self.old.journal.marks { trace = true } } } }
+        ensures busy { (pass : ℕ) → self.old.failed ≡ None → is_past_limit self.old.journal 1 ≡ false → least_active (end_of self.old.journal.history).state ≡ Some pass
+            → (result ≡ Upkeep.Busy pass) ⊎ (result ≡ Upkeep.Memory) }
+        ensures only_busy { (pass : ℕ) → result ≡ Upkeep.Busy pass → least_active (end_of self.old.journal.history).state ≡ Some pass }
+        ensures told { (pass : ℕ) → result ≡ Upkeep.Busy pass → TellsBusy SLOTS self.old self.new pass }
+        ensures log_full { result ≡ Upkeep.LogFull → self.old.journal.limits.log < bytes_counted self.old }
+        ensures log_marked { result ≡ Upkeep.LogFull → OnlyTakesRoom (record self.old { log_full = true }) self.new }
+        ensures memory { result ≡ Upkeep.Memory → OnlyTakesRoom self.old self.new }
+        ensures done { result ≡ Upkeep.Done → Turns SLOTS self.old self.new }
+
+        // After it each image of the disk has every page in place, and names the other log area, which has the first batch alone.
+        ensures turned { result ≡ Upkeep.Done → EachImage D.may_leave self.new.disk (IsTurned SLOTS (cells_of self.old.journal) (other_log self.old.log.area)) }
+        ensures fault { result ≡ Upkeep.DiskFault → FailsUpkeep D.faults self.old self.new }
+        ensures later { D.faults self.old.disk ≤ D.faults self.new.disk }
+
+        // At each moment of the call a power loss leaves a log of what was there for good before, or of all that was done. So
+        // at each of them the store opens, to a graph that a crash before the call may leave.
+        ensures moments { LeavesOnlyImages D.moment D.left_since self.old.disk self.new.disk (MayHaveAll self.old) }
+        ensures opens { LeavesOnlyImages D.moment D.left_since self.old.disk self.new.disk (OpensAfter SLOTS (history_of self.old)) }
+    {
+        self.logged.turn(self.frames.as_slice())
     }
 
     /// The journal with its log, without the frames.

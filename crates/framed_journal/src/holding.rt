@@ -8,13 +8,32 @@ ghost use Rattle.core_store.specs.Frames.{pages_held};
 ghost use Rattle.core_store.specs.Limited.{pages_for_call};
 ghost use Rattle.core_store.specs.Logged.{want_of, pages_for_undo};
 ghost use Rattle.core_store.specs.Replaced.{next_to_restore};
+ghost use Rattle.core_store.specs.Work.{IsWorkIn, pages_of_work};
 ghost use Rattle.core_store.specs.Steppings.{IsReadyForCollector, OnlyLooks};
 ghost use Rattle.framed_journal.specs.Holding.{AreFramesOf, AreHeldOf, FollowsChange};
 
-use core_store::{Frame, Journal, Three, Want};
+use core_store::{Frame, Journal, Three, Want, Work};
 use disk_model::Disk;
 use logged_journal::LoggedJournal;
 use plain_model::Call;
+
+/// Holds the frames that this work needs.
+fn hold<const SLOTS: usize>(
+    journal: &Journal<SLOTS>,
+    frames: &[Frame<SLOTS>],
+    held: &mut Three<SLOTS>,
+    work: Option<Work>,
+)
+    requires frames { AreFramesOf journal.now frames.now }
+    requires none { held.old ≡ [] }
+    requires work { IsWorkIn SLOTS journal.now.history.ids (cells_of journal.now) work }
+    ensures held { AreHeldOf journal.now held.new }
+    ensures ready { want_of (pages_of_work (cells_of journal.now) work) (pages_held held.new) ≡ Want.Ready }
+{
+    'pages: while let Want::Page(page) = journal.wants_for(work, held) {
+        held.put(page, &frames[page as usize]);
+    }
+}
 
 /// Holds the frames that the call needs.
 pub(crate) fn hold_for_call<const SLOTS: usize>(
@@ -32,9 +51,7 @@ pub(crate) fn hold_for_call<const SLOTS: usize>(
     ensures held { AreHeldOf journal.now held.new }
     ensures ready { want_of (pages_for_call journal.now client call.now) (pages_held held.new) ≡ Want.Ready }
 {
-    'pages: while let Want::Page(page) = journal.wants(client, call, held) {
-        held.put(page, frames[page as usize]);
-    }
+    hold(journal, frames, held, journal.work(client, call));
 }
 
 /// Holds the frames that the next abort step of the client needs.
@@ -49,9 +66,7 @@ pub(crate) fn hold_for_abort_step<const SLOTS: usize>(
     ensures held { AreHeldOf journal.now held.new }
     ensures ready { want_of (pages_for_undo (cells_of journal.now) (next_to_restore (end_of journal.now.history) client)) (pages_held held.new) ≡ Want.Ready }
 {
-    'pages: while let Want::Page(page) = journal.wants_abort_step(client, held) {
-        held.put(page, frames[page as usize]);
-    }
+    hold(journal, frames, held, journal.undo_work(client));
 }
 
 /// Holds the frames that the collector's next event needs. The collector looks at what they show, and goes on where there
@@ -70,7 +85,7 @@ pub(crate) fn hold_for_collect_step<const SLOTS: usize, D: Disk>(
 {
     'pages: loop {
         match logged.wants_collect_step(held) {
-            Want::Page(page) => held.put(page, frames[page as usize]),
+            Want::Page(page) => held.put(page, &frames[page as usize]),
             Want::LetGo => held.clear(),
             Want::Ready => return,
         }
@@ -84,7 +99,5 @@ pub(crate) fn put_back<const SLOTS: usize>(frames: &mut Vec<Frame<SLOTS>>, held:
     ensures count { length frames.new.items ≡ length frames.old.items }
     ensures none { held.new ≡ [] }
 {
-    'frames: while let Some((page, frame)) = held.take() {
-        frames[page as usize] = frame;
-    }
+    'frames: while let Some(_) = held.put_back(frames) {}
 }

@@ -2,6 +2,7 @@
 use Rattle.std.specs.Prelude.{◌≡◌, ◌⊎◌, ℕ, ◌-◌, ◌*◌, ◌≤◌, List, [], length, false, Option, None}
 use Rattle.cell_model.specs.Cells.{Cell}
 use Rattle.cell_model.specs.Consistent.{AreConsistent}
+use Rattle.cell_page.specs.Format.{page_size}
 use Rattle.disk_model.specs.declared.area.Area.{Area}
 use Rattle.disk_model.specs.declared.area.Area.TheVariants.{Pages}
 use Rattle.disk_model.specs.Areas.{Bytes}
@@ -18,8 +19,9 @@ use Rattle.core_store.specs.declared.limits.Limits.{Limits}
 use Rattle.core_store.specs.Opening.{ArePages, stored_in, opened_history}
 use Rattle.core_store.specs.RoundView.{Closed}
 use Rattle.logged_journal.specs.View.{LoggedView}
-use Rattle.opened_images.specs.GoesOn.{IsBegun}
 use Rattle.opened_images.specs.Opened.{Opened, OpensTo}
+use Rattle.page_marks.specs.declared.marks.PageMark.{PageMark}
+use Rattle.page_marks.specs.Marks.{IsMarkedBegun}
 use Rattle.opened_store.specs.Steps.{IsLate}
 use Rattle.opened_store.specs.Unopened.{OnlyLooksUnlessOpen}
 use Rattle.store_opening.specs.declared.open_refusal.OpenRefusal.{OpenRefusal}
@@ -50,15 +52,17 @@ module _ {D : Type 0} (content : D → Area → Option (List ℕ)) where
     pub counted : (v.opened ≡ faults v.disk) × (faults disk ≤ v.opened)
 
   module _ (may_leave : D → Area → List ℕ → Type 0) where
-    -- these frames have the pages of what the disk read, and the log stands on it, which has begun with them
-    pub record HasBegun (slots : ℕ) (before now : D) (frames : List (Frame slots)) (log : LogState) : Type 0 where
+    -- these frames have the pages of what the disk read, and the log stands on it, which has begun with them; the marks are those of its records, and the pages area is as long as the pages
+    pub record HasBegun (slots : ℕ) (before now : D) (frames : List (Frame slots)) (log : LogState) (marks : List PageMark) : Type 0 where
       pub few : (1 ≤ length frames) × (length frames ≤ 1024)
       pub pages : ArePages frames
       pub consistent : AreConsistent slots (8 * length frames) (stored_in frames)
       pub standing : (log.stage ≡ Standing) × (log.tail ≡ []) × (used log ≤ most_bytes)
       pub batches : List (List ℕ)
       pub on : IsOn may_leave log now batches
-      pub begun : Leaves may_leave now Pages (λ area. IsBegun slots (length frames) area batches (stored_in frames))
+      pub begun : Leaves may_leave now Pages (λ area. IsMarkedBegun slots (length frames) area batches (stored_in frames) marks)
+      pub marked : length marks ≡ length frames
+      pub long : Leaves may_leave now Pages (λ area. page_size slots * length marks ≤ length area)
       pub opens : ReadsAs slots before (stored_in frames)
 
     module _ (moment : D → ℕ) (left_since : D → ℕ → Bytes → Type 0) where

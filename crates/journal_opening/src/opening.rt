@@ -12,16 +12,17 @@ use disk_model::Disk;
 use framed_journal::FramedJournal;
 use gate_log::GateLog;
 use opened_store::open_store;
+use page_marks::PageMarks;
 use std::alloc::Global;
 use store_opening::{OpenRefusal, ReplayedLog};
 
-/// Opens the store that the disk holds, and lays its pages into frames.
+/// Opens the store that the disk holds, and lays its pages into frames. The log comes with the marks of the pages.
 fn open_frames<D: Disk, const SLOTS: usize>(
     alloc: Global,
     disk: &mut D,
-) -> Result<(Vec<Frame<SLOTS>>, GateLog), OpenRefusal>
+) -> Result<(Vec<Frame<SLOTS>>, GateLog, PageMarks), OpenRefusal>
     requires count { IsSlotCount SLOTS }
-    ensures begun { IfOk result (λ r. HasBegun D.content D.may_leave SLOTS disk.old disk.new r.0.items r.1) }
+    ensures begun { IfOk result (λ r. HasBegun D.content D.may_leave SLOTS disk.old disk.new r.0.items r.1 r.2) }
     ensures refused { IfErr result (λ e. RefusesToOpen D.content D.may_leave D.moment D.left_since SLOTS disk.old e disk.new) }
     ensures moments { OpensMeanwhile D.content D.may_leave D.moment D.left_since SLOTS disk.old disk.new }
     ensures only_looks { OnlyLooksUnlessOpen D.content D.may_leave D.moment D.left_since SLOTS disk.old disk.new }
@@ -31,10 +32,10 @@ fn open_frames<D: Disk, const SLOTS: usize>(
         Ok(found) => found,
         Err(refusal) => return Err(refusal),
     };
-    let ReplayedLog { replay, log } = found;
+    let ReplayedLog { replay, log, marks } = found;
     let pages = replay.into_pages();
     match frames_of(alloc, &pages) {
-        Ok(frames) => Ok((frames, log)),
+        Ok(frames) => Ok((frames, log, marks)),
         Err(_) => Err(OpenRefusal::Memory),
     }
 }
@@ -64,11 +65,11 @@ pub fn open<D: Disk, const SLOTS: usize>(
     ensures fault { IfErr result (λ e. HasFault (D.faults disk) (D.faults e.1) e.0) }
 {
     let mut disk = disk;
-    let (frames, log) = match open_frames::<D, SLOTS>(alloc, &mut disk) {
+    let (frames, log, marks) = match open_frames::<D, SLOTS>(alloc, &mut disk) {
         Ok(opened) => opened,
         Err(refusal) => return Err((refusal, disk)),
     };
-    match FramedJournal::resume(alloc, disk, log, frames, limits) {
+    match FramedJournal::resume(alloc, disk, log, marks, frames, limits) {
         Ok(journal) => Ok(journal),
         Err((_, disk)) => Err((OpenRefusal::Memory, disk)),
     }

@@ -12,6 +12,7 @@ use Rattle.plain_model.proofs.HistoryLemmas.{end_of-with_entry}
 use Rattle.restart_laws.specs.Settled.{acknowledges}
 use Rattle.log_record.specs.declared.cell_record.CellRecord.TheVariants.{AbortEnd}
 use Rattle.gate_log.specs.State.{appended}
+use Rattle.page_marks.specs.declared.marks.PageMark.{PageMark}
 use Rattle.core_store.specs.declared.abort_step.AbortStep.{AbortStep}
 use Rattle.core_store.specs.declared.abort_step.AbortStep.TheVariants.{Undone, Ended}
 use Rattle.core_store.specs.declared.act.Act.TheVariants.{Other}
@@ -23,18 +24,18 @@ use Rattle.core_store.specs.Replaced.{next_to_restore}
 use Rattle.core_store.specs.RoundView.{left_of}
 use Rattle.core_store.proofs.BytesOwed.{undo-owes, end-owes}
 use Rattle.logged_journal.specs.View.{LoggedView, bytes_counted}
-use Rattle.logged_journal.specs.Records.{note_bytes, last_bytes, IsLastTyped}
+use Rattle.logged_journal.specs.Records.{note_bytes, last_bytes, IsLastTyped, last_logged, AreMarkedAfter}
 use Rattle.logged_journal.specs.Kept.{IsKept}
-use Rattle.logged_journal.specs.Calls.{DoesAbortStep, GoesOn}
+use Rattle.logged_journal.specs.Calls.{DoesAbortStep, GoesOn, joined}
 use Rattle.logged_journal.proofs.RecordLengths.{size-is, at-most-25}
-use Rattle.logged_journal.proofs.NoteBytes.{last-push, last-typed}
+use Rattle.logged_journal.proofs.NoteBytes.{last-push, last-typed, last-marked}
 use Rattle.logged_journal.proofs.Kept.{HasEvent, kept-event}
 use Rattle.logged_journal.proofs.Ascending.{ascends}
 use Rattle.logged_journal.proofs.CollectorEvents.{bytes-length}
 
 -- its record joined the tail, in room that was owed
-abbrev pub stepped : {D : Type 0} → LoggedView D → JournalView → LoggedView D
-stepped v j = record v { journal = j; log = appended v.log (last_bytes j.notes) }
+abbrev pub stepped : {D : Type 0} → LoggedView D → JournalView → List PageMark → LoggedView D
+stepped v j marks = record v { journal = j; log = appended v.log (last_bytes j.notes); marks = marks }
 
 -- one note more, whose record and what is owed behind it were owed
 pub record HasOwed (old new : JournalView) : Type 0 where
@@ -73,22 +74,30 @@ last-owed old new has =
     let owed = has.owed in
     omega (arith, e, owed)
 
-module _ {D : Type 0} (may_leave : D → Area → List ℕ → Type 0) (slots : ℕ) (v : LoggedView D) (j : JournalView) (pass : ℕ) (step : AbortStep) where
+module _ {D : Type 0} (may_leave : D → Area → List ℕ → Type 0) (slots : ℕ) (v : LoggedView D) (j : JournalView) (marks : List PageMark) (pass : ℕ) (step : AbortStep) where
   -- what is told of the step
   pub record IsStepped : Type 0 where
     pub kept : IsKept may_leave v
     pub running : v.failed ≡ None
     pub active : IsSome (transaction_of (end_of v.journal.history).state pass)
     pub does : DoesAbortStep slots v.journal j pass step
+    pub own : v.journal.history.slots ≡ slots
+    pub marked : AreMarkedAfter slots (last_logged j.notes) v.marks marks
 
   -- no more bytes are counted than before
-  counted-less : IsStepped → bytes_counted (stepped v j) ≤ bytes_counted v
+  counted-less : IsStepped → bytes_counted (stepped v j marks) ≤ bytes_counted v
   counted-less is =
       let owed = last-owed v.journal j (has-owed slots v.journal j pass step is.active is.does) in
       let long = length-append v.log.tail (last_bytes j.notes) in
       omega (arith, owed, long)
 
-  has-event : IsLastTyped j.notes → (is : IsStepped) → HasEvent v (stepped v j) (has-owed slots v.journal j pass step is.active is.does).note
+  -- the marks are as its record makes them
+  note-marked : (is : IsStepped) → AreMarkedAfter v.journal.history.slots (has-owed slots v.journal j pass step is.active is.does).note.logged v.marks marks
+  note-marked is =
+      let has = has-owed slots v.journal j pass step is.active is.does in
+      last-marked slots v.journal.history.slots v.journal.notes j.notes has.note v.marks marks is.own has.noted is.marked
+
+  has-event : IsLastTyped j.notes → (is : IsStepped) → HasEvent v (stepped v j marks) (has-owed slots v.journal j pass step is.active is.does).note
   has-event typed is =
       let has = has-owed slots v.journal j pass step is.active is.does in
       let stands = is.kept.standing is.running in
@@ -106,6 +115,7 @@ module _ {D : Type 0} (may_leave : D → Area → List ℕ → Type 0) (slots : 
         tail = ap (λ (l : List ℕ). v.log.tail ++ l) (last-is v.journal j has);
         disk = refl;
         durable = refl;
+        marked = note-marked is;
         running = (is.running, is.running);
         log_full = refl;
         unpromised = has.unpromised;
@@ -116,11 +126,12 @@ module _ {D : Type 0} (may_leave : D → Area → List ℕ → Type 0) (slots : 
         higher = omega (arith);
       }
 
-  pub kept-stepped : IsLastTyped j.notes → IsStepped → IsKept may_leave (stepped v j)
-  kept-stepped typed is = kept-event may_leave v (stepped v j) (has-owed slots v.journal j pass step is.active is.does).note is.kept (has-event typed is)
+  pub kept-stepped : IsLastTyped j.notes → IsStepped → IsKept may_leave (stepped v j marks)
+  kept-stepped typed is = kept-event may_leave v (stepped v j marks) (has-owed slots v.journal j pass step is.active is.does).note is.kept (has-event typed is)
 
-  pub goes-on-stepped : IsStepped → GoesOn v (stepped v j)
+  pub goes-on-stepped : IsStepped → GoesOn v (stepped v j marks)
   goes-on-stepped is =
       let less = counted-less is in
       let peak = (is.kept.standing is.running).peak in
-      record { running = is.running; log_full = refl; peak = omega (arith, less, peak); opened = refl }
+      let has = has-owed slots v.journal j pass step is.active is.does in
+      record { running = is.running; log_full = refl; peak = omega (arith, less, peak); opened = refl; marks = joined has.note has.noted (note-marked is) }

@@ -14,6 +14,7 @@ use Rattle.plain_model.specs.Machine.{refusal_of, transaction_of}
 use Rattle.plain_model.specs.declared.calls.Entry.TheVariants.{Call}
 use Rattle.plain_model.specs.History.{with_entry, end_of}
 use Rattle.log_record.specs.Spelling.{IsPass}
+use Rattle.cell_page.specs.Format.{IsSlotCount}
 use Rattle.core_store.specs.JournalView.{JournalView}
 use Rattle.core_store.specs.Limited.{is_past_limit}
 use Rattle.core_store.specs.Owed.{entries_needed}
@@ -21,7 +22,7 @@ use Rattle.core_store.specs.Steppings.{IsEntered, bytes_at, bytes_to_collect}
 use Rattle.core_store.specs.RoundView.{RoundView, Closed, asked}
 use Rattle.core_store.specs.declared.round_at.RoundAt.{RoundAt}
 use Rattle.core_store.specs.declared.round_at.RoundAt.TheVariants as at
-use Rattle.logged_journal.specs.View.{LoggedView, history_of}
+use Rattle.logged_journal.specs.View.{image_need, LoggedView, history_of}
 use Rattle.logged_journal.specs.Records.{HasRecords, MayBeLeft, MayHave, with_commit}
 use Rattle.logged_journal.specs.Calls.{IsGranted, IsOfJournal, DoesCall}
 use Rattle.logged_journal.specs.Opens.{OpensAfter, OpensDuring, as_before, as_failed}
@@ -113,6 +114,10 @@ few-to-collect r = by (asked r)
     by (at.Out «from» slot) = omega (arith)
     by (at.Strengthen «from» slot to) = omega (arith)
     by at.End = omega (arith)
+
+-- an image is longer
+pub few-needed : (slots needed : ℕ) → IsSlotCount slots → needed ≤ 47 → needed ≤ image_need slots
+few-needed slots needed size few = ⊎_elim (λ six. subst (λ (s : ℕ). needed ≤ image_need s) (sym six) (omega (arith, few))) (λ fourteen. subst (λ (s : ℕ). needed ≤ image_need s) (sym fourteen) (omega (arith, few))) size
 
 -- where the collector would make an event, the history has room and there is something to do
 pub collects-room : (j : JournalView) (b : Bool) → (((is_past_limit j 1 ≡ true) ⊎ ((j.queue ≡ []) × (j.round ≡ Closed))) → b ≡ false) → b ≡ true → is_past_limit j 1 ≡ false

@@ -23,6 +23,7 @@ use Rattle.gate_log.specs.State.{LogState, used, appended}
 use Rattle.log_record.specs.declared.cell_record.CellRecord.{CellRecord}
 use Rattle.log_record.specs.declared.cell_record.CellRecord.TheVariants as logs
 use Rattle.log_record.specs.Spelling.{cell_record_bytes, IsTypedCellRecord}
+use Rattle.page_marks.specs.declared.marks.PageMark.{PageMark}
 use Rattle.core_store.specs.declared.act.Act.TheVariants.{Other}
 use Rattle.core_store.specs.declared.marks.Marks.{Marks}
 use Rattle.core_store.specs.declared.note.Note.{Note}
@@ -34,12 +35,12 @@ use Rattle.core_store.specs.RoundView.{left_of}
 use Rattle.core_store.specs.Steppings.{IsEntered}
 use Rattle.core_store.proofs.BytesOwed.{call-owes, refused-owes}
 use Rattle.core_store.proofs.PlanLaws.{refusal-in, refusal-out}
-use Rattle.logged_journal.specs.View.{LoggedView, IsPast, bytes_counted}
-use Rattle.logged_journal.specs.Records.{note_bytes, last_bytes, IsLastTyped, HasRecords, MayBeLeft, durable, failed}
+use Rattle.logged_journal.specs.View.{LoggedView, IsPast, failed_commit, bytes_counted, image_need}
+use Rattle.logged_journal.specs.Records.{note_bytes, last_bytes, last_logged, IsLastTyped, AreMarkedAfter, HasRecords, MayBeLeft, durable, failed}
 use Rattle.logged_journal.specs.Kept.{IsKept}
-use Rattle.logged_journal.specs.Calls.{IsOfJournal, IsGranted, DoesCall, GoesOn}
+use Rattle.logged_journal.specs.Calls.{IsOfJournal, IsGranted, DoesCall, GoesOn, GoWithNotes, stayed, joined}
 use Rattle.logged_journal.proofs.Kept.{kept-event, on-same}
-use Rattle.logged_journal.proofs.NoteBytes.{last-push, last-typed}
+use Rattle.logged_journal.proofs.NoteBytes.{last-push, last-typed, last-marked}
 use Rattle.logged_journal.proofs.RecordLengths.{logged_length, call-length}
 use Rattle.logged_journal.proofs.Resting.{granted-rested}
 
@@ -122,6 +123,15 @@ note_of slots old new pass c r = record { entry = Call pass c r; logged = logged
 owed-after : (slots : ℕ) (old new : JournalView) (pass : ℕ) (c : TransactionCall) (r : Reply) → DoesCall slots old new pass c r → IsEntered r → bytes_owed (end_of new.history) ≡ bytes_owed (next (end_of old.history) (Call pass c r))
 owed-after slots old new pass c r does e = ap (λ h. bytes_owed (end_of h)) (does.entry e) ∙ ap bytes_owed (end_of-with_entry old.history (Call pass c r))
 
+-- a call leaves the number of slots
+pub called-slots : (slots : ℕ) (old new : JournalView) (pass : ℕ) (c : TransactionCall) (r : Reply) → DoesCall slots old new pass c r → new.history.slots ≡ old.history.slots
+called-slots slots old new pass c r does = by (answers r)
+  where
+    by : Answers r → new.history.slots ≡ old.history.slots
+    by (memory e) = ap (λ (j : JournalView). j.history.slots) (does.memory e)
+    by (full e) = ap (λ (j : JournalView). j.history.slots) (does.marked e)
+    by (entered e) = ap (λ h. h.slots) (does.entry e)
+
 -- a refused call leaves what is owed
 refused-owed : (slots : ℕ) (old new : JournalView) (pass : ℕ) (c : TransactionCall) (r : Reply) → (IsGranted old pass c → ⊥) → DoesCall slots old new pass c r → bytes_owed (end_of new.history) ≡ bytes_owed (end_of old.history)
 refused-owed slots old new pass c r refused does = by (answers r)
@@ -132,9 +142,10 @@ refused-owed slots old new pass c r refused does = by (answers r)
     by (entered e) = owed-after slots old new pass c r does e ∙ refused-owes (end_of old.history) pass c r (refused-so slots old new pass c r refused does e)
 
 module _ {D : Type 0} (may_leave : D → Area → List ℕ → Type 0) where
-  -- other marks of the journal, and more room in the log
-  pub kept-marks : (v : LoggedView D) (marks : Marks) (room : ℕ) → IsKept may_leave v → v.log.room ≤ room → IsKept may_leave (record v { journal = record v.journal { marks = marks }; log = record v.log { room = room } })
-  kept-marks v marks room kept more =
+  -- other marks of the journal, and more room in the log and in the history
+  pub kept-room : (v : LoggedView D) (marks : Marks) (reserved : Bool) (room : ℕ) → IsKept may_leave v → v.log.room ≤ room
+      → IsKept may_leave (record v { journal = record v.journal { marks = marks; reserved = reserved }; log = record v.log { room = room } })
+  kept-room v marks reserved room kept more =
       record {
         standing = λ running.
             let s = kept.standing running in
@@ -142,26 +153,32 @@ module _ {D : Type 0} (may_leave : D → Area → List ℕ → Type 0) where
               stage = s.stage;
               batches = s.batches;
               on = on-same may_leave v.log (record v.log { room = room }) v.disk v.disk s.batches refl refl refl s.on;
-              hold = s.hold;
-              tail = s.tail;
+              pages = s.pages;
+              ids = s.ids;
+              records = s.records;
+              long = s.long;
               room = let enough = s.room in omega (arith, enough, more);
               bounded = s.bounded;
               peak = s.peak;
             };
         inside = kept.inside;
+        many = kept.many;
         lasting = let d = kept.lasting in record { rest = d.rest; split = d.split; core = d.core; safe = d.safe; unpromised = d.unpromised };
         images = λ image may. left image (kept.images image may);
-        granted = granted-rested v.failed v.journal (record v.journal { marks = marks }) refl kept.granted;
+        granted = granted-rested (failed_commit v) v.journal (record v.journal { marks = marks; reserved = reserved }) refl kept.granted;
         typed = kept.typed;
         full = kept.full;
       }
     where
-      has : (notes : List Note) (image : Bytes) → HasRecords v.journal notes image → HasRecords (record v.journal { marks = marks }) notes image
+      has : (notes : List Note) (image : Bytes) → HasRecords v.journal notes image → HasRecords (record v.journal { marks = marks; reserved = reserved }) notes image
       has notes image is = record { batches = is.batches; log = is.log; hold = is.hold }
 
-      left : (image : Bytes) → MayBeLeft v image → MayBeLeft (record v { journal = record v.journal { marks = marks }; log = record v.log { room = room } }) image
+      left : (image : Bytes) → MayBeLeft v image → MayBeLeft (record v { journal = record v.journal { marks = marks; reserved = reserved }; log = record v.log { room = room } }) image
       left image (durable is) = durable (has _ image is)
       left image (failed f told is) = failed f told (has _ image is)
+
+  pub kept-marks : (v : LoggedView D) (marks : Marks) (room : ℕ) → IsKept may_leave v → v.log.room ≤ room → IsKept may_leave (record v { journal = record v.journal { marks = marks }; log = record v.log { room = room } })
+  kept-marks v marks room kept more = kept-room v marks v.journal.reserved room kept more
 
   -- room was asked for, and taken or not
   pub kept-reserved : (v : LoggedView D) (log : LogState) (taken : Bool) (room : ℕ) → log ≡ record v.log { room = if taken then max v.log.room room else v.log.room } → IsKept may_leave v → IsKept may_leave (record v { log = log })
@@ -172,13 +189,14 @@ module _ {D : Type 0} (may_leave : D → Area → List ℕ → Type 0) where
       grows false = omega (arith)
 
   -- a call was answered that the log is full, which it nearly was
-  pub kept-log_full : (v : LoggedView D) (needed : ℕ) → IsKept may_leave v → v.failed ≡ None → needed ≤ 47 → IsPast v needed → IsKept may_leave (record v { log_full = true })
+  pub kept-log_full : (v : LoggedView D) (needed : ℕ) → IsKept may_leave v → v.failed ≡ None → needed ≤ image_need v.journal.history.slots → IsPast v needed → IsKept may_leave (record v { log_full = true })
   kept-log_full v needed kept running few past =
       record {
         standing = λ running.
             let s = kept.standing running in
-            record { stage = s.stage; batches = s.batches; on = s.on; hold = s.hold; tail = s.tail; room = s.room; bounded = s.bounded; peak = s.peak };
+            record { stage = s.stage; batches = s.batches; on = s.on; pages = s.pages; ids = s.ids; records = s.records; long = s.long; room = s.room; bounded = s.bounded; peak = s.peak };
         inside = kept.inside;
+        many = kept.many;
         lasting = kept.lasting;
         images = λ image may. left image (kept.images image may);
         granted = kept.granted;
@@ -216,6 +234,7 @@ module _ {D : Type 0} (may_leave : D → Area → List ℕ → Type 0) where
             tail = sym (ap (λ (o : Option CellRecord). v.log.tail ++ option_map_or cell_record_bytes o []) logged ∙ append-nil v.log.tail);
             disk = refl;
             durable = refl;
+            marked = subst (λ (o : Option CellRecord). AreMarkedAfter v.journal.history.slots o v.marks v.marks) (sym logged) refl;
             running = (running, running);
             log_full = refl;
             unpromised = undone-unpromised pass c r (λ f done.
@@ -233,7 +252,14 @@ module _ {D : Type 0} (may_leave : D → Area → List ℕ → Type 0) where
   goes-on-refused slots v new pass c r kept running refused does =
       let peak = (kept.standing running).peak in
       let owed = refused-owed slots v.journal new pass c r refused does in
-      record { running = running; log_full = refl; peak = omega (arith, owed, peak); opened = refl }
+      record { running = running; log_full = refl; peak = omega (arith, owed, peak); opened = refl; marks = by (answers r) }
+    where
+      by : Answers r → GoWithNotes v (record v { journal = new })
+      by (memory e) = stayed (ap (λ (j : JournalView). j.notes) (does.memory e)) refl
+      by (full e) = stayed (ap (λ (j : JournalView). j.notes) (does.marked e)) refl
+      by (entered e) =
+          let logged = refused-logs (end_of v.journal.history).state v.journal pass c r (refused-so slots v.journal new pass c r refused does e) in
+          joined (note_of slots v.journal new pass c r) (does.noted e) (subst (λ (o : Option CellRecord). AreMarkedAfter v.journal.history.slots o v.marks v.marks) (sym logged) refl)
 
 -- ---- granted calls
 
@@ -267,10 +293,10 @@ abbrev pub asked : {D : Type 0} → LoggedView D → TransactionCall → ℕ
 asked v c = bytes_owed (end_of v.journal.history) + bytes_needed c
 
 -- the journal and its log after it
-abbrev pub after_call : {D : Type 0} → LoggedView D → JournalView → TransactionCall → LoggedView D
-after_call v new c =
+abbrev pub after_call : {D : Type 0} → LoggedView D → JournalView → List PageMark → TransactionCall → LoggedView D
+after_call v new marks c =
     let log : LogState = appended (record v.log { room = max v.log.room (asked v c) }) (last_bytes new.notes) in
-    record v { journal = new; log = log; peak = max v.peak (used log + bytes_owed (end_of new.history)) }
+    record v { journal = new; log = log; marks = marks; peak = max v.peak (used log + bytes_owed (end_of new.history)) }
 
 pub called-entered : {D : Type 0} (slots : ℕ) (v : LoggedView D) (new : JournalView) (pass : ℕ) (c : TransactionCall) (r : Reply) → IsCalled slots v new pass c r → IsEntered r
 called-entered slots v new pass c r h = (h.some, λ full. let e : true ≡ false = sym (h.does.full.0 full) ∙ h.granted.room in absurd (cc (e)))
@@ -295,8 +321,8 @@ pub called-room : {D : Type 0} (slots : ℕ) (v : LoggedView D) (new : JournalVi
 called-room slots v new pass c r h = let owes = called-owes slots v new pass c r h in omega (arith, owes)
 
 -- and stays within the most bytes
-pub called-bounded : {D : Type 0} (slots : ℕ) (v : LoggedView D) (new : JournalView) (pass : ℕ) (c : TransactionCall) (r : Reply) → IsCalled slots v new pass c r → bytes_counted (after_call v new c) ≤ most_bytes
-called-bounded slots v new pass c r h =
+pub called-bounded : {D : Type 0} (slots : ℕ) (v : LoggedView D) (new : JournalView) (marks : List PageMark) (pass : ℕ) (c : TransactionCall) (r : Reply) → IsCalled slots v new pass c r → bytes_counted (after_call v new marks c) ≤ most_bytes
+called-bounded slots v new marks pass c r h =
     let owes = called-owes slots v new pass c r h in
     let len = Rattle.std.proofs.lemmas.List.length-append v.log.tail (last_bytes new.notes) in
     let within : bytes_counted v + bytes_needed c ≤ v.journal.limits.log = not-past (bytes_counted v + bytes_needed c) v.journal.limits.log h.room in
@@ -306,12 +332,23 @@ called-bounded slots v new pass c r h =
     not-past : (counted limit : ℕ) → (limit < counted → ⊥) → counted ≤ limit
     not-past counted limit none = omega (arith, none)
 
+-- the marks are as its record makes them
+called-marked : {D : Type 0} (slots : ℕ) (v : LoggedView D) (new : JournalView) (marks : List PageMark) (pass : ℕ) (c : TransactionCall) (r : Reply) → v.journal.history.slots ≡ slots → AreMarkedAfter slots (last_logged new.notes) v.marks marks
+    → IsCalled slots v new pass c r → AreMarkedAfter v.journal.history.slots (logged_by (end_of v.journal.history).state (cells_of v.journal) pass c) v.marks marks
+called-marked slots v new marks pass c r own marked h =
+    last-marked slots v.journal.history.slots v.journal.notes new.notes (note_of slots v.journal new pass c r) v.marks marks own (h.does.noted (called-entered slots v new pass c r h)) marked
+
+pub called-goes : {D : Type 0} (slots : ℕ) (v : LoggedView D) (new : JournalView) (marks : List PageMark) (pass : ℕ) (c : TransactionCall) (r : Reply) → v.journal.history.slots ≡ slots → AreMarkedAfter slots (last_logged new.notes) v.marks marks
+    → IsCalled slots v new pass c r → GoWithNotes v (after_call v new marks c)
+called-goes slots v new marks pass c r own marked h = joined (note_of slots v.journal new pass c r) (h.does.noted (called-entered slots v new pass c r h)) (called-marked slots v new marks pass c r own marked h)
+
 module _ {D : Type 0} (may_leave : D → Area → List ℕ → Type 0) where
-  pub kept-called : (slots : ℕ) (v : LoggedView D) (new : JournalView) (pass : ℕ) (c : TransactionCall) (r : Reply) → IsKept may_leave v → IsLastTyped new.notes → IsCalled slots v new pass c r → IsKept may_leave (after_call v new c)
-  kept-called slots v new pass c r kept typed h =
+  pub kept-called : (slots : ℕ) (v : LoggedView D) (new : JournalView) (marks : List PageMark) (pass : ℕ) (c : TransactionCall) (r : Reply) → IsKept may_leave v → IsLastTyped new.notes → v.journal.history.slots ≡ slots → AreMarkedAfter slots (last_logged new.notes) v.marks marks
+      → IsCalled slots v new pass c r → IsKept may_leave (after_call v new marks c)
+  kept-called slots v new marks pass c r kept typed own marked h =
       let e = called-entered slots v new pass c r h in
       let owes = called-owes slots v new pass c r h in
-      kept-event may_leave v (after_call v new c) (note_of slots v.journal new pass c r) kept
+      kept-event may_leave v (after_call v new marks c) (note_of slots v.journal new pass c r) kept
       (record {
         note = record { entry = h.does.entry e; noted = h.does.noted e; opening = h.does.opening.0 };
         limits = h.does.opening.1;
@@ -321,12 +358,13 @@ module _ {D : Type 0} (may_leave : D → Area → List ℕ → Type 0) where
         tail = ap (λ (l : List ℕ). v.log.tail ++ l) (called-last slots v new pass c r h);
         disk = refl;
         durable = refl;
+        marked = called-marked slots v new marks pass c r own marked h;
         running = (h.running, h.running);
         log_full = refl;
         unpromised = other-unpromised pass c r h.other;
         typed = last-typed v.journal.notes new.notes (note_of slots v.journal new pass c r) (h.does.noted e) typed;
         room = omega (arith, owes);
-        bounded = called-bounded slots v new pass c r h;
+        bounded = called-bounded slots v new marks pass c r h;
         peak = omega (arith);
         higher = omega (arith);
       })

@@ -8,6 +8,7 @@ use Rattle.restart_laws.specs.Settled.{acknowledges}
 use Rattle.log_record.specs.declared.cell_record.CellRecord.{CellRecord}
 use Rattle.log_record.specs.declared.cell_record.CellRecord.TheVariants as logs
 use Rattle.gate_log.specs.State.{appended}
+use Rattle.page_marks.specs.declared.marks.PageMark.{PageMark}
 use Rattle.core_store.specs.declared.collect.Collect.{Collect}
 use Rattle.core_store.specs.declared.collect.Collect.TheVariants as collect
 use Rattle.core_store.specs.declared.note.Note.{Note}
@@ -18,11 +19,11 @@ use Rattle.core_store.specs.Owed.{bytes_owed}
 use Rattle.core_store.specs.RoundView.{Closed, left_of}
 use Rattle.core_store.specs.Steppings.{IsEvent, MakesEvent, bytes_to_collect}
 use Rattle.logged_journal.specs.View.{LoggedView, bytes_counted, IsPast}
-use Rattle.logged_journal.specs.Records.{note_bytes, last_bytes, IsLastTyped}
+use Rattle.logged_journal.specs.Records.{note_bytes, last_bytes, IsLastTyped, last_logged, AreMarkedAfter}
 use Rattle.logged_journal.specs.Kept.{IsKept}
-use Rattle.logged_journal.specs.Calls.{DoesCollect, GoesOn}
+use Rattle.logged_journal.specs.Calls.{DoesCollect, GoesOn, joined}
 use Rattle.logged_journal.proofs.RecordLengths.{logged_length, collect-length}
-use Rattle.logged_journal.proofs.NoteBytes.{last-push, last-typed}
+use Rattle.logged_journal.proofs.NoteBytes.{last-push, last-typed, last-marked}
 use Rattle.logged_journal.proofs.Kept.{HasEvent, kept-event}
 
 -- ---- of the record alone
@@ -99,12 +100,12 @@ module _ {slots : ℕ} {old new : JournalView} {result : Collect} (makes : Makes
 -- ---- of the journal with its log
 
 -- its record joined the tail, in room that was taken
-abbrev pub collected : {D : Type 0} → LoggedView D → JournalView → ℕ → LoggedView D
-collected v j room =
-    let w = record v { journal = j; log = appended (record v.log { room = room }) (last_bytes j.notes) } in
+abbrev pub collected : {D : Type 0} → LoggedView D → JournalView → List PageMark → ℕ → LoggedView D
+collected v j marks room =
+    let w = record v { journal = j; log = appended (record v.log { room = room }) (last_bytes j.notes); marks = marks } in
     record w { peak = max v.peak (bytes_counted w) }
 
-module _ {D : Type 0} (may_leave : D → Area → List ℕ → Type 0) (slots : ℕ) (v : LoggedView D) (j : JournalView) (result : Collect) (room : ℕ) where
+module _ {D : Type 0} (may_leave : D → Area → List ℕ → Type 0) (slots : ℕ) (v : LoggedView D) (j : JournalView) (marks : List PageMark) (result : Collect) (room : ℕ) where
   -- what is told of the event
   pub record IsCollected : Type 0 where
     pub kept : IsKept may_leave v
@@ -114,8 +115,16 @@ module _ {D : Type 0} (may_leave : D → Area → List ℕ → Type 0) (slots : 
     pub room_taken : bytes_owed (end_of v.journal.history) + bytes_to_collect v.journal.round ≤ room
     pub does : DoesCollect slots v.journal j result
     pub event : IsEvent result
+    pub own : v.journal.history.slots ≡ slots
+    pub marked : AreMarkedAfter slots (last_logged j.notes) v.marks marks
 
-  has-event : IsLastTyped j.notes → (is : IsCollected) → HasEvent v (collected v j room) (note_of (is.does.event is.event))
+  -- the marks are as its record makes them
+  note-marked : (is : IsCollected) → AreMarkedAfter v.journal.history.slots (is.does.event is.event).logged v.marks marks
+  note-marked is =
+      let makes = is.does.event is.event in
+      last-marked slots v.journal.history.slots v.journal.notes j.notes (note_of makes) v.marks marks is.own makes.noted is.marked
+
+  has-event : IsLastTyped j.notes → (is : IsCollected) → HasEvent v (collected v j marks room) (note_of (is.does.event is.event))
   has-event typed is =
       let makes = is.does.event is.event in
       let owed = owed-same makes in
@@ -133,6 +142,7 @@ module _ {D : Type 0} (may_leave : D → Area → List ℕ → Type 0) (slots : 
         tail = ap (λ (l : List ℕ). v.log.tail ++ l) (last-is makes);
         disk = refl;
         durable = refl;
+        marked = note-marked is;
         running = (is.running, is.running);
         log_full = refl;
         unpromised = unpromised makes.logged;
@@ -143,8 +153,10 @@ module _ {D : Type 0} (may_leave : D → Area → List ℕ → Type 0) (slots : 
         higher = omega (arith);
       }
 
-  pub kept-collected : IsLastTyped j.notes → IsCollected → IsKept may_leave (collected v j room)
-  kept-collected typed is = kept-event may_leave v (collected v j room) (note_of (is.does.event is.event)) is.kept (has-event typed is)
+  pub kept-collected : IsLastTyped j.notes → IsCollected → IsKept may_leave (collected v j marks room)
+  kept-collected typed is = kept-event may_leave v (collected v j marks room) (note_of (is.does.event is.event)) is.kept (has-event typed is)
 
-  pub goes-on-collected : IsCollected → GoesOn v (collected v j room)
-  goes-on-collected is = record { running = is.running; log_full = refl; peak = refl; opened = refl }
+  pub goes-on-collected : IsCollected → GoesOn v (collected v j marks room)
+  goes-on-collected is =
+      let makes = is.does.event is.event in
+      record { running = is.running; log_full = refl; peak = refl; opened = refl; marks = joined (note_of makes) makes.noted (note-marked is) }

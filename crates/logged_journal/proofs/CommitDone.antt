@@ -1,5 +1,5 @@
 -- A commit that is granted: what it logs, and what a journal with its log keeps when it is done or failed.
-use Rattle.std.proofs.Common.{◌≡◌, ⊎_elim, ℕ, ◌+◌, ◌-◌, ◌≤◌, true, false, List, [], ◌∷◌, ◌++◌, length, take, drop, Option, Some, None, Result, Ok, Err, refl, sym, ◌∙◌, ap, subst, arith}
+use Rattle.std.proofs.Common.{◌≡◌, ⊎_elim, ℕ, ◌+◌, ◌-◌, ◌≤◌, true, false, List, [], ◌∷◌, ◌++◌, length, take, drop, Option, Some, None, Result, Ok, Err, refl, sym, ◌∙◌, ap, subst, arith, append_assoc, ◌*◌, take-append-drop}
 use Rattle.std.specs.Prelude.{⊤, is_ok, is_err, IfSome, OnOk, OnErr, if◌then◌else◌, unwrap_or}
 use Rattle.std.specs.Option.{option_map_or}
 use Rattle.std.proofs.lemmas.List.{length-append, take_all, drop_all}
@@ -23,6 +23,11 @@ use Rattle.gate_log.specs.Batches.{most_bytes}
 use Rattle.gate_log.specs.State.{LogState, used, appended, forced, batch_length}
 use Rattle.gate_log.specs.OnDisk.{IsOn, HasLog, HasEither, with_batch}
 use Rattle.gate_log.proofs.Standing.{batch_length_most}
+use Rattle.page_marks.specs.declared.marks.PageMark.{PageMark}
+use Rattle.page_marks.specs.Marks.{AreMarkedBy}
+use Rattle.log_record.specs.declared.record.Record.TheVariants.{OfCells}
+use Rattle.cell_page.specs.Format.{page_size}
+use Rattle.std.specs.Option.{option_and_then}
 use Rattle.core_store.specs.declared.note.Note.{Note}
 use Rattle.core_store.specs.JournalView.{JournalView}
 use Rattle.core_store.specs.Logged.{logged_by, record_in}
@@ -31,13 +36,14 @@ use Rattle.core_store.specs.Safe.{IsDurable, HasNote}
 use Rattle.core_store.proofs.BytesOwed.{commit-owes}
 use Rattle.plain_model.proofs.GraphLemmas.{AllByRecursion-push}
 use Rattle.plain_model.proofs.HistoryLemmas.{end_of-with_entry}
-use Rattle.logged_journal.specs.declared.failed.FailedCommit.{FailedCommit}
-use Rattle.logged_journal.specs.View.{LoggedView, bytes_counted}
-use Rattle.logged_journal.specs.Records.{note_bytes, notes_bytes, IsTypedNote, AreTypedNotes, HoldRecords, HasRecords, with_commit, durable_notes, MayBeLeft, durable, failed, MayHave}
+use Rattle.logged_journal.specs.declared.failed.FailedCall.{FailedCall}
+use Rattle.logged_journal.specs.View.{LoggedView, bytes_counted, image_need}
+use Rattle.logged_journal.specs.Records.{note_bytes, IsTypedNote, AreTypedNotes, HoldRecords, HoldsNotes, AreMarkedAfter, HasRecords, with_commit, durable_notes, MayBeLeft, durable, failed, MayHave}
 use Rattle.logged_journal.specs.Kept.{CanCommit, IsKept, IsStanding}
 use Rattle.logged_journal.proofs.Ascending.{ascends}
-use Rattle.logged_journal.proofs.Commits.{commit-some, holds-commit, holds-note, forced-image, pages-apart, both}
-use Rattle.logged_journal.proofs.Kept.{on-same, hold-same}
+use Rattle.logged_journal.proofs.Commits.{forced-image, pages-apart, both}
+use Rattle.logged_journal.proofs.HeldRecords.{holds-as, holds-push, holds-forced}
+use Rattle.logged_journal.proofs.Kept.{on-same}
 
 -- ---- what the machine says of it
 
@@ -86,6 +92,10 @@ on-err (Err x) P e has = has
 abbrev pub with_record : LogState → ℕ → LogState
 with_record log pass = appended log (cell_record_bytes (logs.Commit pass))
 
+-- a commit marks no page
+pub commit-marked : (slots pass : ℕ) (marks : List PageMark) → AreMarkedBy {slots = slots} (OfCells (logs.Commit pass)) marks marks
+commit-marked slots pass marks = record { as_many = refl; each = λ page d low. refl }
+
 pub length-record : (log : LogState) (pass : ℕ) → length (with_record log pass).tail ≡ length log.tail + 2
 unfolding cell_record_bytes
 length-record log pass = length-append log.tail (cell_record_bytes (logs.Commit pass))
@@ -95,21 +105,27 @@ module _ {D : Type 0} (may_leave : D → Area → List ℕ → Type 0) where
   pub record-on : (v : LoggedView D) (log : LogState) (pass : ℕ) (stands : IsStanding may_leave v) → log ≡ with_record v.log pass → IsOn may_leave log v.disk stands.batches
   record-on v log pass stands is = on-same may_leave v.log log v.disk v.disk stands.batches (ap (λ l. l.area) is) (ap (λ l. l.durable) is) refl stands.on
 
-  -- and has all records of the journal and the commit's, once the tail is forced
-  pub record-holds : (v : LoggedView D) (log : LogState) (pass : ℕ) (stands : IsStanding may_leave v) → log ≡ with_record v.log pass
-      → Leaves may_leave v.disk Pages (λ area. HoldRecords v.journal area (with_commit v.journal.notes pass) (with_batch stands.batches log.tail))
-  record-holds v log pass stands is = λ area may.
-      holds-commit v.journal area v.durable pass stands.batches log.tail (stands.hold area may)
-      (ap (λ l. l.tail) is ∙ ap (λ (l : List ℕ). l ++ cell_record_bytes (logs.Commit pass)) stands.tail)
-
-  -- so it has with this note of the commit
-  pub note-holds : (v : LoggedView D) (log : LogState) (pass : ℕ) (n : Note) (stands : IsStanding may_leave v) → log ≡ with_record v.log pass → n.logged ≡ Some (logs.Commit pass)
-      → Leaves may_leave v.disk Pages (λ area. HoldRecords v.journal area (v.journal.notes ++ n ∷ []) (with_batch stands.batches log.tail))
-  note-holds v log pass n stands is logged = λ area may.
+  -- with this note of the commit the log has all records of the journal and the commit's, once the tail is forced
+  pub note-holds : (v : LoggedView D) (log : LogState) (pass : ℕ) (n : Note) (stands : IsStanding may_leave v) → v.durable ≤ length v.journal.notes → log ≡ with_record v.log pass → n.logged ≡ Some (logs.Commit pass)
+      → (now : D) → ((area : List ℕ) → may_leave now Pages area → may_leave v.disk Pages area)
+      → HoldsNotes may_leave v.journal.history.slots stands.pages v.journal.opening (v.journal.notes ++ n ∷ []) [] v.marks now (with_batch stands.batches log.tail) []
+  note-holds v log pass n stands inside is logged now keeps =
+      let slots = v.journal.history.slots in
+      let front = durable_notes v in
+      let rest = drop v.durable v.journal.notes in
       let bytes : note_bytes n ≡ cell_record_bytes (logs.Commit pass) = ap (λ (o : Option CellRecord). option_map_or cell_record_bytes o []) logged in
-      holds-note v.journal area v.durable n stands.batches log.tail (stands.hold area may) (subst (λ (l : List ℕ). 1 ≤ length l) (sym bytes) (commit-some pass))
-      (ap (λ l. l.tail) is ∙ ap (λ (l : List ℕ). l ++ cell_record_bytes (logs.Commit pass)) stands.tail
-      ∙ ap (λ (l : List ℕ). notes_bytes (drop v.durable v.journal.notes) ++ l) (sym bytes))
+      let longer : log.tail ≡ v.log.tail ++ note_bytes n = ap (λ l. l.tail) is ∙ ap (λ (l : List ℕ). v.log.tail ++ l) (sym bytes) in
+      let pushed = holds-push may_leave slots stands.pages v.journal.opening front rest v.marks v.disk stands.batches v.log.tail stands.records n v.marks log.tail longer
+      (subst (λ (o : Option CellRecord). AreMarkedAfter slots o v.marks v.marks) (sym logged) (commit-marked slots pass v.marks)) in
+      let all : front ++ (rest ++ n ∷ []) ≡ v.journal.notes ++ n ∷ [] = sym (append_assoc front rest (n ∷ [])) ∙ ap (λ (ns : List Note). ns ++ n ∷ []) (take-append-drop v.durable v.journal.notes) in
+      subst (λ (ns : List Note). HoldsNotes may_leave slots stands.pages v.journal.opening ns [] v.marks now (with_batch stands.batches log.tail) []) all
+      (holds-forced may_leave slots stands.pages v.journal.opening front (rest ++ n ∷ []) v.marks v.disk stands.batches log.tail pushed now keeps)
+
+  -- so it has with the note of a commit that the disk failed
+  pub record-holds : (v : LoggedView D) (log : LogState) (pass : ℕ) (stands : IsStanding may_leave v) → v.durable ≤ length v.journal.notes → log ≡ with_record v.log pass
+      → Leaves may_leave v.disk Pages (λ area. HoldRecords v.journal area (with_commit v.journal.notes pass) (with_batch stands.batches log.tail))
+  record-holds v log pass stands inside is = λ area may.
+      (stands.pages, stands.ids, ((note-holds v log pass _ stands inside is refl v.disk (λ c left. left)).hold area may).have)
 
   -- it is within the log's bytes
   pub record-bounded : (v : LoggedView D) (log : LogState) (pass : ℕ) → IsStanding may_leave v → 7 ≤ bytes_owed (end_of v.journal.history) → log ≡ with_record v.log pass → used log ≤ most_bytes
@@ -119,27 +135,27 @@ module _ {D : Type 0} (may_leave : D → Area → List ℕ → Type 0) where
       subst (λ (l : LogState). used l ≤ most_bytes) (sym is) (omega (arith, bounded, owed, long))
 
   -- at each moment of the force
-  pub record-moments : (v : LoggedView D) (moment : D → ℕ) (left_since : D → ℕ → Bytes → Type 0) (log : LogState) (now : D) (pass : ℕ) (stands : IsStanding may_leave v) → 7 ≤ bytes_owed (end_of v.journal.history)
+  pub record-moments : (v : LoggedView D) (moment : D → ℕ) (left_since : D → ℕ → Bytes → Type 0) (log : LogState) (now : D) (pass : ℕ) (stands : IsStanding may_leave v) → v.durable ≤ length v.journal.notes → 7 ≤ bytes_owed (end_of v.journal.history)
       → log ≡ with_record v.log pass
       → ((batches : List (List ℕ)) → IsOn may_leave log v.disk batches → used log ≤ most_bytes → LeavesOnlyImages moment left_since v.disk now (HasEither batches (with_batch batches log.tail)))
       → LeavesOnlyImages moment left_since v.disk now (IsImageBut may_leave v.disk log.area (λ _. ⊤))
       → LeavesOnlyImages moment left_since v.disk now (MayHave v pass)
-  record-moments v moment left_since log now pass stands owed is run others =
+  record-moments v moment left_since log now pass stands inside owed is run others =
       let on = record-on v log pass stands is in
       both (MayHave v pass)
       (λ image has but.
       let may = but.others Pages (pages-apart log.area on.area) in
-      forced-image v pass stands.batches (with_batch stands.batches log.tail) image (stands.hold image.pages may) (record-holds v log pass stands is image.pages may) has)
+      forced-image v pass stands.batches (with_batch stands.batches log.tail) image (stands.pages, stands.ids, (stands.records.hold image.pages may).have) (record-holds v log pass stands inside is image.pages may) has)
       (run stands.batches on (record-bounded v log pass stands owed is)) others
 
   -- ---- what is kept where the disk fails it
 
-  failed-image : (v w : LoggedView D) (pass faults : ℕ) (image : Bytes) → v.failed ≡ None → w.journal ≡ v.journal → w.durable ≡ v.durable → w.failed ≡ Some (record { pass = pass; faults = faults })
+  failed-image : (v w : LoggedView D) (pass faults : ℕ) (image : Bytes) → v.failed ≡ None → w.journal ≡ v.journal → w.durable ≡ v.durable → w.failed ≡ Some (record { commit = Some pass; faults = faults })
       → MayHave v pass image → MayBeLeft w image
   failed-image v w pass faults image running journal count told has =
       ⊎_elim (λ (left : MayBeLeft v image). before left)
       (λ (all : HasRecords v.journal (with_commit v.journal.notes pass) image).
-      failed (record { pass = pass; faults = faults }) told (subst (λ (j : JournalView). HasRecords j (with_commit j.notes pass) image) (sym journal) all))
+      failed (record { commit = Some pass; faults = faults }) told (subst (λ (j : JournalView). HasRecords j (with_commit j.notes pass) image) (sym journal) all))
       has
     where
       before : MayBeLeft v image → MayBeLeft w image
@@ -148,20 +164,26 @@ module _ {D : Type 0} (may_leave : D → Area → List ℕ → Type 0) where
           (subst (λ (j : JournalView). HasRecords j (take v.durable j.notes) image) (sym journal) is))
       before (failed f is more) = absurd (cc (running, is))
 
-  pub kept-failed : (v w : LoggedView D) (pass faults : ℕ) → IsKept may_leave v → v.failed ≡ None → w.journal ≡ v.journal → w.durable ≡ v.durable → w.failed ≡ Some (record { pass = pass; faults = faults })
-      → w.log_full ≡ v.log_full → w.peak ≡ v.peak → CanCommit v.journal pass → EachImage may_leave w.disk (MayHave v pass) → IsKept may_leave w
-  kept-failed v w pass faults kept running journal count told full peak can images =
+  pub kept-failed : (v w : LoggedView D) (pass faults : ℕ) → IsKept may_leave v → v.failed ≡ None → w.journal ≡ v.journal → w.durable ≡ v.durable → w.failed ≡ Some (record { commit = Some pass; faults = faults })
+      → w.log_full ≡ v.log_full → w.peak ≡ v.peak → w.marks ≡ v.marks → CanCommit v.journal pass → EachImage may_leave w.disk (MayHave v pass) → IsKept may_leave w
+  kept-failed v w pass faults kept running journal count told full peak marks can images =
       record {
         standing = λ is. absurd (cc (told, is));
         inside = subst (λ (d : ℕ). d ≤ length w.journal.notes) (sym count) (subst (λ (j : JournalView). v.durable ≤ length j.notes) (sym journal) kept.inside);
         lasting = subst (λ (d : ℕ). IsDurable w.journal (take d w.journal.notes)) (sym count) (subst (λ (j : JournalView). IsDurable j (take v.durable j.notes)) (sym journal) kept.lasting);
         images = λ image may. failed-image v w pass faults image running journal count told (images image may);
-        granted = subst (λ (o : Option FailedCommit). IfSome o (λ f. CanCommit w.journal f.pass)) (sym told) (subst (λ (j : JournalView). CanCommit j pass) (sym journal) can);
+        many =
+            let before = kept.many in
+            let ids = ap (λ (j : JournalView). j.history.ids) journal in
+            let many = ap (λ (l : List PageMark). length l) marks in
+            omega (arith, before, ids, many);
+        granted = subst (λ (o : Option FailedCall). IfSome (option_and_then (λ (f : FailedCall). f.commit) o) (CanCommit w.journal)) (sym told) (subst (λ (j : JournalView). CanCommit j pass) (sym journal) can);
         typed = subst (λ (j : JournalView). AreTypedNotes j.notes) (sym journal) kept.typed;
         full = λ is.
             let before = kept.full (sym full ∙ is) in
             let limit = ap (λ (j : JournalView). j.limits.log) journal in
-            omega (arith, before, limit, peak);
+            let need = ap (λ (j : JournalView). image_need j.history.slots) journal in
+            omega (arith, before, limit, need, peak);
       }
 
   -- ---- what is kept where it is done
@@ -174,7 +196,11 @@ module _ {D : Type 0} (may_leave : D → Area → List ℕ → Type 0) where
     pub log : w.log ≡ forced (with_record v.log pass)
     pub on : IsOn may_leave w.log w.disk batches
     pub have : EachImage may_leave w.disk (HasLog batches)
-    pub hold : Leaves may_leave w.disk Pages (λ area. HoldRecords v.journal area (v.journal.notes ++ n ∷ []) batches)
+    pub pages : ℕ
+    pub ids : v.journal.history.ids ≡ 8 * pages
+    pub records : HoldsNotes may_leave v.journal.history.slots pages v.journal.opening (v.journal.notes ++ n ∷ []) [] v.marks w.disk batches []
+    pub long : Leaves may_leave w.disk Pages (λ area. page_size v.journal.history.slots * pages ≤ length area)
+    pub marks : w.marks ≡ v.marks
     pub all : w.durable ≡ length w.journal.notes
     pub lasting : IsDurable w.journal w.journal.notes
     pub running : w.failed ≡ None
@@ -196,8 +222,12 @@ module _ {D : Type 0} (may_leave : D → Area → List ℕ → Type 0) where
       let stands = kept.standing running in
       let notes = w.journal.notes in
       let some : durable_notes w ≡ notes = take_all w.durable notes (let k = e.all in omega (arith, k)) in
-      let hold : Leaves may_leave w.disk Pages (λ area. HoldRecords w.journal area (durable_notes w) batches) =
-      λ area may. hold-same v.journal w.journal n area (durable_notes w) batches e.note (subst (λ (l : List Note). HoldRecords v.journal area l batches) (sym e.note.noted ∙ sym some) (e.hold area may)) in
+      let records : HoldsNotes may_leave w.journal.history.slots e.pages w.journal.opening (durable_notes w) (drop w.durable notes) w.marks w.disk batches w.log.tail =
+      subst (λ (tail : List ℕ). HoldsNotes may_leave w.journal.history.slots e.pages w.journal.opening (durable_notes w) (drop w.durable notes) w.marks w.disk batches tail) (sym (ap (λ (l : LogState). l.tail) e.log))
+      (subst (λ (marks : List PageMark). HoldsNotes may_leave w.journal.history.slots e.pages w.journal.opening (durable_notes w) (drop w.durable notes) marks w.disk batches []) (sym e.marks)
+      (holds-as may_leave v.journal.history.slots w.journal.history.slots e.pages v.journal.opening w.journal.opening (v.journal.notes ++ n ∷ []) (durable_notes w) [] (drop w.durable notes) v.marks w.disk w.disk batches []
+      (ap (λ h. h.slots) e.note.entry) e.note.opening (some ∙ e.note.noted) (drop_all w.durable notes (let k = e.all in omega (arith, k))) refl e.records)) in
+      let ids = ap (λ h. h.ids) e.note.entry ∙ e.ids in
       let counted = counted-falls v w pass e.log e.falls in
       let peak = e.others.1 in
       record {
@@ -205,8 +235,10 @@ module _ {D : Type 0} (may_leave : D → Area → List ℕ → Type 0) where
           stage = ap (λ (l : LogState). l.stage) e.log ∙ stands.stage;
           batches = batches;
           on = e.on;
-          hold = hold;
-          tail = ap (λ (l : LogState). l.tail) e.log ∙ ap (λ (l : List Note). notes_bytes l) (sym (drop_all w.durable notes (let k = e.all in omega (arith, k))));
+          pages = e.pages;
+          ids = ids;
+          records = records;
+          long = λ area may. subst (λ (s : ℕ). page_size s * e.pages ≤ length area) (sym (ap (λ h. h.slots) e.note.entry)) (e.long area may);
           room =
               let was = stands.room in
               let now : w.log.room ≡ v.log.room - 2 = ap (λ (l : LogState). l.room) e.log in
@@ -216,12 +248,18 @@ module _ {D : Type 0} (may_leave : D → Area → List ℕ → Type 0) where
           peak = let b = stands.peak in omega (arith, counted, b, peak);
         };
         inside = let k = e.all in omega (arith, k);
+        many =
+            let before = kept.many in
+            let same = ap (λ h. h.ids) e.note.entry in
+            let many = ap (λ (l : List PageMark). length l) e.marks in
+            omega (arith, before, same, many);
         lasting = subst (λ (l : List Note). IsDurable w.journal l) (sym some) e.lasting;
-        images = λ image may. durable (record { batches = batches; log = e.have image may; hold = hold image.pages (may Pages) });
-        granted = subst (λ (o : Option FailedCommit). IfSome o (λ f. CanCommit w.journal f.pass)) (sym e.running) tt;
+        images = λ image may. durable (record { batches = batches; log = e.have image may; hold = (e.pages, ids, (records.hold image.pages (may Pages)).have) });
+        granted = subst (λ (o : Option FailedCall). IfSome (option_and_then (λ (f : FailedCall). f.commit) o) (CanCommit w.journal)) (sym e.running) tt;
         typed = subst AreTypedNotes (sym e.note.noted) (AllByRecursion-push IsTypedNote v.journal.notes n kept.typed (subst (λ (o : Option CellRecord). IfSome o IsTypedCellRecord) (sym e.logged) tt));
         full = λ is.
             let before = kept.full (sym e.others.0 ∙ is) in
             let limit = ap (λ l. l.log) e.limits in
-            omega (arith, before, limit, peak);
+            let need = ap (λ h. image_need h.slots) e.note.entry in
+            omega (arith, before, limit, need, peak);
       }

@@ -1,7 +1,7 @@
 -- What the images of a disk open to on which a log has the records of a journal's notes.
 use Rattle.std.proofs.Common.{◌≡◌, ℕ, ◌*◌, Bool, true, false, List, [], ◌∷◌, ◌++◌, ◌+◌, length, append-nil, map, Option, Some, None, inr, refl, sym, ◌∙◌, ap, arith, subst}
 use Rattle.std.specs.Prelude.{cond, IfSome}
-use Rattle.std.specs.Option.{option_map_or}
+use Rattle.std.specs.Option.{option_map_or, option_and_then}
 use Rattle.std.specs.List.{AllByRecursion}
 use Rattle.std.proofs.lemmas.List.{map-append, append_assoc}
 use Rattle.std.proofs.lemmas.List.Elements.{recursion_from_All}
@@ -21,7 +21,6 @@ use Rattle.cell_model.specs.Graph.{graph_of}
 use Rattle.cell_page.specs.Format.{IsSlotCount}
 use Rattle.disk_model.specs.Areas.{Bytes, in_area}
 use Rattle.gate_log.specs.Batches.{IsLog, most_bytes}
-use Rattle.log_record.specs.declared.cell_record.CellRecord.{CellRecord}
 use Rattle.log_record.specs.declared.cell_record.CellRecord.TheVariants as logs
 use Rattle.log_record.specs.Spelling.{HasCellSpelling}
 use Rattle.store_model.specs.Core.{Core}
@@ -39,21 +38,22 @@ use Rattle.restart_laws.specs.Settled.{IsUnpromised}
 use Rattle.restart_laws.proofs.ForgottenLaws.{forgotten, forgotten-sound, zeros-left}
 use Rattle.restart_laws.proofs.ReopenLaws.{cells-append}
 use Rattle.restart_laws.proofs.RestartableLaws.{events, crashes}
-use Rattle.opened_images.specs.LogRecords.{body_of, bodies_of, all_of, first_records, HaveSpellings}
 use Rattle.opened_images.specs.Opened.{Opened, OpensTo}
-use Rattle.opened_images.specs.GoesOn.{logged_records, stored_records, in_parts, AreWithin, GoesOnLaw}
+use Rattle.opened_images.specs.GoesOn.{stored_records, AreWithin}
+use Rattle.opened_images.specs.Checkpoints.{BehindCheckpointLaw}
 use Rattle.core_store.specs.declared.act.Act.TheVariants.{Other}
 use Rattle.core_store.specs.declared.note.Note.{Note}
 use Rattle.core_store.specs.JournalView.{JournalView, logged_in, cells_after_notes, core_of, opening_of}
 use Rattle.core_store.specs.Safe.{AreEntries, IsSafe, IsDurable}
+use Rattle.core_store.proofs.SafeLaws.{durable-all}
 use Rattle.core_store.specs.Spelled.{IsOfIds, AreSpelled, AreOfIds}
 use Rattle.core_store.proofs.PlanLaws.{refusal-in, refusal-out}
-use Rattle.logged_journal.specs.declared.failed.FailedCommit.{FailedCommit}
-use Rattle.logged_journal.specs.View.{LoggedView, history_of}
-use Rattle.logged_journal.specs.Records.{notes_bytes, AreTypedNotes, HasRecords, with_commit, durable_notes, MayBeLeft, durable, failed}
+use Rattle.logged_journal.specs.declared.failed.FailedCall.{FailedCall}
+use Rattle.logged_journal.specs.View.{LoggedView, history_of, failed_commit}
+use Rattle.logged_journal.specs.Records.{logged_of, AreTypedNotes, HasRecords, with_commit, durable_notes, MayBeLeft, durable, failed}
 use Rattle.logged_journal.specs.Kept.{CanCommit}
 use Rattle.logged_journal.specs.Opens.{OpensAfter}
-use Rattle.logged_journal.proofs.NoteRecords.{logged_of, parts_of, bodies-are, parts-are, stored-are, spellings, within, first-have, slots-are}
+use Rattle.logged_journal.proofs.NoteRecords.{stored-are, spellings, within, first-have, last-have, slots-are}
 
 -- ---- records that are a safe journal's
 
@@ -84,30 +84,31 @@ opened-size j notes entries core safe opens own =
     subst (λ (slots : ℕ). length (restored slots (cells_after_notes j.history.slots j.opening notes) (unended_after_all [] (logged_in notes))) ≡ j.history.ids + 1) own
     (let sized = opens.after.sized in omega (arith, sized, ids))
 
-module _ (law : GoesOnLaw) (j : JournalView) (notes : List Note) (entries later : List Entry) (core : Core) (h : History) (image : Bytes) where
+module _ (law : BehindCheckpointLaw) (j : JournalView) (notes : List Note) (entries later : List Entry) (core : Core) (h : History) (image : Bytes) where
   -- an image with the records of a safe journal opens to a cell for each id and one at 0, and to a graph that a crash may leave, where nothing was promised since
   opens-own : AreOfStore j.history.slots j notes → IsRestartable (opening_of j) entries (logged_in notes) core → IsUnpromised later → moment_after (start_of j.history) (entries ++ later) ≡ end_of h
       → HasRecords j notes image → OpensAfter j.history.slots h image
   opens-own facts safe unpromised ends has =
       let slots = j.history.slots in
-      let hold = has.hold in
-      let begun = hold.2 in
-      let parts = parts_of hold.1 in
-      let logged-is : in_parts parts ≡ logged_of notes = parts-are hold.1 ∙ ap logged_of hold.3 in
-      let stored-is : logged_in notes ≡ stored_records (in_parts parts) = sym (ap stored_records logged-is ∙ stored-are notes) in
-      let batches-are : has.batches ≡ body_of (first_records slots begun.0) ∷ (bodies_of begun.2.0 ++ map (λ part. body_of (logged_records {slots = slots} part)) parts) =
-      hold.4 ∙ ap (λ (ls : List (List ℕ)). ls ++ map notes_bytes hold.1) begun.2.1 ∙ ap (λ (ls : List (List ℕ)). body_of (first_records slots begun.0) ∷ (bodies_of begun.2.0 ++ ls)) (bodies-are slots hold.1) in
+      let pages = has.hold.0 in
+      let ids = has.hold.1 in
+      let hold = has.hold.2 in
+      let events = logged_of hold.later in
+      let P : Note → Type 0 = λ n. IfSome n.logged (HasCellSpelling slots) in
+      let Q : Note → Type 0 = λ n. IfSome n.logged (IsOfIds j.history.ids) in
+      let stored-is : logged_in notes ≡ logged_in hold.first ++ stored_records events =
+      ap (λ (ns : List Note). logged_in ns) hold.split ∙ map-append _ hold.first hold.later ∙ ap (λ (rs : List (Option StoredRecord)). logged_in hold.first ++ rs) (sym (stored-are hold.later)) in
       let crash = crashes (opening_of j) core entries (logged_in notes) safe later unpromised in
       let own : core.moment.state.slots ≡ slots = ap (λ (m : Moment). m.state.slots) safe.moment ∙ slots-after (start_of j.history) entries in
       let can : CanRestart slots (cells_after slots j.opening (logged_in notes)) (unended_after_all [] (logged_in notes)) = subst (λ (s : ℕ). CanRestart s (cells_after slots j.opening (logged_in notes)) (unended_after_all [] (logged_in notes))) own crash.0.can in
-      let opens = law slots begun.0 image has.log.area begun.2.0 parts j.opening facts.size begun.2.2
-      (subst (λ (ids : ℕ). AreConsistent slots ids j.opening) begun.1 facts.opening) has.log.named
-      (subst (λ (batches : List (List ℕ)). IsLog most_bytes batches (in_area image has.log.area)) batches-are has.log.log)
-      (subst (λ (os : List (Option CellRecord)). HaveSpellings (logged_records {slots = slots} os)) (sym logged-is) (spellings slots notes facts.spelled facts.typed))
-      (subst (λ (os : List (Option CellRecord)). AreWithin (8 * begun.0) os) (sym logged-is) (subst (λ (ids : ℕ). AreWithin ids (logged_of notes)) begun.1 (within j.history.ids notes facts.of_ids)))
+      let opens = law slots pages image has.log.area hold.before hold.earlier hold.parts j.opening (logged_in hold.first) events facts.size hold.over hold.began hold.sound has.log.named
+      (subst (λ (batches : List (List ℕ)). IsLog most_bytes batches (in_area image has.log.area)) hold.are has.log.log)
+      hold.same hold.logged hold.images
+      (spellings slots hold.later (last-have P hold.first hold.later (subst (AllByRecursion P) hold.split facts.spelled)) (last-have _ hold.first hold.later (subst AreTypedNotes hold.split facts.typed)))
+      (subst (λ (n : ℕ). AreWithin n events) ids (within j.history.ids hold.later (last-have Q hold.first hold.later (subst (AllByRecursion Q) hold.split facts.of_ids))))
       (subst (λ (rs : List (Option StoredRecord)). AllFit slots j.opening rs) stored-is safe.fit)
       (subst (λ (rs : List (Option StoredRecord)). AllFitUnended [] rs) stored-is safe.fit_unended)
-      (subst (λ (rs : List (Option StoredRecord)). AreConsistent slots (8 * begun.0) (cells_after slots j.opening rs)) stored-is (subst (λ (ids : ℕ). AreConsistent slots ids (cells_after slots j.opening (logged_in notes))) begun.1 facts.after))
+      (subst (λ (rs : List (Option StoredRecord)). AreConsistent slots (8 * pages) (cells_after slots j.opening rs)) stored-is (subst (λ (n : ℕ). AreConsistent slots n (cells_after slots j.opening (logged_in notes))) ids facts.after))
       (subst (λ (rs : List (Option StoredRecord)). CanRestart slots (cells_after slots j.opening rs) (unended_after_all [] rs)) stored-is can) in
       record {
         cells = opened slots j.opening (logged_in notes);
@@ -120,8 +121,7 @@ module _ (law : GoesOnLaw) (j : JournalView) (notes : List Note) (entries later 
   pub opens-after : (slots : ℕ) → AreOfStore slots j notes → IsRestartable (opening_of j) entries (logged_in notes) core → IsUnpromised later → moment_after (start_of j.history) (entries ++ later) ≡ end_of h
       → HasRecords j notes image → OpensAfter slots h image
   opens-after slots facts safe unpromised ends has =
-      let begun = has.hold.2 in
-      let same = slots-are j.history.slots slots j.history.ids begun.0 image.pages (all_of begun.2.0) j.opening begun.2.2.are facts.opening in
+      let same = slots-are j.history.slots slots (8 * has.hold.0) j.history.ids j.opening has.hold.2.opens facts.opening in
       subst (λ (s : ℕ). OpensAfter s h image) same (opens-own (subst (λ (s : ℕ). AreOfStore s j notes) (sym same) facts) safe unpromised ends has)
 
 -- ---- what a journal tells of itself
@@ -138,7 +138,7 @@ pub record TellsItself (slots : ℕ) (j : JournalView) : Type 0 where
   pub typed : AreTypedNotes j.notes
 
 -- the same is told of its first notes
-first-facts : (slots : ℕ) (j : JournalView) («first» rest : List Note) → TellsItself slots j → j.notes ≡ «first» ++ rest → AreOfStore slots j «first»
+pub first-facts : (slots : ℕ) (j : JournalView) («first» rest : List Note) → TellsItself slots j → j.notes ≡ «first» ++ rest → AreOfStore slots j «first»
 first-facts slots j «first» rest t split =
     let P : Note → Type 0 = λ n. IfSome n.logged (HasCellSpelling slots) in
     let Q : Note → Type 0 = λ n. IfSome n.logged (IsOfIds j.history.ids) in
@@ -157,14 +157,14 @@ all-entries j «first» rest split entries =
     sym (map-append (λ (n : Note). n.entry) «first» rest) ∙ ap (λ (l : List Note). map (λ n. n.entry) l) (sym split) ∙ entries
 
 -- with the records of durable notes alone an image opens to a graph that a crash at the end may leave
-opens-durable : (law : GoesOnLaw) (slots : ℕ) (j : JournalView) («first» : List Note) (image : Bytes) → TellsItself slots j → IsDurable j «first» → HasRecords j «first» image → OpensAfter slots j.history image
+opens-durable : (law : BehindCheckpointLaw) (slots : ℕ) (j : JournalView) («first» : List Note) (image : Bytes) → TellsItself slots j → IsDurable j «first» → HasRecords j «first» image → OpensAfter slots j.history image
 opens-durable law slots j «first» image t d has =
     let all = all-entries j «first» d.rest d.split t.entries in
     opens-after law j «first» (map (λ n. n.entry) «first») (map (λ n. n.entry) d.rest) d.core j.history image slots (first-facts slots j «first» d.rest t d.split) d.safe d.unpromised
     (ap (λ (es : List Entry). moment_after (start_of j.history) es) all) has
 
 -- so it does where a commit failed after them
-opens-durable-failed : (law : GoesOnLaw) (slots : ℕ) (j : JournalView) («first» : List Note) (pass : ℕ) (image : Bytes) → TellsItself slots j → IsDurable j «first» → HasRecords j «first» image
+opens-durable-failed : (law : BehindCheckpointLaw) (slots : ℕ) (j : JournalView) («first» : List Note) (pass : ℕ) (image : Bytes) → TellsItself slots j → IsDurable j «first» → HasRecords j «first» image
     → OpensAfter slots (with_entry j.history (Call pass CommitCall DiskFault)) image
 opens-durable-failed law slots j «first» pass image t d has =
     let e : Entry = Call pass CommitCall DiskFault in
@@ -216,7 +216,7 @@ commit-cells slots j pass =
     commit-logged j pass = map-append _ j.notes _
 
 -- with the records of all notes and of the failed commit an image opens to a graph that a crash may leave after it
-pub opens-failed : (law : GoesOnLaw) (slots : ℕ) (j : JournalView) (pass : ℕ) (image : Bytes) → TellsItself slots j → CanCommit j pass → HasRecords j (with_commit j.notes pass) image
+pub opens-failed : (law : BehindCheckpointLaw) (slots : ℕ) (j : JournalView) (pass : ℕ) (image : Bytes) → TellsItself slots j → CanCommit j pass → HasRecords j (with_commit j.notes pass) image
     → OpensAfter slots (with_entry j.history (Call pass CommitCall DiskFault)) image
 opens-failed law slots j pass image t can has =
     let e : Entry = Call pass CommitCall DiskFault in
@@ -238,17 +238,27 @@ opens-failed law slots j pass image t can has =
 
 -- ---- whatever a power loss leaves
 
+-- with the records of all notes an image opens to a graph that a crash may leave
+pub opens-all : (law : BehindCheckpointLaw) (slots : ℕ) (j : JournalView) (image : Bytes) → TellsItself slots j → HasRecords j j.notes image → OpensAfter slots j.history image
+opens-all law slots j image t has = opens-durable law slots j j.notes image t (durable-all j t.entries t.safe) has
+
 -- so it is in the history that is told, whether or not a commit failed
-durable-left : (law : GoesOnLaw) (slots : ℕ) (j : JournalView) («first» : List Note) (o : Option FailedCommit) (image : Bytes) → TellsItself slots j → IsDurable j «first» → HasRecords j «first» image
-    → OpensAfter slots (option_map_or (λ (f : FailedCommit). with_entry j.history (Call f.pass CommitCall DiskFault)) o j.history) image
+durable-left : (law : BehindCheckpointLaw) (slots : ℕ) (j : JournalView) («first» : List Note) (o : Option ℕ) (image : Bytes) → TellsItself slots j → IsDurable j «first» → HasRecords j «first» image
+    → OpensAfter slots (option_map_or (λ (client : ℕ). with_entry j.history (Call client CommitCall DiskFault)) o j.history) image
 durable-left law slots j «first» None image t d has = opens-durable law slots j «first» image t d has
-durable-left law slots j «first» (Some f) image t d has = opens-durable-failed law slots j «first» f.pass image t d has
+durable-left law slots j «first» (Some client) image t d has = opens-durable-failed law slots j «first» client image t d has
+
+-- and where a call failed the records of all notes, and of the commit where it was one
+failed-left : (law : BehindCheckpointLaw) (slots : ℕ) (j : JournalView) (o : Option ℕ) (image : Bytes) → TellsItself slots j → IfSome o (CanCommit j) → HasRecords j (option_map_or (with_commit j.notes) o j.notes) image
+    → OpensAfter slots (option_map_or (λ (client : ℕ). with_entry j.history (Call client CommitCall DiskFault)) o j.history) image
+failed-left law slots j None image t can has = opens-all law slots j image t has
+failed-left law slots j (Some client) image t can has = opens-failed law slots j client image t can has
 
 -- an image with what a power loss may leave opens to a graph that a crash may leave
-pub opens-left : {D : Type 0} (law : GoesOnLaw) (slots : ℕ) (v : LoggedView D) (image : Bytes) → TellsItself slots v.journal → IsDurable v.journal (durable_notes v) → IfSome v.failed (λ f. CanCommit v.journal f.pass)
+pub opens-left : {D : Type 0} (law : BehindCheckpointLaw) (slots : ℕ) (v : LoggedView D) (image : Bytes) → TellsItself slots v.journal → IsDurable v.journal (durable_notes v) → IfSome (failed_commit v) (CanCommit v.journal)
     → MayBeLeft v image → OpensAfter slots (history_of v) image
-opens-left law slots v image t d granted (durable has) = durable-left law slots v.journal (durable_notes v) v.failed image t d has
+opens-left law slots v image t d granted (durable has) = durable-left law slots v.journal (durable_notes v) (failed_commit v) image t d has
 opens-left law slots v image t d granted (failed f is has) =
-    let can : CanCommit v.journal f.pass = subst (λ (o : Option FailedCommit). IfSome o (λ f. CanCommit v.journal f.pass)) is granted in
-    subst (λ (o : Option FailedCommit). OpensAfter slots (option_map_or (λ (f : FailedCommit). with_entry v.journal.history (Call f.pass CommitCall DiskFault)) o v.journal.history) image) (sym is)
-    (opens-failed law slots v.journal f.pass image t can has)
+    let commit : failed_commit v ≡ f.commit = ap (λ (o : Option FailedCall). option_and_then (λ (f : FailedCall). f.commit) o) is in
+    subst (λ (o : Option ℕ). OpensAfter slots (option_map_or (λ (client : ℕ). with_entry v.journal.history (Call client CommitCall DiskFault)) o v.journal.history) image) (sym commit)
+    (failed-left law slots v.journal f.commit image t (subst (λ (o : Option ℕ). IfSome o (CanCommit v.journal)) commit granted) has)

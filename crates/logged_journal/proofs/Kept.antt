@@ -1,6 +1,8 @@
 -- What a journal with its log keeps at an event.
 use Rattle.std.proofs.Common.{◌≡◌, ℕ, ◌+◌, ◌≤◌, max, false, ◌||◌, List, [], ◌∷◌, ◌++◌, length, take, drop, Option, Some, None, sym, ◌∙◌, ap, subst, arith}
-use Rattle.std.specs.Prelude.{IfSome}
+use Rattle.std.specs.Prelude.{IfSome, ◌*◌}
+use Rattle.std.specs.Option.{option_and_then}
+use Rattle.cell_page.specs.Format.{page_size}
 use Rattle.std.proofs.lemmas.List.{length-append, take-append-le, drop-append-le}
 use Rattle.disk_model.specs.declared.area.Area.{Area}
 use Rattle.disk_model.specs.declared.area.Area.TheVariants.{Pages, Super}
@@ -9,7 +11,6 @@ use Rattle.disk_model.specs.Told.{EachImage}
 use Rattle.plain_laws.specs.Sound.{is_crash}
 use Rattle.plain_model.specs.History.{end_of}
 use Rattle.plain_model.proofs.GraphLemmas.{AllByRecursion-push}
-use Rattle.cell_model.specs.Cells.{Cell}
 use Rattle.restart_laws.specs.Settled.{acknowledges}
 use Rattle.gate_log.specs.Batches.{most_bytes, IsLog}
 use Rattle.gate_log.specs.State.{LogState, IsLogArea}
@@ -19,12 +20,11 @@ use Rattle.core_store.specs.JournalView.{JournalView}
 use Rattle.core_store.specs.Owed.{bytes_owed}
 use Rattle.core_store.specs.Safe.{IsDurable, HasNote}
 use Rattle.core_store.proofs.SafeLaws.{durable-kept}
-use Rattle.logged_journal.specs.View.{LoggedView, bytes_counted}
-use Rattle.opened_images.specs.GoesOn.{IsBegun}
-use Rattle.logged_journal.specs.declared.failed.FailedCommit.{FailedCommit}
-use Rattle.logged_journal.specs.Records.{note_bytes, notes_bytes, IsTypedNote, AreTypedNotes, OpenedWith, HoldRecords, HasRecords, durable_notes, MayBeLeft, durable, failed}
+use Rattle.logged_journal.specs.View.{LoggedView, bytes_counted, image_need}
+use Rattle.logged_journal.specs.declared.failed.FailedCall.{FailedCall}
+use Rattle.logged_journal.specs.Records.{note_bytes, IsTypedNote, AreTypedNotes, AreMarkedAfter, HaveRecords, HasRecords, durable_notes, MayBeLeft, durable, failed}
 use Rattle.logged_journal.specs.Kept.{CanCommit, IsKept}
-use Rattle.logged_journal.proofs.NoteBytes.{bytes-push}
+use Rattle.logged_journal.proofs.HeldRecords.{marked-many, records-as, holds-as, holds-push}
 
 -- one note more, whose record joined the tail
 pub record HasEvent {D : Type 0} (v w : LoggedView D) (n : Note) : Type 0 where
@@ -37,6 +37,8 @@ pub record HasEvent {D : Type 0} (v w : LoggedView D) (n : Note) : Type 0 where
   pub tail : w.log.tail ≡ v.log.tail ++ note_bytes n
   pub disk : w.disk ≡ v.disk
   pub durable : w.durable ≡ v.durable
+  -- the marks of the pages that it concerns
+  pub marked : AreMarkedAfter v.journal.history.slots n.logged v.marks w.marks
   pub running : (v.failed ≡ None) × (w.failed ≡ None)
   pub log_full : w.log_full ≡ v.log_full
   pub unpromised : (acknowledges n.entry || is_crash n.entry) ≡ false
@@ -47,18 +49,10 @@ pub record HasEvent {D : Type 0} (v w : LoggedView D) (n : Note) : Type 0 where
   pub peak : bytes_counted w ≤ w.peak
   pub higher : v.peak ≤ w.peak
 
--- what the log begins with doesn't depend on the notes
-pub opened-same : (j k : JournalView) (area : List ℕ) (begun : List (List ℕ)) → k.history.ids ≡ j.history.ids → k.history.slots ≡ j.history.slots → k.opening ≡ j.opening → OpenedWith j area begun → OpenedWith k area begun
-opened-same j k area begun ids slots opening has = (
-  has.0,
-  ids ∙ has.1,
-  subst (λ (s : ℕ). IsBegun s has.0 area begun k.opening) (sym slots) (subst (λ (cells : List Cell). IsBegun j.history.slots has.0 area begun cells) (sym opening) has.2),
-)
-
--- so a log that has the records of some notes has them after one note more
-pub hold-same : (j k : JournalView) (n : Note) (area : List ℕ) (notes : List Note) (batches : List (List ℕ)) → HasNote j k n → HoldRecords j area notes batches → HoldRecords k area notes batches
-hold-same j k n area notes batches has hold =
-    (hold.0, hold.1, opened-same j k area hold.0 (ap (λ h. h.ids) has.entry) (ap (λ h. h.slots) has.entry) has.opening hold.2, hold.3, hold.4)
+-- a log that has the records of some notes has them after one note more
+pub hold-same : (j k : JournalView) (n : Note) (pages : ℕ) (area : List ℕ) (notes : List Note) (batches : List (List ℕ)) → HasNote j k n → HaveRecords j.history.slots pages j.opening area notes batches
+    → HaveRecords k.history.slots pages k.opening area notes batches
+hold-same j k n pages area notes batches has hold = records-as j.history.slots k.history.slots pages j.opening k.opening area notes batches (ap (λ h. h.slots) has.entry) has.opening hold
 
 module _ {D : Type 0} (may_leave : D → Area → List ℕ → Type 0) where
   -- the durable notes are the same
@@ -69,7 +63,8 @@ module _ {D : Type 0} (may_leave : D → Area → List ℕ → Type 0) where
       ∙ take-append-le v.durable v.journal.notes (n ∷ []) inside
 
   pub records-same : (j k : JournalView) (n : Note) («first» : List Note) (image : Bytes) → HasNote j k n → HasRecords j «first» image → HasRecords k «first» image
-  records-same j k n «first» image has is = record { batches = is.batches; log = is.log; hold = hold-same j k n image.pages «first» is.batches has is.hold }
+  records-same j k n «first» image has is =
+      record { batches = is.batches; log = is.log; hold = (is.hold.0, ap (λ h. h.ids) has.entry ∙ is.hold.1, hold-same j k n is.hold.0 image.pages «first» is.batches has is.hold.2) }
 
   -- the images of the disk are what the durable notes have
   pub left-same : (v w : LoggedView D) (n : Note) (image : Bytes) → HasNote v.journal w.journal n → w.durable ≡ v.durable → v.durable ≤ length v.journal.notes → v.failed ≡ None → MayBeLeft v image → MayBeLeft w image
@@ -97,21 +92,30 @@ module _ {D : Type 0} (may_leave : D → Area → List ℕ → Type 0) where
           stage = e.stage ∙ stands.stage;
           batches = stands.batches;
           on = on-same v.log w.log v.disk w.disk stands.batches e.area e.offset e.disk stands.on;
-          hold = λ area may. hold-same v.journal w.journal n area (durable_notes w) stands.batches e.note
-              (subst (λ (l : List Note). HoldRecords v.journal area l stands.batches) (sym same) (stands.hold area (subst (λ (d : D). may_leave d Pages area) e.disk may)));
-          tail = e.tail ∙ ap (λ (l : List ℕ). l ++ note_bytes n) stands.tail ∙ sym (bytes-push (drop v.durable v.journal.notes) n)
-              ∙ ap notes_bytes (sym (ap (λ (d : ℕ). drop d w.journal.notes) e.durable ∙ ap (λ (l : List Note). drop v.durable l) e.note.noted ∙ drop-append-le v.durable v.journal.notes (n ∷ []) kept.inside));
+          pages = stands.pages;
+          ids = ap (λ h. h.ids) e.note.entry ∙ stands.ids;
+          records = holds-as may_leave v.journal.history.slots w.journal.history.slots stands.pages v.journal.opening w.journal.opening (durable_notes v) (durable_notes w) (drop v.durable v.journal.notes ++ n ∷ []) (drop w.durable w.journal.notes)
+              w.marks v.disk w.disk stands.batches w.log.tail (ap (λ h. h.slots) e.note.entry) e.note.opening same
+              (ap (λ (d : ℕ). drop d w.journal.notes) e.durable ∙ ap (λ (l : List Note). drop v.durable l) e.note.noted ∙ drop-append-le v.durable v.journal.notes (n ∷ []) kept.inside) e.disk
+              (holds-push may_leave v.journal.history.slots stands.pages v.journal.opening (durable_notes v) (drop v.durable v.journal.notes) v.marks v.disk stands.batches v.log.tail stands.records n w.marks w.log.tail e.tail e.marked);
+          long = λ area may. subst (λ (s : ℕ). page_size s * stands.pages ≤ length area) (sym (ap (λ h. h.slots) e.note.entry)) (stands.long area (subst (λ (d : D). may_leave d Pages area) e.disk may));
           room = e.room;
           bounded = e.bounded;
           peak = e.peak;
         };
         inside = subst (λ (d : ℕ). d ≤ length w.journal.notes) (sym e.durable) (let more = ap (λ (l : List Note). length l) e.note.noted ∙ length-append v.journal.notes (n ∷ []) in omega (arith, more, kept.inside));
+        many =
+            let ids = ap (λ h. h.ids) e.note.entry in
+            let many = marked-many v.journal.history.slots n.logged v.marks w.marks e.marked in
+            let before = kept.many in
+            omega (arith, ids, many, before);
         lasting = subst (λ (l : List Note). IsDurable w.journal l) (sym same) (durable-kept v.journal w.journal n (durable_notes v) kept.lasting e.note e.unpromised);
         images = subst (λ (d : D). EachImage may_leave d (MayBeLeft w)) (sym e.disk) (λ image may. left-same v w n image e.note e.durable kept.inside e.running.0 (kept.images image may));
-        granted = subst (λ (o : Option FailedCommit). IfSome o (λ f. CanCommit w.journal f.pass)) (sym e.running.1) tt;
+        granted = subst (λ (o : Option FailedCall). IfSome (option_and_then (λ (f : FailedCall). f.commit) o) (CanCommit w.journal)) (sym e.running.1) tt;
         typed = subst AreTypedNotes (sym e.note.noted) (AllByRecursion-push IsTypedNote v.journal.notes n kept.typed e.typed);
         full = λ is.
             let limit = ap (λ l. l.log) e.limits in
             let before = kept.full (sym e.log_full ∙ is) in
-            omega (arith, limit, before, e.higher);
+            let need = ap (λ h. image_need h.slots) e.note.entry in
+            omega (arith, limit, before, need, e.higher);
       }

@@ -1,5 +1,7 @@
 pub mod RecordLengths
 pub mod NoteBytes
+pub mod NoteRecords
+pub mod HeldRecords
 pub mod Kept
 pub mod Commits
 pub mod CalledJournals
@@ -10,5 +12,16 @@ pub mod Resting
 pub mod CollectorEvents
 pub mod AbortSteps
 pub mod AppliedCalls
-pub mod NoteRecords
 pub mod ImagesOpen
+pub mod PagesInLog
+pub mod Upkeeps
+pub mod PagesKept
+pub mod CleanSteps
+pub mod RoomTaken
+pub mod UpkeepOpens
+pub mod Counting
+pub mod PlacedPages
+pub mod CheckpointBegins
+pub mod CheckpointImages
+pub mod CheckpointPlaces
+pub mod CheckpointSteps

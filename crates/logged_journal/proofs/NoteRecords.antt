@@ -1,60 +1,24 @@
 -- The records of notes, as those of a log that goes on.
-use Rattle.std.proofs.Common.{◌≡◌, ℕ, List, [], ◌∷◌, ◌++◌, length, map, Option, Some, None, refl, sym, ◌∙◌, ap, subst, arith}
+use Rattle.std.proofs.Common.{◌≡◌, ℕ, List, [], ◌∷◌, ◌++◌, length, Option, Some, None, refl, sym, ◌∙◌, ap, subst, arith}
 use Rattle.std.specs.Prelude.{IfSome, option_map}
-use Rattle.std.specs.Option.{option_map_or}
 use Rattle.std.specs.List.{AllByRecursion}
-use Rattle.std.proofs.lemmas.List.{map-append}
 use Rattle.cell_model.specs.Cells.{Cell}
 use Rattle.cell_model.specs.Consistent.{AreConsistent}
 use Rattle.cell_model.proofs.ConsistentLaws.{blank-length}
 use Rattle.log_record.specs.declared.cell_record.CellRecord.{CellRecord}
 use Rattle.log_record.specs.declared.cell_record.CellRecord.TheVariants as logs
 use Rattle.log_record.specs.declared.record.Record.{Record}
-use Rattle.log_record.specs.Spelling.{cell_record_bytes, HasCellSpelling, IsTypedCellRecord}
+use Rattle.log_record.specs.Spelling.{HasCellSpelling, IsTypedCellRecord}
 use Rattle.log_replay.specs.Replays.{IsWithin}
-use Rattle.opened_images.specs.LogRecords.{body_of, HaveSpellings}
+use Rattle.opened_images.specs.LogRecords.{HaveSpellings}
 use Rattle.opened_images.specs.Replayed.{cells_of_log}
-use Rattle.opened_images.specs.GoesOn.{logged_records, stored_records, in_parts, AreWithin}
+use Rattle.opened_images.specs.GoesOn.{logged_records, stored_records, AreWithin}
 use Rattle.core_store.specs.declared.note.Note.{Note}
 use Rattle.core_store.specs.JournalView.{logged_in}
 use Rattle.core_store.specs.Spelled.{IsOfIds}
-use Rattle.logged_journal.specs.Records.{notes_bytes, notes_in, AreTypedNotes}
-
--- what the notes logged
-abbrev pub logged_of : List Note → List (Option CellRecord)
-logged_of notes = map (λ n. n.logged) notes
-
--- what each part logged
-abbrev pub parts_of : List (List Note) → List (List (Option CellRecord))
-parts_of parts = map logged_of parts
-
--- ---- bytes
-
--- one record more, where there is one
-byte-one : (slots : ℕ) (o : Option CellRecord) (os : List (Option CellRecord)) (rest : List ℕ) → rest ≡ body_of (logged_records {slots = slots} os)
-    → option_map_or cell_record_bytes o [] ++ rest ≡ body_of (logged_records {slots = slots} (o ∷ os))
-byte-one slots None os rest e = e
-byte-one slots (Some r) os rest e = ap (λ (l : List ℕ). cell_record_bytes r ++ l) e
-
--- the bytes of notes are the body of their records
-pub bytes-are : (slots : ℕ) (notes : List Note) → notes_bytes notes ≡ body_of (logged_records {slots = slots} (logged_of notes))
-bytes-are slots [] = refl
-bytes-are slots (n ∷ ns) = byte-one slots n.logged (logged_of ns) (notes_bytes ns) (bytes-are slots ns)
-
--- so are those of parts
-pub bodies-are : (slots : ℕ) (parts : List (List Note)) → map notes_bytes parts ≡ map (λ part. body_of (logged_records {slots = slots} part)) (parts_of parts)
-bodies-are slots [] = refl
-bodies-are slots (p ∷ ps) =
-    ap (λ (l : List ℕ). l ∷ map notes_bytes ps) (bytes-are slots p)
-    ∙ ap (λ (ls : List (List ℕ)). body_of (logged_records {slots = slots} (logged_of p)) ∷ ls) (bodies-are slots ps)
+use Rattle.logged_journal.specs.Records.{logged_of, AreTypedNotes}
 
 -- ---- the records alone
-
--- all parts log what their notes do
-pub parts-are : (parts : List (List Note)) → in_parts (parts_of parts) ≡ logged_of (notes_in parts)
-parts-are [] = refl
-parts-are (p ∷ ps) =
-    ap (λ (os : List (Option CellRecord)). logged_of p ++ os) (parts-are ps) ∙ sym (map-append (λ (n : Note). n.logged) p (notes_in ps))
 
 -- a store has them as its notes' records
 pub stored-are : (notes : List Note) → stored_records (logged_of notes) ≡ logged_in notes
@@ -88,7 +52,7 @@ within-one ids (logs.CutDead id slot target was_strong) h = h
 within-one ids (logs.Free id) h = h
 
 -- the same where there is a record
-within-some : (ids : ℕ) (o : Option CellRecord) → IfSome o (IsOfIds ids) → IfSome o (IsWithin ids)
+pub within-some : (ids : ℕ) (o : Option CellRecord) → IfSome o (IsOfIds ids) → IfSome o (IsWithin ids)
 within-some ids None h = tt
 within-some ids (Some r) h = within-one ids r h
 
@@ -102,11 +66,25 @@ pub first-have : {X : Type 0} (P : X → Type 0) (xs ys : List X) → AllByRecur
 first-have P [] ys h = tt
 first-have P (x ∷ xs) ys h = (h.0, first-have P xs ys h.1)
 
+-- and of the last
+pub last-have : {X : Type 0} (P : X → Type 0) (xs ys : List X) → AllByRecursion P (xs ++ ys) → AllByRecursion P ys
+last-have P [] ys h = h
+last-have P (x ∷ xs) ys h = last-have P xs ys h.1
+
 -- ---- how many slots there are
 
+-- consistent cells have one number of slots
+pub slots-are : (slots known ids others : ℕ) (cells : List Cell) → AreConsistent slots ids cells → AreConsistent known others cells → slots ≡ known
+slots-are slots known ids others cells these those =
+    let sized = these.sized in
+    let more = those.sized in
+    let blank = these.empty 0 (omega (arith, sized)) these.exact.none in
+    let other = those.empty 0 (omega (arith, more)) those.exact.none in
+    sym (blank-length slots) ∙ ap (λ (c : Cell). length c.pointers) (sym blank ∙ other) ∙ blank-length known
+
 -- the cells that a log makes have as many slots as it says
-pub slots-are : (slots known ids pages : ℕ) (area : List ℕ) (rs : List (Record slots)) (cells : List Cell) → cells ≡ cells_of_log slots pages area rs → AreConsistent known ids cells → slots ≡ known
-slots-are slots known ids pages area rs cells is consistent =
+pub slots-of-log : (slots known ids pages : ℕ) (area : List ℕ) (rs : List (Record slots)) (cells : List Cell) → cells ≡ cells_of_log slots pages area rs → AreConsistent known ids cells → slots ≡ known
+slots-of-log slots known ids pages area rs cells is consistent =
     let k = subst (AreConsistent known ids) is consistent in
     let sized = k.sized in
     let blank = k.empty 0 (omega (arith, sized)) k.exact.none in

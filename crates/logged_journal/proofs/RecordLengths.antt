@@ -1,5 +1,5 @@
 -- How many bytes records take.
-use Rattle.std.proofs.Common.{◌≡◌, ℕ, ◌≤◌, List, length, Option, Some, None, refl, sym, ◌∙◌, ap, subst, arith}
+use Rattle.std.proofs.Common.{◌≡◌, ℕ, ⊎_elim, ◌≤◌, List, length, Option, Some, None, refl, sym, ◌∙◌, ap, subst, arith}
 use Rattle.std.specs.Option.{option_map_or}
 use Rattle.plain_model.specs.declared.calls.Call.{Call as TransactionCall}
 use Rattle.plain_model.specs.declared.calls.Call.TheVariants as call
@@ -9,7 +9,12 @@ use Rattle.plain_model.specs.Machine.{State, transaction_of, refusal_of, refusal
 use Rattle.cell_model.specs.Cells.{Cell}
 use Rattle.log_record.specs.declared.cell_record.CellRecord.{CellRecord}
 use Rattle.log_record.specs.declared.cell_record.CellRecord.TheVariants as logs
-use Rattle.log_record.specs.Spelling.{cell_record_bytes}
+use Rattle.log_record.specs.Spelling.{cell_record_bytes, record_bytes}
+use Rattle.cell_page.specs.declared.cell.Cell.{Cell as PageCell}
+use Rattle.cell_page.specs.Format.{IsSlotCount, IsPage, AreTyped}
+use Rattle.log_record.specs.declared.record.Record.TheVariants.{Image}
+use Rattle.page_area.proofs.InPlaceLaws.{page_length}
+use Rattle.logged_journal.specs.View.{image_bytes}
 use Rattle.core_store.specs.Logged.{logged_by, record_in}
 use Rattle.core_store.specs.Owed.{bytes_logged}
 use Rattle.core_store.specs.RoundView.{RoundView, asked_by_walk, asked_by_sweep, Proceeds, skip, start, weaken, scan, judge, cut, free, flip, into, strengthen, end}
@@ -116,3 +121,12 @@ collect-length slots ids _ _ _ _ (flip w s slot id g next) = subst (λ r. 5 ≤ 
 collect-length slots ids _ _ _ _ (into w s slot «from» k to g next) = subst (λ r. 10 ≤ bytes_at r) (sym next) (omega (arith))
 collect-length slots ids _ _ _ _ (strengthen w s slot «from» k to g next) = subst (λ r. 10 ≤ bytes_at r) (sym next) (omega (arith))
 collect-length slots ids _ _ _ _ (end w s slot g next) = omega (arith)
+
+-- ---- images
+
+-- no record of single cells is as long as an image
+pub image-long : (slots : ℕ) → IsSlotCount slots → 25 ≤ image_bytes slots
+image-long slots count = ⊎_elim (λ six. subst (λ (s : ℕ). 25 ≤ image_bytes s) (sym six) (omega (arith))) (λ fourteen. subst (λ (s : ℕ). 25 ≤ image_bytes s) (sym fourteen) (omega (arith))) count
+
+pub image-size : {slots : ℕ} (page : ℕ) (held : List (PageCell slots)) → IsSlotCount slots → IsPage page held → AreTyped held → length (record_bytes (Image page held)) ≡ image_bytes slots
+image-size page held count rules typed = let long = page_length page held count rules typed in omega (arith, long)

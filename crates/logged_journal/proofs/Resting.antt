@@ -12,11 +12,10 @@ use Rattle.core_store.specs.declared.marks.Marks.{Marks}
 use Rattle.core_store.specs.JournalView.{JournalView}
 use Rattle.core_store.specs.Limited.{is_past_limit}
 use Rattle.core_store.specs.RoundView.{RoundView, Closed}
-use Rattle.logged_journal.specs.declared.failed.FailedCommit.{FailedCommit}
-use Rattle.logged_journal.specs.View.{LoggedView, bytes_counted}
+use Rattle.logged_journal.specs.View.{LoggedView, bytes_counted, failed_commit}
 use Rattle.logged_journal.specs.Records.{HasRecords, MayBeLeft, durable, failed}
 use Rattle.logged_journal.specs.Kept.{CanCommit, IsKept, IsStanding}
-use Rattle.logged_journal.specs.Calls.{DoesCollect, GoesOn}
+use Rattle.logged_journal.specs.Calls.{DoesCollect, GoesOn, stayed}
 use Rattle.logged_journal.proofs.Kept.{on-same}
 
 -- the journal with another cursor and other marks, and other room in the log
@@ -31,9 +30,9 @@ left-rested v round marks room image (durable is) = durable (records-rested v.jo
 left-rested v round marks room image (failed f is more) = failed f is (records-rested v.journal round marks _ image more)
 
 -- a commit that isn't refused at a history's end isn't at the end of another journal of this history
-pub granted-rested : (o : Option FailedCommit) (j k : JournalView) → k.history ≡ j.history → IfSome o (λ f. CanCommit j f.pass) → IfSome o (λ f. CanCommit k f.pass)
+pub granted-rested : (o : Option ℕ) (j k : JournalView) → k.history ≡ j.history → IfSome o (CanCommit j) → IfSome o (CanCommit k)
 granted-rested None j k same can = tt
-granted-rested (Some f) j k same can = record { client = can.client; granted = ap (λ h. refusal_of (end_of h).state f.pass Commit) same ∙ can.granted }
+granted-rested (Some pass) j k same can = record { client = can.client; granted = ap (λ h. refusal_of (end_of h).state pass Commit) same ∙ can.granted }
 
 -- room that was taken isn't less than before
 pub room-more : (done : Bool) (room more : ℕ) → room ≤ (if done then max room more else room)
@@ -50,16 +49,19 @@ module _ {D : Type 0} (may_leave : D → Area → List ℕ → Type 0) where
               stage = s.stage;
               batches = s.batches;
               on = on-same may_leave v.log (record v.log { room = room }) v.disk v.disk s.batches refl refl refl s.on;
-              hold = s.hold;
-              tail = s.tail;
+              pages = s.pages;
+              ids = s.ids;
+              records = s.records;
+              long = s.long;
               room = (let enough = s.room in omega (arith, enough, more));
               bounded = s.bounded;
               peak = s.peak;
             };
         inside = kept.inside;
+        many = kept.many;
         lasting = record { rest = kept.lasting.rest; split = kept.lasting.split; core = kept.lasting.core; safe = kept.lasting.safe; unpromised = kept.lasting.unpromised };
         images = λ image may. left-rested v round marks room image (kept.images image may);
-        granted = granted-rested v.failed v.journal (record v.journal { round = round; marks = marks }) refl kept.granted;
+        granted = granted-rested (failed_commit v) v.journal (record v.journal { round = round; marks = marks }) refl kept.granted;
         typed = kept.typed;
         full = kept.full;
       }
@@ -73,7 +75,7 @@ module _ {D : Type 0} (may_leave : D → Area → List ℕ → Type 0) where
   goes-on-same v j round marks room same running kept =
       let below : bytes_counted v ≤ v.peak = (kept.standing running).peak in
       let counted : bytes_counted (record v { journal = j }) ≡ bytes_counted v = ap (λ (k : JournalView). bytes_counted (record v { journal = k })) same in
-      record { running = running; log_full = refl; peak = omega (arith, below, counted); opened = refl }
+      record { running = running; log_full = refl; peak = omega (arith, below, counted); opened = refl; marks = stayed (ap (λ (k : JournalView). k.notes) same) refl }
 
 -- a step that makes no event leaves the journal but for its marks
 pub at-rest : (slots : ℕ) (old new : JournalView) (result : Collect) → DoesCollect slots old new result → (is_past_limit old 1 ≡ true) ⊎ ((old.queue ≡ []) × (old.round ≡ Closed))

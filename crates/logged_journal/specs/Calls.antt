@@ -1,5 +1,5 @@
 -- What the calls of a journal with its log do.
-use Rattle.std.specs.Prelude.{◌≡◌, ◌↔◌, ℕ, ◌<◌, List, [], true, false, max, Some, None, option_map}
+use Rattle.std.specs.Prelude.{◌≡◌, ◌↔◌, ℕ, ◌<◌, List, [], ◌∷◌, ◌++◌, true, false, max, Some, None, option_map}
 use Rattle.disk_model.specs.Causes.{Rose}
 use Rattle.plain_model.specs.declared.calls.Call.{Call as TransactionCall}
 use Rattle.plain_model.specs.declared.calls.Call.TheVariants as call
@@ -15,6 +15,7 @@ use Rattle.core_store.specs.declared.abort_step.AbortStep.TheVariants.{Undone, E
 use Rattle.core_store.specs.declared.act.Act.TheVariants.{Other}
 use Rattle.core_store.specs.declared.collect.Collect.{Collect}
 use Rattle.core_store.specs.declared.collect.Collect.TheVariants as collect
+use Rattle.core_store.specs.declared.note.Note.{Note}
 use Rattle.core_store.specs.declared.three.HeldFrame.{HeldFrame}
 use Rattle.core_store.specs.JournalView.{JournalView, cells_of, core_of, with_note, last_left}
 use Rattle.core_store.specs.Events.{after_event}
@@ -26,6 +27,7 @@ use Rattle.core_store.specs.Replaced.{next_to_restore}
 use Rattle.core_store.specs.RoundView.{Closed, left_of, touched_by_record}
 use Rattle.core_store.specs.Steppings.{IsEntered, IsEvent, MakesEvent, left_told, pops, bytes_to_collect}
 use Rattle.logged_journal.specs.View.{LoggedView, IsPast, bytes_counted}
+use Rattle.logged_journal.specs.Records.{AreMarkedAfter}
 
 -- ---- calls
 
@@ -71,22 +73,28 @@ pub record KeepsDisk {D : Type 0} (old new : LoggedView D) : Type 0 where
   pub disk : new.disk ≡ old.disk
   pub durable : new.durable ≡ old.durable
 
+-- The marks of pages go with the notes: where a note joined they are as its record makes them, and where none did they stay.
+pub data GoWithNotes {D : Type 0} (old new : LoggedView D) : Type 0 where
+  stayed : new.journal.notes ≡ old.journal.notes → new.marks ≡ old.marks → GoWithNotes old new
+  joined : (n : Note) → new.journal.notes ≡ old.journal.notes ++ n ∷ [] → AreMarkedAfter old.journal.history.slots n.logged old.marks new.marks → GoWithNotes old new
+
 -- what stays at each call that wasn't stopped by the disk or the log
 pub record GoesOn {D : Type 0} (old new : LoggedView D) : Type 0 where
   pub running : new.failed ≡ None
   pub log_full : new.log_full ≡ old.log_full
   pub peak : new.peak ≡ max old.peak (bytes_counted new)
   pub opened : new.opened ≡ old.opened
+  pub marks : GoWithNotes old new
 
 -- the disk failed a commit that is granted: the journal stays as it is, and is stopped with the disk's count of faults, which rose
 pub record FailsCommit {D : Type 0} (faults : D → ℕ) (old new : LoggedView D) (pass : ℕ) (c : TransactionCall) : Type 0 where
   pub commit : c ≡ call.Commit
   pub granted : IsGranted old.journal pass call.Commit
   pub journal : new.journal ≡ old.journal
-  pub told : new.failed ≡ Some (record { pass = pass; faults = faults new.disk })
+  pub told : new.failed ≡ Some (record { commit = Some pass; faults = faults new.disk })
   pub rose : Rose (faults old.disk) (faults new.disk)
   pub durable : new.durable ≡ old.durable
-  pub marks : (new.log_full ≡ old.log_full) × (new.peak ≡ old.peak)
+  pub marks : (new.log_full ≡ old.log_full) × (new.peak ≡ old.peak) × (new.marks ≡ old.marks)
   pub opened : new.opened ≡ old.opened
 
 -- ---- steps of an abort

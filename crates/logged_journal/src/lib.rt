@@ -4,12 +4,20 @@
 //! the log at the same event, in room that was taken before, and a commit is answered when all of it is there for good.
 #![tactic(auto)]
 
+mod checkpoint;
+mod cleaning;
 mod collect;
+mod collecting;
 mod failed;
 mod logged;
+mod needs;
+mod placing;
 mod spell;
+mod steps;
 mod typed;
+mod upkeep;
 
 pub use collect::CollectRefusal;
-pub use failed::{FailedCommit, Stopped};
+pub use failed::{FailedCall, Stopped};
 pub use logged::LoggedJournal;
+pub use upkeep::Upkeep;

@@ -9,12 +9,12 @@ ghost use Rattle.disk_model.specs.Areas.{Bytes};
 ghost use Rattle.disk_model.specs.Causes.{Rose};
 ghost use Rattle.disk_model.specs.Told.{EachImage, Leaves};
 ghost use Rattle.disk_model.specs.Time.{LeavesOnlyImages};
-ghost use Rattle.cell_page.specs.Format.{IsSlotCount};
+ghost use Rattle.cell_page.specs.Format.{IsSlotCount, page_size};
 ghost use Rattle.gate_log.specs.declared.stage.Stage.TheVariants.{Standing};
 ghost use Rattle.gate_log.specs.Batches.{most_bytes};
 ghost use Rattle.gate_log.specs.State.{used};
 ghost use Rattle.gate_log.specs.OnDisk.{IsOn};
-ghost use Rattle.opened_images.specs.GoesOn.{IsBegun};
+ghost use Rattle.page_marks.specs.Marks.{IsMarkedBegun};
 ghost use Rattle.core_store.specs.Opening.{ArePages, stored_in, opened_history};
 ghost use Rattle.core_store.specs.Frames.{Agree, AllAgree, IsNext, pages_held};
 ghost use Rattle.core_store.specs.JournalView.{cells_of};
@@ -25,25 +25,22 @@ ghost use Rattle.core_store.specs.Replaced.{next_to_restore};
 ghost use Rattle.core_store.specs.RoundView.{Closed, left_of};
 ghost use Rattle.core_store.specs.Safe.{IsDurable};
 ghost use Rattle.core_store.specs.Steppings.{IsReadyForCollector, OnlyLooks, bytes_to_collect};
-ghost use Rattle.logged_journal.specs.View.{IsPast, history_of, bytes_counted};
+ghost use Rattle.logged_journal.specs.View.{IsPast, history_of, bytes_counted, image_need};
 ghost use Rattle.logged_journal.specs.Records.{OpenedWith, HasRecords, MayBeLeft, MayHave, durable_notes, with_commit};
 ghost use Rattle.logged_journal.specs.Opens.{OpensAfter, OpensDuring};
 ghost use Rattle.logged_journal.specs.Kept.{CanCommit};
 ghost use Rattle.logged_journal.specs.Calls.{IsOfJournal, IsGranted, IsPastLog, DoesCall, KeepsFrames, KeepsDisk, GoesOn, FailsCommit, DoesAbortStep, IsPastLogToCollect, DoesCollect};
 
-use crate::collect::CollectRefusal;
-use crate::failed::{FailedCommit, Stopped};
-use crate::spell::{append_last, append_record};
-use core_store::{AbortStep, Collect, Frame, Journal, Limits, Marks, Three, Want, bytes_needed};
+use crate::failed::{FailedCall, Stopped};
+use crate::spell::{append_last, append_record, image_len};
+use core_store::{AbortStep, Frame, Journal, Limits, Marks, Three, Want, bytes_needed};
 use disk_model::Disk;
 use gate_log::GateLog;
 use log_record::CellRecord;
+use page_marks::PageMarks;
 use plain_model::{Call, Entry, Memory, Reply};
 use std::alloc::{AllocError, AllocFailed, Global};
 use std::marker::Model;
-
-/// How many bytes the longest record of single cells takes.
-const LONGEST_RECORD: usize = 25;
 
 /// A journal whose events stand in a log on a disk, which it holds.
 ///
@@ -52,59 +49,46 @@ const LONGEST_RECORD: usize = 25;
 /// fails that, the store is stopped: each later call answers so and does nothing, and the store has to be opened again.
 #[derive(Drop)]
 pub struct LoggedJournal<const SLOTS: usize, D: Disk> {
-    journal: Journal<SLOTS>,
+    pub(crate) journal: Journal<SLOTS>,
     /// In a place of its own, so that the size of a journal does not hang on that of its disk.
-    disk: Box<D>,
-    log: GateLog,
+    pub(crate) disk: Box<D>,
+    pub(crate) log: GateLog,
     /// The records of so many first notes are there for good.
-    durable: usize,
-    failed: Option<FailedCommit>,
-    log_full: bool,
-    peak: u64,
+    pub(crate) durable: usize,
+    /// What the log tells of each page.
+    pub(crate) marks: PageMarks,
+    pub(crate) failed: Option<FailedCall>,
+    pub(crate) log_full: bool,
+    pub(crate) peak: u64,
     /// The disk's count of faults at the opening.
-    opened: u64,
+    pub(crate) opened: u64,
     /// One record at a time is spelled here.
-    spelling: Vec<u8>,
+    pub(crate) spelling: Vec<u8>,
 }
 
 impl<const SLOTS: usize, D: Disk> Model for LoggedJournal<SLOTS, D> {
     ghost use Rattle.std.specs.Prelude.{vec_capacity};
     ghost use Rattle.logged_journal.specs.View.{LoggedView};
+    ghost use Rattle.logged_journal.specs.Inside.{view_of};
     ghost use Rattle.logged_journal.specs.Kept.{IsLoggedInside};
 
     ghost Value = { LoggedView D };
 
-    ghost view = { λ s. record {
-      journal = s.journal;
-      log = s.log;
-      disk = s.disk.value;
-      durable = s.durable;
-      failed = s.failed;
-      log_full = s.log_full;
-      peak = s.peak;
-      opened = s.opened;
-    } };
+    ghost view = { view_of };
 
-    ghost invariant = { λ s. IsLoggedInside D.may_leave D.faults SLOTS (record {
-      journal = s.journal;
-      log = s.log;
-      disk = s.disk.value;
-      durable = s.durable;
-      failed = s.failed;
-      log_full = s.log_full;
-      peak = s.peak;
-      opened = s.opened;
-    }) (vec_capacity s.spelling) };
+    ghost invariant = { λ s. IsLoggedInside D.may_leave D.faults SLOTS (view_of s) (vec_capacity s.spelling) };
 }
 
 impl<const SLOTS: usize, D: Disk> LoggedJournal<SLOTS, D> {
     /// The store that opens with these frames, one for each page from 0 on, on a disk on which its log stands: the pages
-    /// and the log are what it opened to, and its log tells of no transaction that hasn't ended. In it no transaction is
-    /// active, and the log goes on behind what it has. Where there is no memory the disk is handed back.
+    /// and the log are what it opened to, its log tells of no transaction that hasn't ended, and the marks of the pages are
+    /// those of its log. In it no transaction is active, and the log goes on behind what it has. Where there is no memory the
+    /// disk is handed back.
     pub fn resume(
         alloc: Global,
         disk: D,
         log: GateLog,
+        marks: PageMarks,
         frames: &[Frame<SLOTS>],
         limits: Limits,
     ) -> Result<LoggedJournal<SLOTS, D>, (Memory, D)>
@@ -114,13 +98,16 @@ impl<const SLOTS: usize, D: Disk> LoggedJournal<SLOTS, D> {
         requires consistent { AreConsistent SLOTS (8 * length frames.now) (stored_in frames.now) }
         requires limits { AreLimits limits }
         requires standing { (log.stage ≡ Standing) × (log.tail ≡ []) × (used log ≤ most_bytes) }
+        requires marked { length marks ≡ length frames.now }
         requires begun { (batches : List (List ℕ)) × IsOn D.may_leave log disk batches
-            × Leaves D.may_leave disk Pages (λ area. IsBegun SLOTS (length frames.now) area batches (stored_in frames.now)) }
+            × Leaves D.may_leave disk Pages (λ area. IsMarkedBegun SLOTS (length frames.now) area batches (stored_in frames.now) marks) }
+        requires long { Leaves D.may_leave disk Pages (λ area. page_size SLOTS * length marks ≤ length area) }
         ensures opening { IfOk result (λ r. r.journal.opening ≡ stored_in frames.now) }
         ensures history { IfOk result (λ r. r.journal.history ≡ opened_history SLOTS (8 * length frames.now) (stored_in frames.now)) }
         ensures notes { IfOk result (λ r. (r.journal.notes ≡ []) × (r.durable ≡ 0)) }
         ensures limits { IfOk result (λ r. (r.journal.limits ≡ limits) × (r.journal.marks ≡ record { disk = false; trace = false; log = false })) }
         ensures collector { IfOk result (λ r. (r.journal.queue ≡ zeros_of (stored_in frames.now)) × (r.journal.round ≡ Closed)) }
+        ensures marked { IfOk result (λ r. r.marks ≡ marks) }
         ensures running { IfOk result (λ r. (r.failed ≡ None) × (r.log_full ≡ false)) }
         ensures log { IfOk result (λ r. (r.log ≡ log) × (r.peak ≡ used log)) }
         ensures disk { IfOk result (λ r. r.disk ≡ disk) }
@@ -129,7 +116,7 @@ impl<const SLOTS: usize, D: Disk> LoggedJournal<SLOTS, D> {
         ensures agree { IfOk result (λ r. AllAgree (cells_of r.journal) frames.now) }
     {
         match Journal::resume(alloc, frames, limits) {
-            Ok(journal) => LoggedJournal::begin(alloc, journal, disk, log),
+            Ok(journal) => LoggedJournal::begin(alloc, journal, disk, log, marks),
             Err(memory) => Err((memory, disk)),
         }
     }
@@ -140,12 +127,17 @@ impl<const SLOTS: usize, D: Disk> LoggedJournal<SLOTS, D> {
         journal: Journal<SLOTS>,
         disk: D,
         log: GateLog,
+        marks: PageMarks,
     ) -> Result<LoggedJournal<SLOTS, D>, (Memory, D)>
         requires size { IsSlotCount SLOTS }
+        requires slots { journal.history.slots ≡ SLOTS }
+        requires ids { journal.history.ids ≡ 8 * length marks }
         requires notes { journal.notes ≡ [] }
         requires standing { (log.stage ≡ Standing) × (log.tail ≡ []) × (used log ≤ most_bytes) }
-        requires begun { (batches : List (List ℕ)) × IsOn D.may_leave log disk batches × Leaves D.may_leave disk Pages (λ area. OpenedWith journal area batches) }
+        requires begun { (batches : List (List ℕ)) × IsOn D.may_leave log disk batches × Leaves D.may_leave disk Pages (λ area. OpenedWith journal area batches marks) }
+        requires long { Leaves D.may_leave disk Pages (λ area. page_size SLOTS * length marks ≤ length area) }
         ensures journal { IfOk result (λ r. (r.journal ≡ journal.entry) × (r.durable ≡ 0)) }
+        ensures marked { IfOk result (λ r. r.marks ≡ marks) }
         ensures running { IfOk result (λ r. (r.failed ≡ None) × (r.log_full ≡ false)) }
         ensures log { IfOk result (λ r. (r.log ≡ log) × (r.peak ≡ used log)) }
         ensures disk { IfOk result (λ r. r.disk ≡ disk) }
@@ -153,7 +145,7 @@ impl<const SLOTS: usize, D: Disk> LoggedJournal<SLOTS, D> {
         ensures back { IfErr result (λ e. e.1 ≡ disk) }
     {
         let mut spelling = Vec::new(alloc);
-        if let Err(memory) = spelling.reserve(LONGEST_RECORD) {
+        if let Err(memory) = spelling.reserve(image_len::<SLOTS>()) {
             return Err((memory, disk));
         }
         let opened = disk.faults();
@@ -168,6 +160,7 @@ impl<const SLOTS: usize, D: Disk> LoggedJournal<SLOTS, D> {
             disk,
             log,
             durable,
+            marks,
             failed: None,
             log_full: false,
             peak,
@@ -180,6 +173,8 @@ impl<const SLOTS: usize, D: Disk> LoggedJournal<SLOTS, D> {
     /// The journal: all that was done, but for a commit that the disk failed.
     pub fn journal(&self) -> &Journal<SLOTS>
         ensures journal { result.now ≡ self.now.journal }
+        ensures slots { self.now.journal.history.slots ≡ SLOTS }
+        ensures marked { self.now.journal.history.ids ≡ 8 * length self.now.marks }
     {
         &self.journal
     }
@@ -199,8 +194,8 @@ impl<const SLOTS: usize, D: Disk> LoggedJournal<SLOTS, D> {
         // A crash that keeps the records of just these notes is safe, and each commit that was done is among them.
         ensures lasting { IsDurable self.now.journal (durable_notes self.now) }
 
-        // In each image of the disk the log has, behind what the store opened with, the records of these notes, byte for
-        // byte, and no others; where the disk failed a commit, those or the records of all notes and of that commit.
+        // In each image of the disk the log has the records of these notes since it began, in order, and images of pages
+        // among them; where the disk failed a call, those or the records of all notes, and of the commit where it was one.
         ensures images { EachImage D.may_leave self.now.disk (MayBeLeft self.now) }
 
         // And each image opens, to a graph that a crash may leave: each commit that was done is in it, and none in part.
@@ -210,18 +205,20 @@ impl<const SLOTS: usize, D: Disk> LoggedJournal<SLOTS, D> {
         self.durable
     }
 
-    /// An image whose log has what a power loss may leave of it opens to a graph that a crash may leave; where it has the
-    /// records of all notes and of one commit more, to one that a crash may leave after the disk failed that.
-    fn know_images(&self)
+    /// Each image of the disk has what a power loss may leave of the log. An image whose log has what a power loss may leave of it, or the records of all notes, opens to a graph that a crash may
+    /// leave; where it has these and that of one commit more, to one that a crash may leave after the disk failed that.
+    pub(crate) fn know_images(&self)
+        ensures images { EachImage D.may_leave self.now.disk (MayBeLeft self.now) }
         ensures left { (image : Bytes) → MayBeLeft self.now image → OpensAfter SLOTS (history_of self.now) image }
+        ensures all { (image : Bytes) → HasRecords self.now.journal self.now.journal.notes image → OpensAfter SLOTS self.now.journal.history image }
         ensures failing { (pass : ℕ) (image : Bytes) → CanCommit self.now.journal pass → HasRecords self.now.journal (with_commit self.now.journal.notes pass) image
             → OpensAfter SLOTS (with_entry self.now.journal.history (Entry.Call pass Call.Commit Reply.DiskFault)) image }
     {
         let _ = self.journal.history();
     }
 
-    /// The commit that the disk failed, if one was. Then no call does anything any more.
-    pub fn failed(&self) -> Option<FailedCommit>
+    /// The call that the disk failed, if it failed one. Then no call does anything any more.
+    pub fn failed(&self) -> Option<FailedCall>
         ensures failed { result ≡ self.now.failed }
 
         // Its count of faults is above that at the opening, or stands at its type's end.
@@ -237,13 +234,22 @@ impl<const SLOTS: usize, D: Disk> LoggedJournal<SLOTS, D> {
         ensures log { result.log ≡ self.now.log_full }
 
         // Where a call was answered that the log is full, it nearly was.
-        ensures full { result.log ≡ true → self.now.journal.limits.log < self.now.peak + 520 }
+        ensures full { result.log ≡ true → self.now.journal.limits.log < self.now.peak + image_need SLOTS }
     {
         Marks {
             disk: self.failed.is_some(),
             trace: self.journal.marks().trace,
             log: self.log_full,
         }
+    }
+
+    /// How many bytes of the log are in use. A call is told that the log is full where these, those that the active transactions
+    /// owe, and those that it needs are more than the limit. A turn of the log sets them back to 15.
+    pub fn log_used(&self) -> u64
+        ensures value { result ≡ used self.now.log }
+        ensures counted { self.now.failed ≡ None → result ≤ self.now.peak }
+    {
+        self.log.used()
     }
 
     /// The most bytes of the log that were in use and owed, at the opening or after a call.
@@ -255,9 +261,9 @@ impl<const SLOTS: usize, D: Disk> LoggedJournal<SLOTS, D> {
     }
 
     /// Whether so many bytes more would go past the log's limit.
-    fn is_past(&self, needed: u64) -> bool
+    pub(crate) fn is_past(&self, needed: u64) -> bool
         requires running { self.now.failed ≡ None }
-        requires few { needed ≤ 47 }
+        requires few { needed ≤ image_need SLOTS }
         ensures past { (result ≡ true) ↔ IsPast self.now needed }
         ensures limits { AreLimits self.now.journal.limits }
     {
@@ -265,9 +271,9 @@ impl<const SLOTS: usize, D: Disk> LoggedJournal<SLOTS, D> {
     }
 
     /// Marks that a call was answered that the log is full.
-    fn mark_full(&mut self)
+    pub(crate) fn mark_full(&mut self)
         requires running { self.old.failed ≡ None }
-        requires past { (needed : ℕ) × (needed ≤ 47) × IsPast self.old needed }
+        requires past { (needed : ℕ) × (needed ≤ image_need SLOTS) × IsPast self.old needed }
         ensures marked { self.new ≡ record self.old { log_full = true } }
     {
         self.log_full = true;
@@ -318,7 +324,12 @@ impl<const SLOTS: usize, D: Disk> LoggedJournal<SLOTS, D> {
         match self.journal.apply(held, pass, call) {
             Reply::Memory => Reply::Memory,
             reply => {
-                append_last(&self.journal, &mut self.log, &mut self.spelling);
+                append_last(
+                    &self.journal,
+                    &mut self.log,
+                    &mut self.spelling,
+                    &mut self.marks,
+                );
                 self.peak = self.peak.max(self.log.used() + self.journal.bytes_owed());
                 reply
             }
@@ -347,8 +358,8 @@ impl<const SLOTS: usize, D: Disk> LoggedJournal<SLOTS, D> {
             CellRecord::Commit { pass },
         );
         if self.log.force(self.disk.as_mut()).is_err() {
-            self.failed = Some(FailedCommit {
-                pass,
+            self.failed = Some(FailedCall {
+                commit: Some(pass),
                 faults: self.disk.faults(),
             });
             return Reply::DiskFault;
@@ -361,7 +372,7 @@ impl<const SLOTS: usize, D: Disk> LoggedJournal<SLOTS, D> {
     /// Does the call, adds its entry and answers what the entry says. What it changed joins the log with it, and a commit
     /// is answered when it is there for good.
     ///
-    /// `Reply::Stopped` comes exactly where the disk failed a commit before, `Reply::LogFull` exactly where the call would
+    /// `Reply::Stopped` comes exactly where the disk failed a call before, `Reply::LogFull` exactly where the call would
     /// be done and what it needs would go past the log's limit. Both do nothing. `Reply::DiskFault` comes of a commit alone,
     /// and only where the disk's count of faults rose in this call.
     pub fn apply(&mut self, held: &mut Three<SLOTS>, pass: u8, call: &Call) -> Reply
@@ -418,7 +429,7 @@ impl<const SLOTS: usize, D: Disk> LoggedJournal<SLOTS, D> {
     /// Undoes the last write of the client's transaction that isn't undone, or ends the transaction where none is left. What
     /// it changed joins the log with it, in room that was owed. It takes no memory.
     ///
-    /// [`Stopped`] comes exactly where the disk failed a commit before.
+    /// [`Stopped`] comes exactly where the disk failed a call before.
     pub fn abort_step(&mut self, held: &mut Three<SLOTS>, pass: u8) -> Result<AbortStep, Stopped>
         requires active { IsSome (transaction_of (end_of self.old.journal.history).state pass) }
         requires agree { Agree (cells_of self.old.journal) held.old }
@@ -436,102 +447,13 @@ impl<const SLOTS: usize, D: Disk> LoggedJournal<SLOTS, D> {
             });
         }
         let step = self.journal.abort_step(held, pass);
-        append_last(&self.journal, &mut self.log, &mut self.spelling);
+        append_last(
+            &self.journal,
+            &mut self.log,
+            &mut self.spelling,
+            &mut self.marks,
+        );
         Ok(step)
-    }
-
-    /// What is to be done with the held pages before the next step of the collector. It looks at what the held pages
-    /// show, and goes on where there is nothing to do.
-    ///
-    /// Nothing else changes, and no event is made. Each look lowers what is left of the round.
-    pub fn wants_collect_step(&mut self, held: &Three<SLOTS>) -> Want
-        requires agree { Agree (cells_of self.old.journal) held.now }
-        ensures exact { result ≡ want_of (pages_for_collector self.new.journal) (pages_held held.now) }
-        ensures ready { result ≡ Want.Ready → IsReadyForCollector self.new.journal held.now }
-        ensures next { (page : ℕ) → result ≡ Want.Page page → IsNext self.new.journal.history.ids held.now page }
-        ensures looks { OnlyLooks SLOTS self.old.journal self.new.journal }
-        ensures same { self.new ≡ record self.old { journal = self.new.journal } }
-        ensures left { (self.new.journal.round ≡ self.old.journal.round) ⊎ (left_of SLOTS self.new.journal.round < left_of SLOTS self.old.journal.round) }
-    {
-        self.journal.wants_collect_step(held)
-    }
-
-    /// A step of the collector that makes no event. It logs nothing.
-    fn rest(&mut self, held: &mut Three<SLOTS>) -> Collect
-        requires agree { Agree (cells_of self.old.journal) held.old }
-        requires ready { IsReadyForCollector self.old.journal held.old }
-        requires running { self.old.failed ≡ None }
-        requires none { (is_past_limit self.old.journal 1 ≡ true) ⊎ ((self.old.journal.queue ≡ []) × (self.old.journal.round ≡ Closed)) }
-        ensures does { DoesCollect SLOTS self.old.journal self.new.journal result }
-        ensures goes_on { GoesOn self.old self.new }
-        ensures frames { KeepsFrames self.old.journal self.new.journal held.old held.new }
-        ensures same { (result ≡ Collect.TraceFull) ⊎ (result ≡ Collect.Idle) ⊎ (result ≡ Collect.Memory) → held.new ≡ held.old }
-        ensures disk { KeepsDisk self.old self.new }
-    {
-        self.journal.collect_step(held)
-    }
-
-    /// A step of the collector that makes an event, for which there is room in the log.
-    fn log_step(&mut self, held: &mut Three<SLOTS>) -> Collect
-        requires agree { Agree (cells_of self.old.journal) held.old }
-        requires ready { IsReadyForCollector self.old.journal held.old }
-        requires running { self.old.failed ≡ None }
-        requires history { is_past_limit self.old.journal 1 ≡ false }
-        requires some { (self.old.journal.queue ≡ []) × (self.old.journal.round ≡ Closed) → ⊥ }
-        requires room { IsPast self.old (bytes_to_collect self.old.journal.round) → ⊥ }
-        requires limits { AreLimits self.old.journal.limits }
-        ensures does { DoesCollect SLOTS self.old.journal self.new.journal result }
-        ensures goes_on { GoesOn self.old self.new }
-        ensures frames { KeepsFrames self.old.journal self.new.journal held.old held.new }
-        ensures same { (result ≡ Collect.TraceFull) ⊎ (result ≡ Collect.Idle) ⊎ (result ≡ Collect.Memory) → held.new ≡ held.old }
-        ensures disk { KeepsDisk self.old self.new }
-    {
-        let room = self.journal.bytes_owed() + self.journal.bytes_to_collect();
-        if self.log.reserve(room).is_err() {
-            return Collect::Memory;
-        }
-        match self.journal.collect_step(held) {
-            Collect::Memory => Collect::Memory,
-            step => {
-                append_last(&self.journal, &mut self.log, &mut self.spelling);
-                self.peak = self.peak.max(self.log.used() + self.journal.bytes_owed());
-                step
-            }
-        }
-    }
-
-    /// Makes one event of the collector, adds its entry and tells what it did. What it changed joins the log with it.
-    ///
-    /// [`CollectRefusal::Stopped`] comes exactly where the disk failed a commit before, [`CollectRefusal::LogFull`] exactly
-    /// where an event would be made and its record would go past the log's limit. Both do nothing. Where the history is not
-    /// full, it is idle exactly where the queue is empty and no round is open. No object is deleted that is reachable, from
-    /// the root or a held reference, in any outcome of the active transactions.
-    pub fn collect_step(&mut self, held: &mut Three<SLOTS>) -> Result<Collect, CollectRefusal>
-        requires agree { Agree (cells_of self.old.journal) held.old }
-        requires ready { IsReadyForCollector self.old.journal held.old }
-        ensures stopped { IfSome self.old.failed (λ f. (IsErrOf result (CollectRefusal.Stopped f.faults)) × (self.new ≡ self.old) × (held.new ≡ held.old)) }
-        ensures only_stopped { (faults : ℕ) → IsErrOf result (CollectRefusal.Stopped faults) → IsSome self.old.failed }
-        ensures log_full { (IsErrOf result CollectRefusal.LogFull) ↔ IsPastLogToCollect self.old }
-        ensures log_marked { IsErrOf result CollectRefusal.LogFull → (self.new ≡ record self.old { log_full = true }) × (held.new ≡ held.old) }
-        ensures does { IfOk result (λ step. DoesCollect SLOTS self.old.journal self.new.journal step) }
-        ensures goes_on { IfOk result (λ _. GoesOn self.old self.new) }
-        ensures frames { KeepsFrames self.old.journal self.new.journal held.old held.new }
-        ensures same { IfOk result (λ step. (step ≡ Collect.TraceFull) ⊎ (step ≡ Collect.Idle) ⊎ (step ≡ Collect.Memory) → held.new ≡ held.old) }
-        ensures untouched { KeepsDisk self.old self.new }
-    {
-        if let Some(failed) = self.failed {
-            return Err(CollectRefusal::Stopped {
-                faults: failed.faults,
-            });
-        }
-        if !self.journal.collects() {
-            return Ok(self.rest(held));
-        }
-        if self.is_past(self.journal.bytes_to_collect()) {
-            self.mark_full();
-            return Err(CollectRefusal::LogFull);
-        }
-        Ok(self.log_step(held))
     }
 
     /// The disk, without the journal.

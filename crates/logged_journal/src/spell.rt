@@ -1,15 +1,28 @@
 //! Records into the tail of a log.
-ghost use Rattle.std.specs.Prelude.{◌≡◌, ◌+◌, ◌<◌, ◌≤◌, ◌^◌, length, vec_capacity};
-ghost use Rattle.cell_page.specs.Format.{IsSlotCount};
-ghost use Rattle.log_record.specs.Spelling.{cell_record_bytes, HasCellSpelling, IsTypedCellRecord};
+ghost use Rattle.std.specs.Prelude.{◌≡◌, ◌+◌, ◌*◌, ◌<◌, ◌≤◌, ◌^◌, length, vec_capacity};
+ghost use Rattle.cell_page.specs.Format.{IsSlotCount, IsPage, AreTyped};
+ghost use Rattle.log_record.specs.declared.record.Record.TheVariants.{Image};
+ghost use Rattle.log_record.specs.Spelling.{cell_record_bytes, record_bytes, HasCellSpelling, IsTypedCellRecord};
 ghost use Rattle.gate_log.specs.declared.stage.Stage.TheVariants.{Standing};
 ghost use Rattle.gate_log.specs.State.{used, appended};
-ghost use Rattle.logged_journal.specs.Records.{last_bytes, IsLastTyped};
+ghost use Rattle.page_marks.specs.Marks.{AreMarkedBy};
+ghost use Rattle.logged_journal.specs.View.{image_bytes};
+ghost use Rattle.logged_journal.specs.Records.{last_bytes, last_logged, AreMarkedAfter, IsLastTyped};
 
-use crate::typed::know_cell_record;
-use core_store::Journal;
+use crate::typed::{know_cell_record, know_page};
+use cell_page::Page;
+use core_store::{Frame, Journal};
 use gate_log::GateLog;
 use log_record::{CellRecord, Record};
+use page_marks::PageMarks;
+
+/// How many bytes the record of a page's image has: its kind, the number of the page, and the page.
+pub(crate) fn image_len<const SLOTS: usize>() -> usize
+    requires count { IsSlotCount SLOTS }
+    ensures { result ≡ image_bytes SLOTS }
+{
+    Page::<SLOTS>::encoded_len() + 3
+}
 
 /// Appends the record to the tail, in room that was taken for it. It takes no memory.
 pub(crate) fn append_record<const SLOTS: usize>(
@@ -22,9 +35,9 @@ pub(crate) fn append_record<const SLOTS: usize>(
     requires standing { log.old.stage ≡ Standing }
     requires room { length (cell_record_bytes «record») ≤ log.old.room }
     requires bounded { used log.old + 25 < 2 ^ 32 }
-    requires spelling { 25 ≤ vec_capacity spelling.old }
+    requires spelling { image_bytes SLOTS ≤ vec_capacity spelling.old }
     ensures log { log.new ≡ appended log.old (cell_record_bytes «record») }
-    ensures spelling { 25 ≤ vec_capacity spelling.new }
+    ensures spelling { image_bytes SLOTS ≤ vec_capacity spelling.new }
     ensures typed { IsTypedCellRecord «record» }
 {
     know_cell_record(record);
@@ -33,24 +46,61 @@ pub(crate) fn append_record<const SLOTS: usize>(
     let _ = log.append(u32::MAX as u64, 0, spelling);
 }
 
-/// Appends the record of the last note, if it has one, in room that was taken for it. It takes no memory.
+/// Appends the record of the last note, if it has one, in room that was taken for it, and marks the pages that it concerns. It
+/// takes no memory.
 pub(crate) fn append_last<const SLOTS: usize>(
     journal: &Journal<SLOTS>,
     log: &mut GateLog,
     spelling: &mut Vec<u8>,
+    marks: &mut PageMarks,
 )
     requires count { IsSlotCount SLOTS }
+    requires pages { journal.now.history.ids ≡ 8 * length marks.old }
     requires standing { log.old.stage ≡ Standing }
     requires room { length (last_bytes journal.now.notes) ≤ log.old.room }
     requires bounded { used log.old + 25 < 2 ^ 32 }
-    requires spelling { 25 ≤ vec_capacity spelling.old }
+    requires spelling { image_bytes SLOTS ≤ vec_capacity spelling.old }
     ensures log { log.new ≡ appended log.old (last_bytes journal.now.notes) }
-    ensures spelling { 25 ≤ vec_capacity spelling.new }
+    ensures spelling { image_bytes SLOTS ≤ vec_capacity spelling.new }
     ensures typed { IsLastTyped journal.now.notes }
+    ensures marks { AreMarkedAfter SLOTS (last_logged journal.now.notes) marks.old marks.new }
 {
     if let Some(note) = journal.history().last() {
         if let Some(record) = note.logged {
             append_record::<SLOTS>(log, spelling, record);
+            marks.take(&record);
         }
     }
+}
+
+/// Appends the image of the page to the tail, in room that was taken for it, and marks the page. It takes no memory.
+pub(crate) fn append_image<const SLOTS: usize>(
+    log: &mut GateLog,
+    spelling: &mut Vec<u8>,
+    marks: &mut PageMarks,
+    page: u16,
+    frame: &Frame<SLOTS>,
+)
+    requires count { IsSlotCount SLOTS }
+    requires spelled { IsPage page frame.now.page }
+    requires there { page < length marks.old }
+    requires standing { log.old.stage ≡ Standing }
+    requires room { image_bytes SLOTS ≤ log.old.room }
+    requires bounded { used log.old + image_bytes SLOTS < 2 ^ 32 }
+    requires spelling { image_bytes SLOTS ≤ vec_capacity spelling.old }
+    ensures log { log.new ≡ appended log.old (record_bytes (Image page frame.now.page)) }
+    ensures spelling { image_bytes SLOTS ≤ vec_capacity spelling.new }
+    ensures marks { AreMarkedBy (Image page frame.now.page) marks.old marks.new }
+    ensures typed { AreTyped frame.now.page }
+    ensures long { length (record_bytes (Image page frame.now.page)) ≡ image_bytes SLOTS }
+{
+    know_page(page, &frame.page);
+    spelling.clear();
+    let image = Record::Image {
+        page,
+        cells: frame.page,
+    };
+    let _ = image.write(spelling);
+    let _ = log.append(u32::MAX as u64, 0, spelling);
+    marks.image(page);
 }

@@ -1,7 +1,9 @@
-//! A record of a program is in the ranges of its types.
+//! Records and pages of a program are in the ranges of their types.
 ghost use Rattle.std.specs.Prelude.{◌<◌, ◌^◌};
+ghost use Rattle.cell_page.specs.Format.{IsSlotCount, IsPage, AreTyped};
 ghost use Rattle.log_record.specs.Spelling.{IsTypedCellRecord};
 
+use cell_page::Page;
 use log_record::CellRecord;
 
 /// The number is in the range of its type.
@@ -63,4 +65,13 @@ pub(crate) fn know_cell_record(logged: CellRecord)
         CellRecord::Commit { .. } => {}
         CellRecord::AbortEnd { .. } => {}
     }
+}
+
+/// Each number of a page is in the range of its type.
+pub(crate) fn know_page<const SLOTS: usize>(page: u16, held: &Page<SLOTS>)
+    requires count { IsSlotCount SLOTS }
+    requires rules { IsPage page held.now }
+    ensures { AreTyped held.now }
+{
+    let _ = held.cell(8 * page as u32 + 1);
 }

@@ -1,7 +1,11 @@
-use Rattle.std.proofs.Common.{◌<◌, length, refl, ◌∙◌, arith}
+use Rattle.std.proofs.Common.{◌≡◌, ◌<◌, List, set, length, refl, sym, ap, subst, ◌∙◌, arith}
+use Rattle.std.specs.List.{AllByRecursion}
 use Rattle.std.proofs.lemmas.List.{length-set}
+use Rattle.core_store.specs.declared.frame.Frame.{Frame}
 use Rattle.core_store.specs.declared.three.HeldFrame.{HeldFrame}
-use Rattle.framed_journal.proofs.PutLaws.{PutsBack-none, PutsBack-more, FollowsChange-all, each-taken}
+use Rattle.core_store.proofs.PageLaws.{each-taken}
+use Rattle.framed_journal.specs.Holding.{PutsBack, FollowsChange}
+use Rattle.framed_journal.proofs.PutLaws.{PutsBack-none, PutsBack-more, FollowsChange-all, written}
 use Rattle.framed_journal.proofs.holding.put_back.Goals as goal
 
 pub frames-init : goal.frames-init
@@ -11,23 +15,30 @@ frames-init g c = record {
   count = refl;
 }
 
-pub index_mut-requires : goal.index_mut-requires
-index_mut-requires g c =
-    let P = λ (h : HeldFrame g.row.SLOTS). h.page < length c.frames.frames.items in
-    let h : HeldFrame g.row.SLOTS = record { page = c.in-Some.page; frame = c.in-Some.frame } in
-    let both = each-taken P c.take.new.self h (rw c.in-Some.ensures.last at c.frames.invariant.within) in
-    omega (arith, both.1, c.frames.frames.ok)
-
 pub frames-preserved : goal.frames-preserved
 frames-preserved g c =
-    let P = λ (h : HeldFrame g.row.SLOTS). h.page < length c.frames.frames.items in
-    let h : HeldFrame g.row.SLOTS = record { page = c.in-Some.page; frame = c.in-Some.frame } in
-    let both = each-taken P c.take.new.self h (rw c.in-Some.ensures.last at c.frames.invariant.within) in
-    record {
-      follows = PutsBack-more c.args.frames.now.items c.frames.frames.items c.args.held.now c.take.new.self h both.1 (rw c.in-Some.ensures.last at c.frames.invariant.follows);
-      within = rw (length-set c.frames.frames.items c.in-Some.page c.in-Some.frame) both.0;
-      count = length-set c.frames.frames.items c.in-Some.page c.in-Some.frame ∙ c.frames.invariant.count;
-    }
+    let old = c.args.frames.now.items in
+    let frames = c.frames.frames.items in
+    let left = c.put_back.new.self in
+    let last = c.in-Some.ensures.last in
+    let h : HeldFrame g.row.SLOTS = record { page = c.in-Some.field-0; frame = last.0 } in
+    let both = each-taken (λ (h : HeldFrame g.row.SLOTS). h.page < length frames) left h (rw last.1 at c.frames.invariant.within) in
+    let put = last.2 ∙ ap (λ (fs : List (Frame g.row.SLOTS)). set fs h.page h.frame) c.deref_mut.ensures.value in
+    let now = written frames c.put_back.new.frames c.frames.frames.len c.frames.frames.ok.0 (ap length put ∙ length-set frames h.page h.frame) ∙ put in
+    subst
+    (λ (fs : List (Frame g.row.SLOTS)). record { follows : PutsBack old fs c.args.held.now left; within : AllByRecursion (λ h. h.page < length fs) left; count : length fs ≡ length old })
+    (sym now)
+    (record {
+      follows = PutsBack-more old frames c.args.held.now left h both.1 (rw last.1 at c.frames.invariant.follows);
+      within = rw (length-set frames h.page h.frame) both.0;
+      count = length-set frames h.page h.frame ∙ c.frames.invariant.count;
+    })
 
 pub returns-clause-follows : goal.returns-clause-follows
-returns-clause-follows g c = FollowsChange-all c.args.frames.now.items c.frames.frames.items c.args.held.now c.frames.held c.in_default.ensures.none.0 c.frames.invariant.follows
+returns-clause-follows g c =
+    let old = c.args.frames.now.items in
+    let frames = c.frames.frames.items in
+    let none = c.in_default.ensures.none in
+    let same = none.2 ∙ c.deref_mut.ensures.value in
+    let now = written frames c.put_back.new.frames c.frames.frames.len c.frames.frames.ok.0 (ap length same) ∙ same in
+    subst (λ (fs : List (Frame g.row.SLOTS)). FollowsChange old fs c.args.held.now) (sym now) (FollowsChange-all old frames c.args.held.now c.frames.held none.0 c.frames.invariant.follows)

@@ -10,6 +10,6 @@ returns-in-Ok-frames_of-clause-begun g c =
     let laid = c.in-Ok-frames_of.ensures in
     let taken = c.into_pages-pages.ensures in
     let same = c.deref.ensures.value in
-    has-begun g.D.Disk.content g.D.Disk.may_leave g.row.SLOTS c.args.disk.now c.open_store.new.disk c.in-Ok-frames_of.frames.items c.in-Ok.found.log c.in-Ok.found.replay
+    has-begun g.D.Disk.content g.D.Disk.may_leave g.row.SLOTS c.args.disk.now c.open_store.new.disk c.in-Ok-frames_of.frames.items c.in-Ok.found.log c.in-Ok.found.marks c.in-Ok.found.replay
     (sym (laid.count ∙ ap (λ (ps : List (List (Cell g.row.SLOTS))). length ps) same ∙ taken.count)) (sym (laid.cells ∙ ap (λ (ps : List (List (Cell g.row.SLOTS))). cells_of_pages ps) same ∙ taken.cells)) laid.pages
-    found.few found.rules found.stands found.bounded found.begun found.opens
+    found.few found.rules found.stands found.bounded found.begun found.marked found.long found.opens

@@ -1,4 +1,4 @@
-use Rattle.std.proofs.Common.{◌≡◌, ◌∙◌, ◌≤◌, ◌-◌, [], List, ℕ, Option, Some, None, length, sym, ap, subst, arith}
+use Rattle.std.proofs.Common.{◌≡◌, ◌∙◌, ◌≤◌, ◌-◌, [], List, ℕ, Option, Some, None, length, refl, sym, ap, subst, arith}
 use Rattle.std.specs.Prelude.{IfSome}
 use Rattle.std.specs.Option.{option_map_or}
 use Rattle.std.specs.List.{last_or}
@@ -8,7 +8,7 @@ use Rattle.log_record.specs.Spelling.{cell_record_bytes, IsTypedCellRecord}
 use Rattle.gate_log.specs.State.{LogState, appended}
 use Rattle.core_store.specs.declared.note.Note.{Note}
 use Rattle.core_store.proofs.ReplacedLists.{slice_get-last}
-use Rattle.logged_journal.specs.Records.{note_bytes, IsTypedNote, last_bytes, IsLastTyped}
+use Rattle.logged_journal.specs.Records.{note_bytes, IsTypedNote, last_bytes, last_logged, IsLastTyped, AreMarkedAfter}
 use Rattle.logged_journal.proofs.spell.append_last.Goals as goal
 
 -- the bytes of the last note
@@ -56,3 +56,19 @@ pub returns-in_default-logged-clause-typed : goal.returns-in_default-logged-clau
 returns-in_default-logged-clause-typed g c =
     let last = c.in-Some.ensures.value ∙ slice_get-last c.history.result.now in
     last-is-typed c.args.journal.now.notes c.history.result.now c.in-Some.note.now None c.history.ensures.notes last c.in_default-logged.is tt
+
+-- what the last note logged
+last-logged-is : (notes read : List Note) (n : Note) (logged : Option CellRecord) → read ≡ notes → Some n ≡ last_or None read → n.logged ≡ logged → last_logged notes ≡ logged
+last-logged-is notes read n logged same is logs = ap last_logged (sym same) ∙ ap (λ (o : Option Note). option_map_or (λ (m : Note). m.logged) o None) (sym is) ∙ logs
+
+pub returns-in-Some-logged-clause-marks : goal.returns-in-Some-logged-clause-marks
+returns-in-Some-logged-clause-marks g c =
+    let last = c.in-Some.ensures.value ∙ slice_get-last c.history.result.now in
+    let is = last-logged-is c.args.journal.now.notes c.history.result.now c.in-Some.note.now (Some c.in-Some-logged.record) c.history.ensures.notes last c.in-Some-logged.is in
+    subst (λ (o : Option CellRecord). AreMarkedAfter g.row.SLOTS o c.args.marks.now c.take.new.self) (sym is) (c.take.ensures g.row.SLOTS)
+
+pub returns-in_default-logged-clause-marks : goal.returns-in_default-logged-clause-marks
+returns-in_default-logged-clause-marks g c =
+    let last = c.in-Some.ensures.value ∙ slice_get-last c.history.result.now in
+    let is = last-logged-is c.args.journal.now.notes c.history.result.now c.in-Some.note.now None c.history.ensures.notes last c.in_default-logged.is in
+    subst (λ (o : Option CellRecord). AreMarkedAfter g.row.SLOTS o c.args.marks.now c.args.marks.now) (sym is) refl

@@ -2,7 +2,7 @@ use Rattle.std.proofs.Common.{◌≡◌, ◌++◌, true, List, ℕ, length, ap, 
 use Rattle.std.specs.Prelude.{if◌then◌else◌, OnOk, IsOk, is_ok, Result}
 use Rattle.log_record.specs.Spelling.{cell_record_bytes}
 use Rattle.gate_log.specs.State.{appended}
-use Rattle.logged_journal.proofs.RecordLengths.{size-most}
+use Rattle.logged_journal.proofs.RecordLengths.{size-most, image-long}
 use Rattle.logged_journal.proofs.spell.append_record.Goals as goal
 
 on-ok : {T E : Type 0} {P : Type 0} (r : Result T E) → IsOk r → OnOk r P → P
@@ -20,7 +20,8 @@ returns-clause-log g c =
     let capacity = c.clear.ensures.capacity in
     let len = c.clear.ensures.len in
     let asked = c.requires.spelling in
-    let spelled = on-ok c.write.result (c.write.ensures.succeeds (omega (arith, few, empty, capacity, len, asked))) c.write.ensures.ok ∙ ap (λ (l : List ℕ). l ++ cell_record_bytes c.args.record) c.clear.ensures.items in
+    let more = image-long g.row.SLOTS c.requires.count in
+    let spelled = on-ok c.write.result (c.write.ensures.succeeds (omega (arith, few, empty, capacity, len, asked, more))) c.write.ensures.ok ∙ ap (λ (l : List ℕ). l ++ cell_record_bytes c.args.record) c.clear.ensures.items in
     let bytes : c.deref.result.now ≡ cell_record_bytes c.args.record = c.deref.ensures.value ∙ spelled in
     let long = ap (λ (l : List ℕ). length l) bytes in
     let bounded = c.requires.bounded in

@@ -1,7 +1,7 @@
 use Rattle.std.proofs.Common.{◌≡◌, ◌∙◌, Ok, None, sym, arith}
 use Rattle.std.specs.Prelude.{IsErrOf}
 use Rattle.std.proofs.lemmas.Option.{MatchOption-from_none}
-use Rattle.logged_journal.specs.declared.failed.FailedCommit.{FailedCommit}
+use Rattle.logged_journal.specs.declared.failed.FailedCall.{FailedCall}
 use Rattle.logged_journal.specs.declared.failed.Stopped.{Stopped}
 use Rattle.plain_model.specs.declared.calls.Call.TheVariants.{Abort}
 use Rattle.plain_model.specs.declared.calls.Reply.TheVariants.{Done}
@@ -41,7 +41,7 @@ returns-in-Ended-clause-stopped g c =
     let k = c.abort_step.new.self in
     let ran = not-stopped j c.in_ok-abort_step.field-0 (k ≡ j) c.in_ok-abort_step.ensures.stopped in
     let none : i.failed ≡ None = sym c.steps.invariant.run.failed ∙ ran in
-    MatchOption-from_none i.failed (λ (f : FailedCommit). IsErrOf {T = Unit {0}} {E = Stopped} (Ok tt) (record { faults = f.faults }) × (k ≡ i)) none
+    MatchOption-from_none i.failed (λ (f : FailedCall). IsErrOf {T = Unit {0}} {E = Stopped} (Ok tt) (record { faults = f.faults }) × (k ≡ i)) none
 
 pub returns-in-Ended-clause-entries : goal.returns-in-Ended-clause-entries
 returns-in-Ended-clause-entries g c =

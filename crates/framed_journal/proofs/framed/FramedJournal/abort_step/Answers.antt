@@ -9,7 +9,7 @@ use Rattle.core_store.specs.Logged.{want_of, pages_for_undo}
 use Rattle.core_store.specs.Replaced.{next_to_restore}
 use Rattle.core_store.specs.declared.want.Want.TheVariants.{Ready}
 use Rattle.framed_journal.specs.Holding.{AreHeldOf}
-use Rattle.logged_journal.specs.declared.failed.FailedCommit.{FailedCommit}
+use Rattle.logged_journal.specs.declared.failed.FailedCall.{FailedCall}
 use Rattle.logged_journal.specs.View.{LoggedView}
 use Rattle.framed_journal.proofs.HoldLaws.{slots-few, places-within, AreFramesOf-changed}
 use Rattle.framed_journal.proofs.SizeLaws.{stopped-same, size-after_step}
@@ -36,7 +36,7 @@ invariant_of-self g c =
     let u = c.self.inside.logged in
     let v = c.abort_step-step.new.self in
     let r = c.abort_step-step.result in
-    let same = stopped-same u v (λ (f : FailedCommit). IsErrOf r (record { faults = f.faults })) (c.abort_step-step.new.held ≡ c.hold_for_abort_step.new.held) done.stopped in
+    let same = stopped-same u v (λ (f : FailedCall). IsErrOf r (record { faults = f.faults })) (c.abort_step-step.new.held ≡ c.hold_for_abort_step.new.held) done.stopped in
     let size = size-after_step g.row.SLOTS u v c.args.client r done.only_stopped same done.does in
     (AreFramesOf-changed u.journal v.journal c.self.inside.frames.items c.put_back.new.frames.items c.hold_for_abort_step.new.held c.abort_step-step.new.held c.self.invariant.0 size done.frames.agree done.frames.pages done.frames.elsewhere c.put_back.ensures.follows c.put_back.ensures.count, c.put_back.ensures.none)
 

@@ -11,7 +11,7 @@ use Rattle.core_store.specs.Limited.{pages_for_call}
 use Rattle.core_store.specs.Logged.{want_of}
 use Rattle.core_store.specs.declared.want.Want.TheVariants.{Ready}
 use Rattle.framed_journal.specs.Holding.{AreHeldOf}
-use Rattle.logged_journal.specs.declared.failed.FailedCommit.{FailedCommit}
+use Rattle.logged_journal.specs.declared.failed.FailedCall.{FailedCall}
 use Rattle.logged_journal.specs.View.{LoggedView}
 use Rattle.framed_journal.proofs.HoldLaws.{slots-few, places-within, AreFramesOf-changed}
 use Rattle.framed_journal.proofs.SizeLaws.{stopped-same, marked-same, size-after_call}
@@ -38,7 +38,7 @@ invariant_of-self g c =
     let u = c.self.inside.logged in
     let v = c.apply-reply.new.self in
     let r = c.apply-reply.result in
-    let same = stopped-same u v (λ (f : FailedCommit). r ≡ reply.Stopped f.faults) (c.apply-reply.new.held ≡ c.hold_for_call.new.held) done.stopped in
+    let same = stopped-same u v (λ (f : FailedCall). r ≡ reply.Stopped f.faults) (c.apply-reply.new.held ≡ c.hold_for_call.new.held) done.stopped in
     let size = size-after_call g.row.SLOTS u v c.args.client c.args.call.now r (λ faults e. same (done.only_stopped faults e)) (λ e. marked-same u v (done.log_marked e).0) (λ e. (done.fault e).0.journal) done.does in
     (AreFramesOf-changed u.journal v.journal c.self.inside.frames.items c.put_back.new.frames.items c.hold_for_call.new.held c.apply-reply.new.held c.self.invariant.0 size done.frames.agree done.frames.pages done.frames.elsewhere c.put_back.ensures.follows c.put_back.ensures.count, c.put_back.ensures.none)
 

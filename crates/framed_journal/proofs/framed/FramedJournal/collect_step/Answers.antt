@@ -1,7 +1,7 @@
 use Rattle.std.proofs.Common.{◌≡◌, ◌≤◌, rules}
 use Rattle.std.specs.Prelude.{IsErrOf}
 use Rattle.logged_journal.specs.declared.collect.CollectRefusal.TheVariants as refusal
-use Rattle.logged_journal.specs.declared.failed.FailedCommit.{FailedCommit}
+use Rattle.logged_journal.specs.declared.failed.FailedCall.{FailedCall}
 use Rattle.framed_journal.proofs.HoldLaws.{slots-few, places-within, AreFramesOf-changed}
 use Rattle.framed_journal.proofs.LookLaws.{looked-frames}
 use Rattle.framed_journal.proofs.SizeLaws.{stopped-same, marked-same, size-after_collect}
@@ -29,7 +29,7 @@ invariant_of-self g c =
     let v = c.hold_for_collect_step.new.logged in
     let w = c.collect_step-step.new.self in
     let r = c.collect_step-step.result in
-    let same = stopped-same v w (λ (f : FailedCommit). IsErrOf r (refusal.Stopped f.faults)) (c.collect_step-step.new.held ≡ c.hold_for_collect_step.new.held) done.stopped in
+    let same = stopped-same v w (λ (f : FailedCall). IsErrOf r (refusal.Stopped f.faults)) (c.collect_step-step.new.held ≡ c.hold_for_collect_step.new.held) done.stopped in
     let size = size-after_collect g.row.SLOTS v w r (λ faults e. same (done.only_stopped faults e)) (λ e. marked-same v w (done.log_marked e).0) done.does in
     let frames = looked-frames i v.journal c.self.inside.frames.items c.hold_for_collect_step.ensures.looks.same c.self.invariant.0 in
     (AreFramesOf-changed v.journal w.journal c.self.inside.frames.items c.put_back.new.frames.items c.hold_for_collect_step.new.held c.collect_step-step.new.held frames size done.frames.agree done.frames.pages done.frames.elsewhere c.put_back.ensures.follows c.put_back.ensures.count, c.put_back.ensures.none)
@@ -45,7 +45,7 @@ pub returns-clause-does : goal.returns-clause-does
 returns-clause-does g c = rw (← c.self.view_is) (collects-all g.row.SLOTS c.self.inside.logged.journal c.hold_for_collect_step.new.logged.journal c.collect_step-step.new.self.journal c.collect_step-step.result c.hold_for_collect_step.ensures.looks c.collect_step-step.ensures.does)
 
 pub returns-clause-goes_on : goal.returns-clause-goes_on
-returns-clause-goes_on g c = rw (← c.self.view_is) (all_go_on-before c.self.inside.logged c.hold_for_collect_step.new.logged c.collect_step-step.new.self c.collect_step-step.result c.hold_for_collect_step.ensures.same c.collect_step-step.ensures.goes_on)
+returns-clause-goes_on g c = rw (← c.self.view_is) (all_go_on-before g.row.SLOTS c.self.inside.logged c.hold_for_collect_step.new.logged c.collect_step-step.new.self c.collect_step-step.result c.hold_for_collect_step.ensures.same c.hold_for_collect_step.ensures.looks c.collect_step-step.ensures.goes_on)
 
 pub returns-clause-untouched : goal.returns-clause-untouched
 returns-clause-untouched g c = rw (← c.self.view_is) (disk-before c.self.inside.logged c.hold_for_collect_step.new.logged c.collect_step-step.new.self c.hold_for_collect_step.ensures.same c.collect_step-step.ensures.untouched)

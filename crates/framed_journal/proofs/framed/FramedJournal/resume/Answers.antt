@@ -1,8 +1,9 @@
-use Rattle.std.proofs.Common.{◌≡◌, ◌*◌, List, length, sym, ap, ◌∙◌, subst}
+use Rattle.std.proofs.Common.{rules, ◌≡◌, ◌≤◌, ◌*◌, List, length, sym, ap, ◌∙◌, subst}
 use Rattle.plain_model.specs.History.{History}
 use Rattle.core_store.specs.declared.frame.Frame.{Frame}
 use Rattle.core_store.specs.Frames.{AllAgree}
 use Rattle.core_store.specs.JournalView.{cells_of}
+use Rattle.framed_journal.proofs.HoldLaws.{slots-few}
 use Rattle.framed_journal.proofs.framed.FramedJournal.resume.Goals as goal
 
 pub invariant_of-result : goal.invariant_of-result
@@ -18,3 +19,9 @@ invariant_of-result g c =
       },
       c.new.ensures,
     )
+
+pub resume-requires-after_bounds : goal.resume-requires-after_bounds
+resume-requires-after_bounds g c κs within =
+    let small : g.row.SLOTS ≤ 14 = slots-few g.row.SLOTS c.requires.size in
+    rw c.as_slice.ensures.value
+    (search rules, (search rules, (c.requires.size, (c.requires.few, (c.requires.pages, (c.requires.consistent, (c.requires.limits, (c.requires.standing, (c.requires.marked, (c.requires.begun, c.requires.long))))))))))

@@ -5,7 +5,7 @@ use Rattle.plain_model.specs.declared.calls.Reply.TheVariants as reply
 use Rattle.logged_journal.specs.View.{LoggedView, IsPast}
 use Rattle.logged_journal.specs.Records.{MayHave}
 use Rattle.logged_journal.specs.Calls.{IsOfJournal, DoesCall, FailsCommit, IsGranted, KeepsFrames}
-use Rattle.logged_journal.proofs.AppliedCalls.{still, opens-still, opens-commit, not-granted, is-granted, never-done, never-memory, no-other, if-none}
+use Rattle.logged_journal.proofs.AppliedCalls.{few-needed, still, opens-still, opens-commit, not-granted, is-granted, never-done, never-memory, no-other, if-none}
 use Rattle.logged_journal.proofs.logged.LoggedJournal.apply.Given.{Over}
 use Rattle.logged_journal.proofs.logged.LoggedJournal.apply.Goals as goal
 
@@ -36,9 +36,12 @@ returns-then-not-grants-clause-moments g c =
     (λ _. still g.D.Disk.may_leave g.D.Disk.moment g.D.Disk.left_since g.D.Disk.only_now _ c.args.pass c.refuse.new.self.disk
     (c.refuse.ensures.disk.disk ∙ ap (λ (w : LoggedView g.row.D.Denot). w.disk) (sym c.self.view_is)) c.self.invariant.kept) refl
 
+pub is_past-requires-after_bounds : goal.is_past-requires-after_bounds
+is_past-requires-after_bounds g c κs within = (search rules, (ap (λ (w : LoggedView g.row.D.Denot). w.failed) (sym c.self.view_is) ∙ c.in_default.is, few-needed g.row.SLOTS _ c.self.invariant.size c.bytes_needed.ensures.few))
+
 pub mark_full-requires-after_bounds : goal.mark_full-requires-after_bounds
 mark_full-requires-after_bounds g c κs within =
-    (search rules, (ap (λ (w : LoggedView g.row.D.Denot). w.failed) (sym c.self.view_is) ∙ c.in_default.is, (c.bytes_needed.result, c.bytes_needed.ensures.few, c.is_past.ensures.past.0 c.if-is_past.true)))
+    (search rules, (ap (λ (w : LoggedView g.row.D.Denot). w.failed) (sym c.self.view_is) ∙ c.in_default.is, (c.bytes_needed.result, few-needed g.row.SLOTS _ c.self.invariant.size c.bytes_needed.ensures.few, c.is_past.ensures.past.0 c.if-is_past.true)))
 
 granted : (g : Over) (c : goal.After-mark_full g) → IsGranted c.args.self.now.journal c.args.pass c.args.call.now
 granted g c = subst (λ (w : LoggedView g.row.D.Denot). IsGranted w.journal c.args.pass c.args.call.now) c.self.view_is

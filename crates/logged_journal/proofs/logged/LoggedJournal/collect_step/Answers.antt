@@ -2,9 +2,9 @@ use Rattle.std.proofs.Common.{rules, ◌≡◌, ◌≤◌, ◌⊎◌, sym, ◌�
 use Rattle.core_store.specs.Limited.{is_past_limit}
 use Rattle.core_store.specs.RoundView.{Closed}
 use Rattle.core_store.specs.Steppings.{bytes_to_collect}
-use Rattle.logged_journal.specs.View.{LoggedView, IsPast}
+use Rattle.logged_journal.specs.View.{LoggedView, IsPast, image_need}
 use Rattle.logged_journal.specs.Calls.{KeepsFrames}
-use Rattle.logged_journal.proofs.AppliedCalls.{few-to-collect, collects-room, collects-some}
+use Rattle.logged_journal.proofs.AppliedCalls.{few-to-collect, few-needed, collects-room, collects-some}
 use Rattle.logged_journal.proofs.logged.LoggedJournal.collect_step.Goals as goal
 
 pub rest-requires-after_bounds : goal.rest-requires-after_bounds
@@ -27,10 +27,10 @@ rest-requires-after_bounds g c κs within =
     )
 
 pub is_past-requires-after_bounds : goal.is_past-requires-after_bounds
-is_past-requires-after_bounds g c κs within = (search rules, (ap (λ (w : LoggedView g.row.D.Denot). w.failed) (sym c.self.view_is) ∙ c.in_default.is, subst (λ n. n ≤ 47) (sym c.bytes_to_collect.ensures) (few-to-collect c.self.inside.journal.round)))
+is_past-requires-after_bounds g c κs within = (search rules, (ap (λ (w : LoggedView g.row.D.Denot). w.failed) (sym c.self.view_is) ∙ c.in_default.is, subst (λ n. n ≤ image_need g.row.SLOTS) (sym c.bytes_to_collect.ensures) (few-needed g.row.SLOTS _ c.self.invariant.size (few-to-collect c.self.inside.journal.round))))
 
 pub mark_full-requires-after_bounds : goal.mark_full-requires-after_bounds
-mark_full-requires-after_bounds g c κs within = (search rules, (ap (λ (w : LoggedView g.row.D.Denot). w.failed) (sym c.self.view_is) ∙ c.in_default.is, (c.bytes_to_collect.result, subst (λ n. n ≤ 47) (sym c.bytes_to_collect.ensures) (few-to-collect c.self.inside.journal.round), c.is_past.ensures.past.0 c.if-is_past.true)))
+mark_full-requires-after_bounds g c κs within = (search rules, (ap (λ (w : LoggedView g.row.D.Denot). w.failed) (sym c.self.view_is) ∙ c.in_default.is, (c.bytes_to_collect.result, subst (λ n. n ≤ image_need g.row.SLOTS) (sym c.bytes_to_collect.ensures) (few-needed g.row.SLOTS _ c.self.invariant.size (few-to-collect c.self.inside.journal.round)), c.is_past.ensures.past.0 c.if-is_past.true)))
 
 pub returns-then-is_past-clause-log_full : goal.returns-then-is_past-clause-log_full
 returns-then-is_past-clause-log_full g c =

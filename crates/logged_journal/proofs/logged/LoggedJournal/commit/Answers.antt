@@ -11,6 +11,7 @@ use Rattle.disk_model.specs.Causes.{Rose}
 use Rattle.disk_model.specs.Told.{KeepsOthers, IsImageBut}
 use Rattle.disk_model.specs.Time.{LeavesOnlyImages}
 use Rattle.disk_model.proofs.Moments.{at_exit}
+use Rattle.log_record.specs.declared.cell_record.CellRecord.{CellRecord}
 use Rattle.log_record.specs.Spelling.{cell_record_bytes}
 use Rattle.gate_log.specs.Batches.{most_bytes}
 use Rattle.gate_log.specs.State.{LogState, forced, failed, used}
@@ -26,14 +27,15 @@ use Rattle.core_store.specs.Owed.{bytes_owed}
 use Rattle.core_store.specs.RoundView.{left_of}
 use Rattle.core_store.specs.Steppings.{IsEntered}
 use Rattle.core_store.proofs.SafeLaws.{durable-all}
+use Rattle.logged_journal.specs.Inside.{view_of}
 use Rattle.logged_journal.specs.declared.logged.LoggedJournal.TheInside.{Inside}
-use Rattle.logged_journal.specs.declared.failed.FailedCommit.{FailedCommit}
+use Rattle.logged_journal.specs.declared.failed.FailedCall.{FailedCall}
 use Rattle.logged_journal.specs.View.{LoggedView}
-use Rattle.logged_journal.specs.Records.{MayHave}
-use Rattle.logged_journal.specs.Calls.{IsOfJournal, IsGranted, DoesCall, KeepsFrames, GoesOn}
+use Rattle.logged_journal.specs.Records.{MayHave, AreMarkedAfter}
+use Rattle.logged_journal.specs.Calls.{IsOfJournal, IsGranted, DoesCall, KeepsFrames, GoesOn, joined}
 use Rattle.logged_journal.specs.Kept.{IsStanding}
 use Rattle.logged_journal.proofs.Commits.{pages-apart}
-use Rattle.logged_journal.proofs.CommitDone.{commit-done, commit-logged, commit-falls, commit-owed, was-ok, on-ok, on-err, with_record, record-on, note-holds, record-bounded, record-moments, kept-failed, HasCommitted, counted-falls, kept-done}
+use Rattle.logged_journal.proofs.CommitDone.{commit-done, commit-marked, commit-logged, commit-falls, commit-owed, was-ok, on-ok, on-err, with_record, record-on, note-holds, record-bounded, record-moments, kept-failed, HasCommitted, counted-falls, kept-done}
 use Rattle.logged_journal.proofs.logged.LoggedJournal.commit.Given.{Over}
 use Rattle.logged_journal.proofs.logged.LoggedJournal.commit.Goals as goal
 
@@ -48,19 +50,6 @@ abbrev Others : {D : Type 0} → (D → Area → List ℕ → Type 0) → (D →
 Others may_leave moment left_since log now before = LeavesOnlyImages moment left_since before now (IsImageBut may_leave before log.area (λ _. ⊤))
 
 -- ---- before the force
-
--- the journal with its log, at the call
-abbrev view_of : {slots : ℕ} {D : Type 0} → Inside slots D → LoggedView D
-view_of a = record {
-  journal = a.journal;
-  log = a.log;
-  disk = a.disk.value;
-  durable = a.durable;
-  failed = a.failed;
-  log_full = a.log_full;
-  peak = a.peak;
-  opened = a.opened;
-}
 
 -- it runs, and grants the commit
 running : {slots : ℕ} {D : Type 0} (a : Inside slots D) (now : LoggedView D) → view_of a ≡ now → now.failed ≡ None → a.failed ≡ None
@@ -94,10 +83,11 @@ invariant_of-self g c =
     let run = subst (λ (d : g.row.D.Denot). Runs g.D.Disk.may_leave g.D.Disk.moment g.D.Disk.left_since c.append_record.new.log c.force.new.disk d) c.as_mut.ensures.value c.force.ensures.moments in
     let others = subst (λ (d : g.row.D.Denot). Others g.D.Disk.may_leave g.D.Disk.moment g.D.Disk.left_since c.append_record.new.log c.force.new.disk d) c.as_mut.ensures.value c.force.ensures.others in
     let moments = record-moments g.D.Disk.may_leave (view_of c.self.inside) g.D.Disk.moment g.D.Disk.left_since c.append_record.new.log c.force.new.disk c.args.pass
-    (c.self.invariant.kept.standing (running c.self.inside c.args.self.now c.self.view_is c.requires.running))
+    (c.self.invariant.kept.standing (running c.self.inside c.args.self.now c.self.view_is c.requires.running)) c.self.invariant.kept.inside
     (owed c.self.inside c.args.self.now c.args.pass c.self.view_is c.requires.granted) c.append_record.ensures.log run others in
     record {
       size = c.self.invariant.size;
+      own = c.self.invariant.own;
       spelling = c.append_record.ensures.spelling;
       counted = (
         let before = c.self.invariant.counted.0 in
@@ -111,7 +101,7 @@ invariant_of-self g c =
             omega (arith, before, value, rose, told),
       );
       kept = kept-failed g.D.Disk.may_leave (view_of c.self.inside) _ c.args.pass c.faults.result c.self.invariant.kept
-          (running c.self.inside c.args.self.now c.self.view_is c.requires.running) refl refl refl refl refl
+          (running c.self.inside c.args.self.now c.self.view_is c.requires.running) refl refl refl refl refl refl
           (record { client = c.requires.client; granted = (granted c.self.inside c.args.self.now c.args.pass c.self.view_is c.requires.granted).granted }) (at_exit g.D.Disk.may_leave g.D.Disk.counts_now moments);
     }
 
@@ -130,7 +120,7 @@ returns-then-is_err-clause-moments g c =
     let run = subst (λ (d : g.row.D.Denot). Runs g.D.Disk.may_leave g.D.Disk.moment g.D.Disk.left_since c.append_record.new.log c.force.new.disk d) c.as_mut.ensures.value c.force.ensures.moments in
     let others = subst (λ (d : g.row.D.Denot). Others g.D.Disk.may_leave g.D.Disk.moment g.D.Disk.left_since c.append_record.new.log c.force.new.disk d) c.as_mut.ensures.value c.force.ensures.others in
     let moments = record-moments g.D.Disk.may_leave (view_of c.self.inside) g.D.Disk.moment g.D.Disk.left_since c.append_record.new.log c.force.new.disk c.args.pass
-    (c.self.invariant.kept.standing (running c.self.inside c.args.self.now c.self.view_is c.requires.running))
+    (c.self.invariant.kept.standing (running c.self.inside c.args.self.now c.self.view_is c.requires.running)) c.self.invariant.kept.inside
     (owed c.self.inside c.args.self.now c.args.pass c.self.view_is c.requires.granted) c.append_record.ensures.log run others in
     subst (λ (w : LoggedView g.row.D.Denot). LeavesOnlyImages g.D.Disk.moment g.D.Disk.left_since w.disk c.force.new.disk (MayHave w c.args.pass)) c.self.view_is moments
 
@@ -200,6 +190,7 @@ after g c = record {
   log = c.force.new.self;
   disk = c.force.new.disk;
   durable = length c.history.result.now;
+  marks = c.self.inside.marks;
   failed = c.self.inside.failed;
   log_full = c.self.inside.log_full;
   peak = c.self.inside.peak;
@@ -240,8 +231,13 @@ committed g c =
       log = log-is g c;
       on = on-ok c.force.result _ (succeeded g c) (c.force.ensures.on s.batches reached);
       have = on-ok c.force.result _ (succeeded g c) (c.force.ensures.images s.batches reached bounded);
-      hold = λ area may. note-holds g.D.Disk.may_leave v log c.args.pass (note g c) s c.append_record.ensures.log (commit-logged (end_of c.self.inside.journal.history).state (cells_of c.self.inside.journal) c.args.pass (grants g c).granted)
-          area ((keeps Pages (pages-apart log.area on.area)).no_more area may);
+      pages = s.pages;
+      ids = s.ids;
+      records = note-holds g.D.Disk.may_leave v log c.args.pass (note g c) s c.self.invariant.kept.inside c.append_record.ensures.log
+          (commit-logged (end_of c.self.inside.journal.history).state (cells_of c.self.inside.journal) c.args.pass (grants g c).granted)
+          c.force.new.disk (λ area may. (keeps Pages (pages-apart log.area on.area)).no_more area may);
+      long = λ area may. s.long area ((keeps Pages (pages-apart log.area on.area)).no_more area may);
+      marks = refl;
       all = ap (λ (l : List Note). length l) c.history.ensures.notes;
       lasting = durable-all c.apply-reply.new.self (subst (λ (l : List Note). map (λ n. n.entry) l ≡ c.apply-reply.new.self.history.entries) c.history.ensures.notes c.history.ensures.entries) c.history.ensures.safe;
       running = running c.self.inside c.args.self.now c.self.view_is c.requires.running;
@@ -253,13 +249,14 @@ pub invariant_of-self-2 : goal.invariant_of-self-2
 invariant_of-self-2 g c =
     record {
       size = c.self.invariant.size;
+      own = ap (λ h. h.slots) (c.apply-reply.ensures.entry (entered g c)) ∙ c.self.invariant.own;
       spelling = c.append_record.ensures.spelling;
       counted = (
         let before = c.self.invariant.counted.0 in
             let value = ap g.D.Disk.faults c.as_mut.ensures.value in
             let cause = c.force.ensures.cause.later in
             omega (arith, before, value, cause),
-        subst (λ (o : Option FailedCommit). IfSome o (λ f. Rose c.self.inside.opened f.faults)) (sym (running c.self.inside c.args.self.now c.self.view_is c.requires.running)) tt,
+        subst (λ (o : Option FailedCall). IfSome o (λ f. Rose c.self.inside.opened f.faults)) (sym (running c.self.inside c.args.self.now c.self.view_is c.requires.running)) tt,
       );
       kept = kept-done g.D.Disk.may_leave (view_of c.self.inside) (after g c) c.args.pass (note g c) _ c.self.invariant.kept
           (running c.self.inside c.args.self.now c.self.view_is c.requires.running) (committed g c);
@@ -283,6 +280,9 @@ returns-clause-goes_on g c is =
       log_full = refl;
       peak = omega (arith, counted, peak);
       opened = refl;
+      marks = joined (note g c) (c.apply-reply.ensures.noted (entered g c))
+          (subst (λ (o : Option CellRecord). AreMarkedAfter c.self.inside.journal.history.slots o c.self.inside.marks c.self.inside.marks)
+          (sym (commit-logged (end_of c.self.inside.journal.history).state (cells_of c.self.inside.journal) c.args.pass (grants g c).granted)) (commit-marked c.self.inside.journal.history.slots c.args.pass c.self.inside.marks));
     })
 
 pub returns-clause-frames : goal.returns-clause-frames
@@ -301,5 +301,5 @@ returns-clause-moments g c =
     let run = subst (λ (d : g.row.D.Denot). Runs g.D.Disk.may_leave g.D.Disk.moment g.D.Disk.left_since c.append_record.new.log c.force.new.disk d) c.as_mut.ensures.value c.force.ensures.moments in
     let others = subst (λ (d : g.row.D.Denot). Others g.D.Disk.may_leave g.D.Disk.moment g.D.Disk.left_since c.append_record.new.log c.force.new.disk d) c.as_mut.ensures.value c.force.ensures.others in
     subst (λ (w : LoggedView g.row.D.Denot). LeavesOnlyImages g.D.Disk.moment g.D.Disk.left_since w.disk c.force.new.disk (MayHave w c.args.pass)) c.self.view_is
-    (record-moments g.D.Disk.may_leave (view_of c.self.inside) g.D.Disk.moment g.D.Disk.left_since c.append_record.new.log c.force.new.disk c.args.pass (stands g c)
+    (record-moments g.D.Disk.may_leave (view_of c.self.inside) g.D.Disk.moment g.D.Disk.left_since c.append_record.new.log c.force.new.disk c.args.pass (stands g c) c.self.invariant.kept.inside
     (owed c.self.inside c.args.self.now c.args.pass c.self.view_is c.requires.granted) c.append_record.ensures.log run others)

@@ -14,18 +14,15 @@ use Rattle.core_store.specs.JournalView.{JournalView, cells_of}
 use Rattle.core_store.specs.Limited.{AreLimits, pages_for_call}
 use Rattle.core_store.specs.Logged.{want_of}
 use Rattle.core_store.specs.Owed.{bytes_owed, bytes_needed}
+use Rattle.logged_journal.specs.Inside.{view_of}
 use Rattle.logged_journal.specs.declared.logged.LoggedJournal.TheInside.{Inside}
 use Rattle.logged_journal.specs.View.{LoggedView, IsPast}
 use Rattle.logged_journal.specs.Records.{last_bytes}
 use Rattle.logged_journal.specs.Kept.{IsKept}
-use Rattle.logged_journal.specs.Calls.{DoesCall, IsGranted, KeepsFrames, GoesOn}
-use Rattle.logged_journal.proofs.CalledJournals.{of-journal, kept-reserved, IsCalled, asked, after_call, called-room, called-bounded, kept-called}
+use Rattle.logged_journal.specs.Calls.{DoesCall, IsGranted, KeepsFrames, GoesOn, GoWithNotes, stayed, joined}
+use Rattle.logged_journal.proofs.CalledJournals.{of-journal, called-slots, called-entered, called-goes, kept-reserved, IsCalled, asked, after_call, called-room, called-bounded, kept-called}
 use Rattle.logged_journal.proofs.logged.LoggedJournal.log_call.Given.{Over}
 use Rattle.logged_journal.proofs.logged.LoggedJournal.log_call.Goals as goal
-
--- the journal with its log, at the call
-abbrev view_of : {slots : ℕ} {D : Type 0} → Inside slots D → LoggedView D
-view_of a = record { journal = a.journal; log = a.log; disk = a.disk.value; durable = a.durable; failed = a.failed; log_full = a.log_full; peak = a.peak; opened = a.opened }
 
 running : {slots : ℕ} {D : Type 0} (a : Inside slots D) (now : LoggedView D) → view_of a ≡ now → now.failed ≡ None → a.failed ≡ None
 running a now is runs = subst (λ v. v.failed ≡ None) (sym is) runs
@@ -59,6 +56,7 @@ pub invariant_of-self : goal.invariant_of-self
 invariant_of-self g c =
     record {
       size = c.self.invariant.size;
+      own = c.self.invariant.own;
       spelling = c.self.invariant.spelling;
       counted = c.self.invariant.counted;
       kept = kept-reserved g.D.Disk.may_leave (view_of c.self.inside) c.reserve.new.self _ _ c.reserve.ensures.log c.self.invariant.kept;
@@ -100,6 +98,7 @@ invariant_of-self-in-Memory g c =
     let v : LoggedView g.row.D.Denot = view_of c.self.inside in
     record {
       size = c.self.invariant.size;
+      own = ap (λ (j : JournalView). j.history.slots) (c.apply.ensures.memory c.in-Memory.is).0 ∙ c.self.invariant.own;
       spelling = c.self.invariant.spelling;
       counted = c.self.invariant.counted;
       kept = subst (λ (j : JournalView). IsKept g.D.Disk.may_leave (record v { journal = j; log = c.reserve.new.self })) (sym (c.apply.ensures.memory c.in-Memory.is).0)
@@ -134,17 +133,21 @@ append_last-requires g c =
     let log = taken c.self.inside c.args.call.now c.reserve.new.self _ _ _ _ c.reserve.ensures.log c.is_err.ensures.negation c.if-is_err.false c.bytes_owed.ensures.value c.bytes_needed.ensures.value in
     let stands = c.self.invariant.kept.standing is.running in
     let bounded = stands.bounded in
-    let few : used c.self.inside.log + 25 < 4294967296 = omega (arith, bounded) in (
+    let few : used c.self.inside.log + 25 < 4294967296 = omega (arith, bounded) in
+    let ids = ap (λ h. h.ids) (does.entry (called-entered g.row.SLOTS (view_of c.self.inside) c.apply.new.self c.args.pass c.args.call.now c.apply.result is)) ∙ c.self.invariant.kept.many in (
       search rules,
       (
         c.self.invariant.size,
         (
-          ap (λ (l : LogState). l.stage) log ∙ stands.stage,
+          ids,
           (
-            subst (λ (l : LogState). length (last_bytes c.apply.new.self.notes) ≤ l.room) (sym log) (called-room g.row.SLOTS (view_of c.self.inside) c.apply.new.self c.args.pass c.args.call.now c.apply.result is),
+            ap (λ (l : LogState). l.stage) log ∙ stands.stage,
             (
-              subst (λ (l : LogState). used l + 25 < 4294967296) (sym log) few,
-              c.self.invariant.spelling,
+              subst (λ (l : LogState). length (last_bytes c.apply.new.self.notes) ≤ l.room) (sym log) (called-room g.row.SLOTS (view_of c.self.inside) c.apply.new.self c.args.pass c.args.call.now c.apply.result is),
+              (
+                subst (λ (l : LogState). used l + 25 < 4294967296) (sym log) few,
+                c.self.invariant.spelling,
+              ),
             ),
           ),
         ),
@@ -171,7 +174,7 @@ overflow_add-used g c =
     let log = taken c.self.inside c.args.call.now c.reserve.new.self _ _ _ _ c.reserve.ensures.log c.is_err.ensures.negation c.if-is_err.false c.bytes_owed.ensures.value c.bytes_needed.ensures.value in
     let in-use = c.used.ensures ∙ ap used (c.append_last.ensures.log ∙ ap (λ (l : LogState). appended l (last_bytes c.apply.new.self.notes)) log) in
     let owed = c.bytes_owed-in_default.ensures.value in
-    let bounded = called-bounded g.row.SLOTS (view_of c.self.inside) c.apply.new.self c.args.pass c.args.call.now c.apply.result is in
+    let bounded = called-bounded g.row.SLOTS (view_of c.self.inside) c.apply.new.self c.append_last.new.marks c.args.pass c.args.call.now c.apply.result is in
     omega (arith, in-use, owed, bounded)
 
 -- what it was called with, and its log and its peak after it
@@ -191,7 +194,7 @@ does g c =
       unmarked = e.unmarked;
     }
 
-log-is : (g : Over) (c : goal.After-self-1 g) → c.append_last.new.log ≡ (after_call (view_of c.self.inside) c.apply.new.self c.args.call.now).log
+log-is : (g : Over) (c : goal.After-self-1 g) → c.append_last.new.log ≡ (after_call (view_of c.self.inside) c.apply.new.self c.append_last.new.marks c.args.call.now).log
 log-is g c =
     c.append_last.ensures.log
     ∙ ap (λ (l : LogState). appended l (last_bytes c.apply.new.self.notes))
@@ -208,21 +211,30 @@ invariant_of-self-in_default g c =
     let v : LoggedView g.row.D.Denot = view_of c.self.inside in
     let r = c.requires in
     let is = called c.self.inside c.args.self.now c.apply.new.self c.args.pass c.args.call.now c.apply.result c.self.view_is r.running r.granted r.other r.no_abort c.bytes_owed.ensures.ascend r.room r.limits (does g c) c.in_default.not-Memory in
-    let P : LogState → ℕ → Type 0 = λ log peak. IsKept g.D.Disk.may_leave (record v { journal = c.apply.new.self; log = log; peak = peak }) in
+    let P : LogState → ℕ → Type 0 = λ log peak. IsKept g.D.Disk.may_leave (record v { journal = c.apply.new.self; log = log; marks = c.append_last.new.marks; peak = peak }) in
     record {
       size = c.self.invariant.size;
+      own = called-slots g.row.SLOTS c.self.inside.journal c.apply.new.self c.args.pass c.args.call.now c.apply.result (does g c) ∙ c.self.invariant.own;
       spelling = c.append_last.ensures.spelling;
       counted = c.self.invariant.counted;
       kept = subst (P c.append_last.new.log) (sym (peak-is g c))
           (subst (λ (l : LogState). P l (max c.self.inside.peak (used l + bytes_owed (end_of c.apply.new.self.history)))) (sym (log-is g c))
-          (kept-called g.D.Disk.may_leave g.row.SLOTS v c.apply.new.self c.args.pass c.args.call.now c.apply.result c.self.invariant.kept c.append_last.ensures.typed is));
+          (kept-called g.D.Disk.may_leave g.row.SLOTS v c.apply.new.self c.append_last.new.marks c.args.pass c.args.call.now c.apply.result c.self.invariant.kept c.append_last.ensures.typed c.self.invariant.own c.append_last.ensures.marks is));
     }
+
+-- the marks of pages look at the notes and the marks alone
+goes-with : (g : Over) (c : goal.After-self-1 g) → GoWithNotes (view_of c.self.inside) (after_call (view_of c.self.inside) c.apply.new.self c.append_last.new.marks c.args.call.now)
+    → GoWithNotes (view_of c.self.inside) (record (view_of c.self.inside) { journal = c.apply.new.self; log = c.append_last.new.log; marks = c.append_last.new.marks; peak = c.max-self-inside.result })
+goes-with g c (stayed notes marks) = stayed notes marks
+goes-with g c (joined n notes marks) = joined n notes marks
 
 pub returns-in_default : goal.returns-in_default
 returns-in_default g c =
     let e = c.apply.ensures in
     let v : LoggedView g.row.D.Denot = view_of c.self.inside in
-    let w : LoggedView g.row.D.Denot = record v { journal = c.apply.new.self; log = c.append_last.new.log; peak = c.max-self-inside.result } in
+    let w : LoggedView g.row.D.Denot = record v { journal = c.apply.new.self; log = c.append_last.new.log; marks = c.append_last.new.marks; peak = c.max-self-inside.result } in
+    let r = c.requires in
+    let is = called c.self.inside c.args.self.now c.apply.new.self c.args.pass c.args.call.now c.apply.result c.self.view_is r.running r.granted r.other r.no_abort c.bytes_owed.ensures.ascend r.room r.limits (does g c) c.in_default.not-Memory in
     record {
       journal = of-journal g.row.SLOTS c.self.inside.journal c.apply.new.self c.args.pass c.args.call.now c.apply.result (does g c);
       does = subst (λ (v : LoggedView g.row.D.Denot). DoesCall g.row.SLOTS v.journal c.apply.new.self c.args.pass c.args.call.now c.apply.result) c.self.view_is (does g c);
@@ -231,5 +243,5 @@ returns-in_default g c =
       same = λ is. ⊎_elim (λ full. (e.marked full).1) (λ memory. (e.memory memory).1) is;
       disk = record { disk = ap (λ (w : LoggedView g.row.D.Denot). w.disk) c.self.view_is; durable = ap (λ (w : LoggedView g.row.D.Denot). w.durable) c.self.view_is };
       goes_on = subst (λ (old : LoggedView g.row.D.Denot). GoesOn old w) c.self.view_is
-          (record { running = running c.self.inside c.args.self.now c.self.view_is c.requires.running; log_full = refl; peak = peak-is g c; opened = refl });
+          (record { running = running c.self.inside c.args.self.now c.self.view_is c.requires.running; log_full = refl; peak = peak-is g c; opened = refl; marks = goes-with g c (called-goes g.row.SLOTS v c.apply.new.self c.append_last.new.marks c.args.pass c.args.call.now c.apply.result c.self.invariant.own c.append_last.ensures.marks is) });
     }

@@ -1,17 +1,20 @@
-use Rattle.std.proofs.Common.{◌≡◌, ◌≢◌, ℕ, ◌+◌, ⊎_elim, max, true, [], ap, sym, ◌∙◌, subst, refl, arith, rules}
+use Rattle.std.proofs.Common.{◌≡◌, ◌≢◌, ℕ, ◌+◌, ◌≤◌, List, ⊎_elim, max, true, [], ap, sym, ◌∙◌, subst, refl, arith, rules}
 use Rattle.std.specs.Prelude.{is_ok, if◌then◌else◌}
 use Rattle.gate_log.specs.State.{LogState, used, appended}
-use Rattle.plain_model.specs.History.{end_of}
+use Rattle.plain_model.specs.History.{end_of, with_entry}
+use Rattle.page_marks.specs.declared.marks.PageMark.{PageMark}
 use Rattle.core_store.specs.declared.collect.Collect.{Collect}
 use Rattle.core_store.specs.declared.collect.Collect.TheVariants.{Memory}
+use Rattle.core_store.specs.Collects.{entry_of}
 use Rattle.core_store.specs.Frames.{Agree}
 use Rattle.core_store.specs.Owed.{bytes_owed}
-use Rattle.core_store.specs.JournalView.{cells_of}
+use Rattle.core_store.specs.JournalView.{JournalView, cells_of}
 use Rattle.core_store.specs.Limited.{AreLimits, is_past_limit}
 use Rattle.core_store.specs.RoundView.{Closed}
-use Rattle.core_store.specs.Steppings.{bytes_to_collect}
+use Rattle.core_store.specs.Steppings.{IsEvent, bytes_to_collect}
+use Rattle.logged_journal.specs.Inside.{view_of}
 use Rattle.logged_journal.specs.View.{LoggedView, IsPast, bytes_counted}
-use Rattle.logged_journal.specs.Records.{last_bytes}
+use Rattle.logged_journal.specs.Records.{last_bytes, last_logged, AreMarkedAfter}
 use Rattle.logged_journal.specs.Kept.{IsKept}
 use Rattle.logged_journal.specs.Calls.{DoesCollect, KeepsFrames, GoesOn}
 use Rattle.logged_journal.proofs.Resting.{kept-same, room-more, room-enough}
@@ -24,7 +27,7 @@ use Rattle.logged_journal.proofs.logged.LoggedJournal.log_step.Goals.{In_default
 abbrev before : (g : Over) (c : In_default g) → LoggedView g.row.D.Denot
 before g c =
     let s = c.self.inside in
-    record { journal = s.journal; log = s.log; disk = s.disk.value; durable = s.durable; failed = s.failed; log_full = s.log_full; peak = s.peak; opened = s.opened }
+    view_of s
 
 -- the room in the log behind the reservation
 abbrev room : (g : Over) (c : In_default g) → ℕ
@@ -45,42 +48,57 @@ does g c =
       opening = e.opening;
     }
 
-collected_is : (g : Over) (c : In_default g) → IsCollected g.D.Disk.may_leave g.row.SLOTS (before g c) c.collect_step.new.self c.collect_step.result (room g c)
-collected_is g c =
+event_is : (g : Over) (c : In_default g) → IsEvent c.collect_step.result
+event_is g c =
+    let history = ap (λ (v : LoggedView g.row.D.Denot). is_past_limit v.journal 1) c.self.view_is ∙ c.requires.history in
+    let some = subst (λ (v : LoggedView g.row.D.Denot). (v.journal.queue ≡ []) × (v.journal.round ≡ Closed) → ⊥) (sym c.self.view_is) c.requires.some in
+    let other : c.collect_step.result ≢ Memory = search rules in
+    is-event g.row.SLOTS c.self.inside.journal c.collect_step.new.self c.collect_step.result (does g c) history some other
+
+room_taken : (g : Over) (c : In_default g) → bytes_owed (end_of c.self.inside.journal.history) + bytes_to_collect c.self.inside.journal.round ≤ room g c
+room_taken g c =
     let taken : is_ok c.reserve.result ≡ true = search rules in
     let enough = room-enough (is_ok c.reserve.result) c.self.inside.log.room (c.bytes_owed.result + c.bytes_to_collect.result) taken in
     let owed = c.bytes_owed.ensures.value in
     let next = c.bytes_to_collect.ensures in
-    let history = ap (λ (v : LoggedView g.row.D.Denot). is_past_limit v.journal 1) c.self.view_is ∙ c.requires.history in
-    let some = subst (λ (v : LoggedView g.row.D.Denot). (v.journal.queue ≡ []) × (v.journal.round ≡ Closed) → ⊥) (sym c.self.view_is) c.requires.some in
-    let other : c.collect_step.result ≢ Memory = search rules in
+    omega (arith, enough, owed, next)
+
+collected_is : (g : Over) (c : In_default g) (marks : List PageMark) → AreMarkedAfter g.row.SLOTS (last_logged c.collect_step.new.self.notes) c.self.inside.marks marks
+    → IsCollected g.D.Disk.may_leave g.row.SLOTS (before g c) c.collect_step.new.self marks c.collect_step.result (room g c)
+collected_is g c marks marked =
     record {
       kept = c.self.invariant.kept;
       running = ap (λ (v : LoggedView g.row.D.Denot). v.failed) c.self.view_is ∙ c.requires.running;
       limits = subst (λ (v : LoggedView g.row.D.Denot). AreLimits v.journal.limits) (sym c.self.view_is) c.requires.limits;
       fits = subst (λ (v : LoggedView g.row.D.Denot). IsPast v (bytes_to_collect v.journal.round) → ⊥) (sym c.self.view_is) c.requires.room;
-      room_taken = omega (arith, enough, owed, next);
+      room_taken = room_taken g c;
       does = does g c;
-      event = is-event g.row.SLOTS c.self.inside.journal c.collect_step.new.self c.collect_step.result (does g c) history some other;
+      event = event_is g c;
+      own = c.self.invariant.own;
+      marked = marked;
     }
 
+makes-entry : (g : Over) (c : In_default g) → c.collect_step.new.self.history ≡ with_entry c.self.inside.journal.history (entry_of ((does g c).event (event_is g c)).logged)
+makes-entry g c = ((does g c).event (event_is g c)).entry
+
 -- the event's record has joined the log, and this many bytes at most are counted
-after : (g : Over) (c : In_default g) (log : LogState) (peak : ℕ) → log ≡ appended c.reserve.new.self (last_bytes c.collect_step.new.self.notes)
+after : (g : Over) (c : In_default g) (log : LogState) (marks : List PageMark) (peak : ℕ) → log ≡ appended c.reserve.new.self (last_bytes c.collect_step.new.self.notes)
     → peak ≡ max c.self.inside.peak (bytes_counted (record (before g c) { journal = c.collect_step.new.self; log = log }))
-    → record (before g c) { journal = c.collect_step.new.self; log = log; peak = peak } ≡ collected (before g c) c.collect_step.new.self (room g c)
-after g c log peak log_is peak_is =
+    → record (before g c) { journal = c.collect_step.new.self; log = log; marks = marks; peak = peak } ≡ collected (before g c) c.collect_step.new.self marks (room g c)
+after g c log marks peak log_is peak_is =
     let j = c.collect_step.new.self in
     let all = log_is ∙ ap (λ (l : LogState). appended l (last_bytes j.notes)) c.reserve.ensures.log in
-    ap (λ (p : ℕ). record (before g c) { journal = j; log = log; peak = p }) peak_is
-    ∙ ap (λ (l : LogState). let w = record (before g c) { journal = j; log = l } in record w { peak = max c.self.inside.peak (bytes_counted w) }) all
+    ap (λ (p : ℕ). record (before g c) { journal = j; log = log; marks = marks; peak = p }) peak_is
+    ∙ ap (λ (l : LogState). let w = record (before g c) { journal = j; log = l; marks = marks } in record w { peak = max c.self.inside.peak (bytes_counted w) }) all
 
 pub invariant_of-self : goal.invariant_of-self
 invariant_of-self g c =
     let s = c.self.inside in
-    let v : LoggedView g.row.D.Denot = record { journal = s.journal; log = s.log; disk = s.disk.value; durable = s.durable; failed = s.failed; log_full = s.log_full; peak = s.peak; opened = s.opened } in
+    let v : LoggedView g.row.D.Denot = view_of s in
     let room = if is_ok c.reserve.result then max s.log.room (c.bytes_owed.result + c.bytes_to_collect.result) else s.log.room in
     record {
       size = c.self.invariant.size;
+      own = c.self.invariant.own;
       spelling = c.self.invariant.spelling;
       counted = c.self.invariant.counted;
       kept = subst (λ (log : LogState). IsKept g.D.Disk.may_leave (record v { log = log })) (sym c.reserve.ensures.log)
@@ -96,11 +114,12 @@ returns-then-is_err-clause-frames g c =
 pub invariant_of-self-in-Memory : goal.invariant_of-self-in-Memory
 invariant_of-self-in-Memory g c =
     let s = c.self.inside in
-    let v : LoggedView g.row.D.Denot = record { journal = s.journal; log = s.log; disk = s.disk.value; durable = s.durable; failed = s.failed; log_full = s.log_full; peak = s.peak; opened = s.opened } in
+    let v : LoggedView g.row.D.Denot = view_of s in
     let room = if is_ok c.reserve.result then max s.log.room (c.bytes_owed.result + c.bytes_to_collect.result) else s.log.room in
     let same = (c.collect_step.ensures.memory c.in-Memory.is).0 in
     record {
       size = c.self.invariant.size;
+      own = ap (λ (j : JournalView). j.history.slots) same ∙ c.self.invariant.own;
       spelling = c.self.invariant.spelling;
       counted = c.self.invariant.counted;
       kept = subst (λ (log : LogState). IsKept g.D.Disk.may_leave (record v { journal = c.collect_step.new.self; log = log })) (sym c.reserve.ensures.log)
@@ -109,21 +128,24 @@ invariant_of-self-in-Memory g c =
 
 pub append_last-requires : goal.append_last-requires
 append_last-requires g c =
-    let is = collected_is g (goal.at.append_last-requires g c).In_default in
-    let stands = is.kept.standing is.running in
+    let d = (goal.at.append_last-requires g c).In_default in
+    let running = ap (λ (v : LoggedView g.row.D.Denot). v.failed) c.self.view_is ∙ c.requires.running in
+    let stands = c.self.invariant.kept.standing running in
     let log = c.reserve.ensures.log in
     let stage = ap (λ (l : LogState). l.stage) log ∙ stands.stage in
     let size = ap (λ (l : LogState). used l) log in
     let place = ap (λ (l : LogState). l.room) log in
-    let most = last-collected (is.does.event is.event) in
-    let taken = is.room_taken in
+    let most = last-collected ((does g d).event (event_is g d)) in
+    let taken = room_taken g d in
     let bounded = stands.bounded in
-    (search rules, (c.self.invariant.size, (stage, (omega (arith, most, taken, place), (omega (arith, bounded, size), c.self.invariant.spelling)))))
+    let ids = ap (λ h. h.ids) (makes-entry g d) ∙ c.self.invariant.kept.many in
+    (search rules, (c.self.invariant.size, (ids, (stage, (omega (arith, most, taken, place), (omega (arith, bounded, size), c.self.invariant.spelling))))))
 
 pub overflow_add-used : goal.overflow_add-used
 overflow_add-used g c =
     let d = (goal.at.overflow_add-used g c).In_default in
-    let bounded = (kept-collected g.D.Disk.may_leave g.row.SLOTS (before g d) c.collect_step.new.self c.collect_step.result (room g d) c.append_last.ensures.typed (collected_is g d)).standing (collected_is g d).running in
+    let is = collected_is g d c.append_last.new.marks c.append_last.ensures.marks in
+    let bounded = (kept-collected g.D.Disk.may_leave g.row.SLOTS (before g d) c.collect_step.new.self c.append_last.new.marks c.collect_step.result (room g d) c.append_last.ensures.typed is).standing is.running in
     let most = bounded.bounded in
     let log = c.append_last.ensures.log ∙ ap (λ (l : LogState). appended l (last_bytes c.collect_step.new.self.notes)) c.reserve.ensures.log in
     let size = ap (λ (l : LogState). used l) log in
@@ -141,10 +163,11 @@ invariant_of-self-in_default g c =
     let peak : c.max-self-inside.result ≡ max c.self.inside.peak (used c.append_last.new.log + bytes_owed (end_of c.collect_step.new.self.history)) = omega (arith, total, owed, higher) in
     record {
       size = c.self.invariant.size;
+      own = ap (λ h. h.slots) (makes-entry g d) ∙ c.self.invariant.own;
       spelling = c.append_last.ensures.spelling;
       counted = c.self.invariant.counted;
-      kept = subst (λ (w : LoggedView g.row.D.Denot). IsKept g.D.Disk.may_leave w) (sym (after g d c.append_last.new.log c.max-self-inside.result c.append_last.ensures.log peak))
-          (kept-collected g.D.Disk.may_leave g.row.SLOTS v c.collect_step.new.self c.collect_step.result (room g d) c.append_last.ensures.typed (collected_is g d));
+      kept = subst (λ (w : LoggedView g.row.D.Denot). IsKept g.D.Disk.may_leave w) (sym (after g d c.append_last.new.log c.append_last.new.marks c.max-self-inside.result c.append_last.ensures.log peak))
+          (kept-collected g.D.Disk.may_leave g.row.SLOTS v c.collect_step.new.self c.append_last.new.marks c.collect_step.result (room g d) c.append_last.ensures.typed (collected_is g d c.append_last.new.marks c.append_last.ensures.marks));
     }
 
 pub returns-in-Memory-clause-does : goal.returns-in-Memory-clause-does
@@ -182,9 +205,9 @@ returns-in_default g c =
     let peak : c.max-self-inside.result ≡ max c.self.inside.peak (used c.append_last.new.log + bytes_owed (end_of c.collect_step.new.self.history)) = omega (arith, total, owed, higher) in
     record {
       does = subst (λ (w : LoggedView g.row.D.Denot). DoesCollect g.row.SLOTS w.journal c.collect_step.new.self c.collect_step.result) c.self.view_is (does g d);
-      goes_on = subst (λ (w : LoggedView g.row.D.Denot). GoesOn w (record v { journal = c.collect_step.new.self; log = c.append_last.new.log; peak = c.max-self-inside.result })) c.self.view_is
-          (subst (λ (w : LoggedView g.row.D.Denot). GoesOn v w) (sym (after g d c.append_last.new.log c.max-self-inside.result c.append_last.ensures.log peak))
-          (goes-on-collected g.D.Disk.may_leave g.row.SLOTS v c.collect_step.new.self c.collect_step.result (room g d) (collected_is g d)));
+      goes_on = subst (λ (w : LoggedView g.row.D.Denot). GoesOn w (record v { journal = c.collect_step.new.self; log = c.append_last.new.log; marks = c.append_last.new.marks; peak = c.max-self-inside.result })) c.self.view_is
+          (subst (λ (w : LoggedView g.row.D.Denot). GoesOn v w) (sym (after g d c.append_last.new.log c.append_last.new.marks c.max-self-inside.result c.append_last.ensures.log peak))
+          (goes-on-collected g.D.Disk.may_leave g.row.SLOTS v c.collect_step.new.self c.append_last.new.marks c.collect_step.result (room g d) (collected_is g d c.append_last.new.marks c.append_last.ensures.marks)));
       frames = subst (λ (w : LoggedView g.row.D.Denot). KeepsFrames w.journal c.collect_step.new.self c.args.held.now c.collect_step.new.held) c.self.view_is
           (record { pages = e.pages; agree = e.agree; elsewhere = e.elsewhere });
       same = λ is. ⊎_elim (λ full. (e.marked full).1) (λ others. ⊎_elim (λ idle. (e.unchanged idle).1) (λ memory. (e.memory memory).1) others) is;

@@ -7,9 +7,10 @@ use Rattle.core_store.specs.Frames.{Agree, pages_held}
 use Rattle.core_store.specs.JournalView.{cells_of}
 use Rattle.core_store.specs.Limited.{pages_for_call}
 use Rattle.core_store.specs.Logged.{want_of}
+use Rattle.logged_journal.specs.Inside.{view_of}
 use Rattle.logged_journal.specs.View.{LoggedView}
 use Rattle.logged_journal.specs.Calls.{DoesCall, IsGranted, KeepsFrames, GoesOn}
-use Rattle.logged_journal.proofs.CalledJournals.{of-journal, kept-refused, goes-on-refused}
+use Rattle.logged_journal.proofs.CalledJournals.{of-journal, called-slots, kept-refused, goes-on-refused}
 use Rattle.logged_journal.proofs.logged.LoggedJournal.refuse.Given.{Over}
 use Rattle.logged_journal.proofs.logged.LoggedJournal.refuse.Goals as goal
 
@@ -39,7 +40,7 @@ apply-requires g c =
 abbrev before : (g : Over) (c : goal.After-apply g) → LoggedView g.row.D.Denot
 before g c =
     let s = c.self.inside in
-    record { journal = s.journal; log = s.log; disk = s.disk.value; durable = s.durable; failed = s.failed; log_full = s.log_full; peak = s.peak; opened = s.opened }
+    view_of s
 
 does : (g : Over) (c : goal.After-apply g) → DoesCall g.row.SLOTS c.self.inside.journal c.apply.new.self c.args.pass c.args.call.now c.apply.result
 does g c =
@@ -65,6 +66,7 @@ invariant_of-self g c =
     let running = ap (λ (v : LoggedView g.row.D.Denot). v.failed) c.self.view_is ∙ c.requires.running in
     record {
       size = c.self.invariant.size;
+      own = called-slots g.row.SLOTS c.self.inside.journal c.apply.new.self c.args.pass c.args.call.now c.apply.result (does g c) ∙ c.self.invariant.own;
       spelling = c.self.invariant.spelling;
       counted = c.self.invariant.counted;
       kept = kept-refused g.D.Disk.may_leave g.row.SLOTS (before g c) c.apply.new.self c.args.pass c.args.call.now c.apply.result c.self.invariant.kept running (refused g c) (does g c);

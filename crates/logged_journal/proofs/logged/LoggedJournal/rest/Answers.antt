@@ -1,10 +1,11 @@
 use Rattle.std.proofs.Common.{◌≡◌, ◌≤◌, ◌⊎◌, ⊎_elim, [], true, ap, sym, ◌∙◌, subst, arith, rules}
 use Rattle.core_store.specs.declared.marks.Marks.{Marks}
-use Rattle.core_store.specs.JournalView.{cells_of}
+use Rattle.core_store.specs.JournalView.{JournalView, cells_of}
 use Rattle.core_store.specs.Frames.{Agree}
 use Rattle.core_store.specs.Limited.{is_past_limit}
 use Rattle.core_store.specs.RoundView.{Closed}
 use Rattle.core_store.specs.Steppings.{IsReadyForCollector}
+use Rattle.logged_journal.specs.Inside.{view_of}
 use Rattle.logged_journal.specs.View.{LoggedView}
 use Rattle.logged_journal.specs.Calls.{DoesCollect, KeepsFrames, GoesOn}
 use Rattle.logged_journal.proofs.Resting.{kept-same, goes-on-same, at-rest}
@@ -15,7 +16,7 @@ use Rattle.logged_journal.proofs.logged.LoggedJournal.rest.Goals as goal
 abbrev before : (g : Over) (c : goal.After-collect_step g) → LoggedView g.row.D.Denot
 before g c =
     let s = c.self.inside in
-    record { journal = s.journal; log = s.log; disk = s.disk.value; durable = s.durable; failed = s.failed; log_full = s.log_full; peak = s.peak; opened = s.opened }
+    view_of s
 
 does : (g : Over) (c : goal.After-collect_step g) → DoesCollect g.row.SLOTS c.self.inside.journal c.collect_step.new.self c.collect_step.result
 does g c =
@@ -54,6 +55,7 @@ pub invariant_of-self : goal.invariant_of-self
 invariant_of-self g c =
     record {
       size = c.self.invariant.size;
+      own = ap (λ (j : JournalView). j.history.slots) (same g c).1 ∙ c.self.invariant.own;
       spelling = c.self.invariant.spelling;
       counted = c.self.invariant.counted;
       kept = kept-same g.D.Disk.may_leave (before g c) c.collect_step.new.self c.self.inside.journal.round (same g c).0 c.self.inside.log.room (same g c).1 (omega (arith)) c.self.invariant.kept;

@@ -1,8 +1,8 @@
-use Rattle.std.proofs.Common.{◌≤◌, ℕ, List, length, Result, Ok, Err, ⊎_elim, sym, ap, subst, arith, rules}
+use Rattle.std.proofs.Common.{◌≤◌, ℕ, List, length, ◌*◌, ◌∙◌, Result, Ok, Err, ⊎_elim, sym, ap, subst, arith, rules}
 use Rattle.std.specs.Prelude.{IfOk}
 use Rattle.plain_model.specs.History.{History}
 use Rattle.cell_model.specs.Cells.{Cell}
-use Rattle.opened_images.specs.GoesOn.{IsBegun}
+use Rattle.page_marks.specs.Marks.{IsMarkedBegun}
 use Rattle.core_store.specs.JournalView.{JournalView, cells_of}
 use Rattle.core_store.specs.Frames.{AllAgree}
 use Rattle.logged_journal.proofs.logged.LoggedJournal.resume.Goals as goal
@@ -26,18 +26,27 @@ begin-requires-after_bounds g c κs within =
         (
           c.requires.size,
           (
-            made.notes,
+            own,
             (
-              c.requires.standing,
+              ids ∙ ap (λ (n : ℕ). 8 * n) (sym c.requires.marked),
               (
-                begun.0,
-                begun.1,
-                (λ area may. (
-                  length c.args.frames.now,
-                  ids,
-                  subst (λ (s : ℕ). IsBegun s (length c.args.frames.now) area begun.0 j.opening) (sym own)
-                      (subst (λ (cells : List Cell). IsBegun g.row.SLOTS (length c.args.frames.now) area begun.0 cells) (sym made.opening) (begun.2 area may)),
-                )),
+                made.notes,
+                (
+                  c.requires.standing,
+                  (
+                    (
+                      begun.0,
+                      begun.1,
+                      (λ area may. (
+                        length c.args.frames.now,
+                        ids,
+                        subst (λ (s : ℕ). IsMarkedBegun s (length c.args.frames.now) area begun.0 j.opening c.args.marks) (sym own)
+                            (subst (λ (cells : List Cell). IsMarkedBegun g.row.SLOTS (length c.args.frames.now) area begun.0 cells c.args.marks) (sym made.opening) (begun.2 area may)),
+                      )),
+                    ),
+                    c.requires.long,
+                  ),
+                ),
               ),
             ),
           ),
