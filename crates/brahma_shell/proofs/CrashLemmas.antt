@@ -15,8 +15,7 @@ use Rattle.plain_model.specs.declared.calls.Reply.TheVariants.{DiskFault}
 use Rattle.plain_model.specs.declared.calls.Entry.TheVariants.{Call}
 use Rattle.plain_model.specs.History.{with_entry}
 use Rattle.std.specs.Option.{option_map_or}
-use Rattle.logged_journal.specs.declared.failed.FailedCommit.{FailedCommit}
-use Rattle.logged_journal.specs.View.{LoggedView, history_of}
+use Rattle.logged_journal.specs.View.{LoggedView, failed_commit, history_of}
 use Rattle.script_lines.specs.Output.{AppendsFront, EndsWith, crash_line, open_refusal_line}
 use Rattle.brahma_shell.specs.declared.ended.Ended.{Ended}
 use Rattle.brahma_shell.specs.declared.ended.Ended.TheVariants.{Shut, Kept}
@@ -148,9 +147,9 @@ if-err (Err e) P Q R S f p q r = f e p q r
 
 -- a commit that the disk failed leaves the number of ids
 pub history-ids : {D : Type 0} (v : LoggedView D) → (history_of v).ids ≡ v.journal.history.ids
-history-ids v = cases v.failed
+history-ids v = cases (failed_commit v)
   where
-    cases : (o : Option FailedCommit) → (option_map_or (λ f. with_entry v.journal.history (Call f.pass Commit DiskFault)) o v.journal.history).ids ≡ v.journal.history.ids
+    cases : (o : Option ℕ) → (option_map_or (λ client. with_entry v.journal.history (Call client Commit DiskFault)) o v.journal.history).ids ≡ v.journal.history.ids
     cases None = refl
     cases (Some f) = refl
 

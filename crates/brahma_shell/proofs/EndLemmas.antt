@@ -23,8 +23,7 @@ use Rattle.core_store.specs.declared.marks.Marks.{Marks}
 use Rattle.core_store.specs.JournalView.{JournalView, core_of, opening_of}
 use Rattle.core_store.specs.Leads.{AreLed}
 use Rattle.core_store.specs.Safe.{IsDurable}
-use Rattle.logged_journal.specs.declared.failed.FailedCommit.{FailedCommit}
-use Rattle.logged_journal.specs.View.{LoggedView, history_of}
+use Rattle.logged_journal.specs.View.{LoggedView, failed_commit, history_of}
 use Rattle.logged_journal.specs.Records.{MayBeLeft, durable_notes}
 use Rattle.script_lines.specs.Output.{AppendsFront, EndsWith}
 use Rattle.script_lines.proofs.OutputLemmas.{Appends-trans}
@@ -36,12 +35,12 @@ use Rattle.brahma_shell.specs.Follows.{FollowsPart, FollowsTo}
 use Rattle.brahma_shell.specs.Growth.{IsSameStart}
 use Rattle.brahma_shell.specs.Points.{entries_in}
 use Rattle.brahma_shell.specs.Replay.{StopsReplay, FailsReplay, LeavesLog}
-use Rattle.brahma_shell.proofs.LogLemmas.{history-running}
+use Rattle.brahma_shell.proofs.LogLemmas.{none-committed, none-committed_lost, committed, history-uncommitted}
 
 -- ---- the history
 
-history-failed : {D : Type 0} (v : LoggedView D) (f : FailedCommit) → v.failed ≡ Some f → history_of v ≡ with_entry v.journal.history (Call f.pass Commit DiskFault)
-history-failed v f e = rw e refl
+history-failed : {D : Type 0} (v : LoggedView D) (client : ℕ) → failed_commit v ≡ Some client → history_of v ≡ with_entry v.journal.history (Call client Commit DiskFault)
+history-failed v client e = rw e refl
 
 -- a commit that isn't refused would be done
 granted-done : (s : State) (pass : ℕ) → refusal_of s pass Commit ≡ None → (step s pass Commit).0 ≡ Done
@@ -50,27 +49,30 @@ granted-done s pass e = rw e refl
 
 -- the disk failed no commit, or one that would have been done
 abbrev pub FailedGranted : {D : Type 0} → LoggedView D → Type 0
-FailedGranted v = (v.failed ≡ None) ⊎ ((f : FailedCommit) × (v.failed ≡ Some f) × (refusal_of (end_of v.journal.history).state f.pass Commit ≡ None))
+FailedGranted v = (failed_commit v ≡ None) ⊎ ((client : ℕ) × (failed_commit v ≡ Some client) × (refusal_of (end_of v.journal.history).state client Commit ≡ None))
+
+pub granted-running : {D : Type 0} (v : LoggedView D) → v.failed ≡ None → FailedGranted v
+granted-running v e = inl (none-committed v e)
 
 pub legal-history : {D : Type 0} (v : LoggedView D) → IsLegal v.journal.history → is_stopped (end_of v.journal.history) ≡ false → FailedGranted v → IsLegal (history_of v)
 legal-history v legal running f =
     ⊎_elim
-    (λ e. subst IsLegal (sym (history-running v e)) legal)
+    (λ e. subst IsLegal (sym (history-uncommitted v e)) legal)
     (λ h. subst IsLegal (sym (history-failed v h.0 h.1))
-    (IsLegal-with_entry v.journal.history (Call h.0.pass Commit DiskFault) legal (running, record { machine = inr (refl, refl, granted-done (end_of v.journal.history).state h.0.pass h.2); undone = λ e. absurd (cc) })))
+    (IsLegal-with_entry v.journal.history (Call h.0 Commit DiskFault) legal (running, record { machine = inr (refl, refl, granted-done (end_of v.journal.history).state h.0 h.2); undone = λ e. absurd (cc) })))
     f
 
 -- it begins as the journal's
 same-opening : {D : Type 0} (v : LoggedView D) → FailedGranted v → (history_of v).opening ≡ v.journal.history.opening
 same-opening v f =
     ⊎_elim
-    (λ e. ap (λ (h : History). h.opening) (history-running v e))
+    (λ e. ap (λ (h : History). h.opening) (history-uncommitted v e))
     (λ h. ap (λ (h : History). h.opening) (history-failed v h.0 h.1))
     f
 
 -- a replay stops where no commit failed, or at one that would have been done
 pub stops-granted : {D : Type 0} (faults : D → ℕ) (s : Stop) (number : ℕ) (source left before written : Option (List ℕ)) (old v : LoggedView D) → StopsReplay s number source left before written v.journal × LeavesLog faults s old v ⊎ FailsReplay faults s number source before written old v → FailedGranted v
-stops-granted {D} faults s number source left before written old v h = ⊎_elim (λ h. inl (leaves s h.1)) (λ h. inr (fails s h)) h
+stops-granted {D} faults s number source left before written old v h = ⊎_elim (λ h. granted-running v (leaves s h.1)) (λ h. fails s h) h
   where
     leaves : (s : Stop) → LeavesLog faults s old v → v.failed ≡ None
     leaves (stop.Line k) g = g.running
@@ -80,16 +82,18 @@ stops-granted {D} faults s number source left before written old v h = ⊎_elim 
     leaves stop.Full g = g.running
     leaves stop.LogFull g = g.running
     leaves stop.Fault g = g.running
+    leaves stop.UpkeepFault g = g.running
     leaves stop.Stopped g = g.running
 
-    fails : (s : Stop) → FailsReplay faults s number source before written old v → (f : FailedCommit) × (v.failed ≡ Some f) × (refusal_of (end_of v.journal.history).state f.pass Commit ≡ None)
+    fails : (s : Stop) → FailsReplay faults s number source before written old v → FailedGranted v
     fails (stop.Line k) h = absurd h
     fails stop.Read h = absurd h
-    fails stop.Write h = (record { pass = h.0; faults = faults v.disk }, h.1.told, h.1.granted)
+    fails stop.Write h = inr (h.0, committed faults h.0 old v h.1, h.1.granted)
     fails stop.Memory h = absurd h
     fails stop.Full h = absurd h
     fails stop.LogFull h = absurd h
-    fails stop.Fault h = (record { pass = h.0; faults = faults v.disk }, h.1.told, h.1.granted)
+    fails stop.Fault h = inr (h.0, committed faults h.0 old v h.1, h.1.granted)
+    fails stop.UpkeepFault h = inl (none-committed_lost faults old v h.0)
     fails stop.Stopped h = absurd h
 
 -- ---- what is written
@@ -181,6 +185,7 @@ stops-later {D} faults s number source left before written old v h = ⊎_elim (�
     leaves stop.Full g = g.later
     leaves stop.LogFull g = g.later
     leaves stop.Fault g = g.later
+    leaves stop.UpkeepFault g = g.later
     leaves stop.Stopped g = g.later
 
     fails : (s : Stop) → FailsReplay faults s number source before written old v → faults old.disk ≤ faults v.disk
@@ -191,4 +196,5 @@ stops-later {D} faults s number source left before written old v h = ⊎_elim (�
     fails stop.Full h = absurd h
     fails stop.LogFull h = absurd h
     fails stop.Fault h = h.1.later
+    fails stop.UpkeepFault h = h.0.later
     fails stop.Stopped h = absurd h

@@ -10,10 +10,10 @@ use Rattle.std.specs.Prelude.{Option, Some, None, IfSome}
 use Rattle.std.proofs.lemmas.List.{map-append}
 use Rattle.std.proofs.lemmas.List.Sums.{fold-append}
 use Rattle.script_lines.specs.declared.grammar.Line.{Line}
-use Rattle.script_lines.specs.declared.grammar.Line.TheVariants.{Nothing, Ask, Abort, Undo, CollectStep, CollectAll, Crash}
+use Rattle.script_lines.specs.declared.grammar.Line.TheVariants.{Nothing, Ask, Abort, Undo, CollectStep, CollectAll, Clean, Turn, Crash}
 use Rattle.script_lines.specs.Grammar.{meaning_of}
 use Rattle.brahma_shell.specs.Points.{Point, after_note, after_notes, start_point, point_of}
-use Rattle.brahma_shell.specs.Runs.{Event, Noted, noted, after_event, after_events, since_opening}
+use Rattle.brahma_shell.specs.Runs.{Event, Noted, noted, after_event, after_events, ids_at, end_point, since_opening}
 use Rattle.brahma_shell.specs.Replay.{LineNotes}
 use Rattle.brahma_shell.specs.Growth.{Grows}
 use Rattle.brahma_shell.specs.Follows.{Gives, GivesEvents, LineGives, Follows, FollowsLines}
@@ -43,6 +43,8 @@ gives-events p (Abort client) notes g = (notes, refl, g)
 gives-events p (Undo client) notes g = (notes, refl, g)
 gives-events p CollectStep notes g = (notes, refl, g)
 gives-events p CollectAll notes g = (notes, refl, g)
+gives-events p (Clean page) notes g = (notes, refl, g)
+gives-events p Turn notes g = (notes, refl, g)
 gives-events p (Crash pick) notes g = absurd g
 
 some-more : (o : Option Line) (P Q : Line → Type 0) → ((line : Line) → P line → Q line) → IfSome o P → IfSome o Q
@@ -64,6 +66,14 @@ Follows-push p number (l ∷ ls) events line more h g =
     let count : number + length (l ∷ ls) ≡ number + 1 + length ls = omega arith in
     let there : LineGives (after_events (after_events p h.0) h.1) (number + 1 + length ls) line more = subst (λ k. LineGives (after_events (after_events p h.0) h.1) k line more) count (subst (λ n. LineGives n (number + length (l ∷ ls)) line more) point g) in
     (h.0, h.1 ++ more, ap (λ (xs : List Event). xs ++ more) h.2 ∙ append_assoc h.0 h.1 more, h.3, Follows-push (after_events p h.0) (number + 1) ls h.1 line more h.4 there)
+
+-- the point at the end of what a journal has noted
+pub end-since : (k : ℕ) (j : JournalView) → end_point (since_opening k j) ≡ point_of j
+end-since k j = after-noted (start_point j) j.notes
+
+-- how many ids the store has there
+pub ids-since : (k : ℕ) (j : JournalView) → ids_at (end_point (since_opening k j)) ≡ ids_at (point_of j)
+ids-since k j = ap ids_at (end-since k j)
 
 -- the lines since an opening, and one behind them
 pub FollowsLines-push : (k : ℕ) (lines : List (List ℕ)) (line : List ℕ) (a b : JournalView) (more : List Note) (n : ℕ) → length lines ≡ n → FollowsLines lines (since_opening k a) → Grows a b more → LineNotes (point_of a) (k + n) line more → FollowsLines (lines ++ line ∷ []) (since_opening k b)

@@ -197,6 +197,7 @@ all-stops stop.LogFull a b d popped w x y c h =
     let p = h.1 in
     (text_of (entries_in c.notes) ++ h.0, cut-more a b d popped w x p.notes h.0 c p.grows (each-cut p.notes CollectStep p.cut) p.printed, h.2 ∙ c.unmarked, Appends-trans w x y (text_of (entries_in c.notes)) h.0 c.printed h.3)
 all-stops stop.Fault a b d popped w x y c h = absurd h
+all-stops stop.UpkeepFault a b d popped w x y c h = absurd h
 all-stops stop.Stopped a b d popped w x y c h = absurd h
 
 -- ---- its loop

@@ -5,12 +5,12 @@ use Rattle.std.specs.Io.KnownBytes.{prepend_known}
 use Rattle.std.proofs.lemmas.List.{append-nil}
 use Rattle.cell_model.specs.Cells.{Cell}
 use Rattle.script_lines.specs.declared.grammar.Line.{Line}
-use Rattle.script_lines.specs.Grammar.{IsAccepted}
+use Rattle.script_lines.specs.Grammar.{IsAccepted, IsRefused}
 use Rattle.script_lines.specs.Lines.{lines_of, line_feeds, whole_lines_of}
 use Rattle.script_lines.specs.Reading.{TakesLine, TakesLastLine}
 use Rattle.script_lines.proofs.LineLemmas.{line_feeds-append}
 use Rattle.brahma_shell.specs.Points.{Point}
-use Rattle.brahma_shell.specs.Runs.{Event, Reopened, noted, after_events, Stretch}
+use Rattle.brahma_shell.specs.Runs.{Event, Reopened, noted, after_events, ids_at, Stretch, end_point}
 use Rattle.brahma_shell.specs.Follows.{LineGives, GivesEvents, IsPartOfFirst, Follows, FollowsLines, FollowsAll, FollowsUpTo, FollowsRead, FollowsPart, FollowsTo, FollowsToCrash}
 use Rattle.brahma_shell.specs.Replay.{AsksCrash, HasTaken, HasFollowed}
 use Rattle.brahma_shell.proofs.FollowLemmas.{after_events-append, Follows-push}
@@ -44,6 +44,14 @@ take-more (x ∷ xs) ys k =
     ap (λ (i : ℕ). take i (x ∷ (xs ++ ys))) next ∙ ap (λ (zs : List (List ℕ)). x ∷ zs) (take-more xs ys k)
 
 module _ (s t : Stretch) (n : ℕ) (next : IsNextOf s t n) where
+  -- the point behind some events of the other stretch
+  point-joined : (events : List Event) → after_events s.start (s.events ++ events) ≡ after_events t.start events
+  point-joined events = after_events-append s.start s.events events ∙ ap (λ (p : Point). after_events p events) next.point
+
+  -- how many ids the store has there
+  pub ids-joined : ids_at (end_point (joined s t.events)) ≡ ids_at (end_point t)
+  ids-joined = ap ids_at (point-joined t.events)
+
   pub lines-joined : (ls ms : List (List ℕ)) → length ls ≡ n → FollowsLines ls s → FollowsLines ms t → FollowsLines (ls ++ ms) (joined s t.events)
   lines-joined ls ms count f g =
       let place : t.number ≡ s.number + length ls = omega (arith, next.place, count) in
@@ -69,7 +77,7 @@ module _ (s t : Stretch) (n : ℕ) (next : IsNextOf s t n) where
     behind = h.behind;
     parts = lines-taken bytes xs f ∙ ap (λ (ls : List (List ℕ)). f.done ++ ls) h.parts ∙ sym (append_assoc f.done h.before (h.line ∷ h.behind));
     place = omega (arith, h.place, next.place, f.count, length-append f.done h.before);
-    refused = h.refused;
+    refused = subst (λ i. IsRefused i number h.line) (sym ids-joined) h.refused;
     follows = lines-joined f.done h.before f.count f.follows h.follows;
   }
 
@@ -102,7 +110,7 @@ module _ (s t : Stretch) (n : ℕ) (next : IsNextOf s t n) where
         part = h.part;
         events = ap (λ (es : List Event). s.events ++ es) h.events ∙ sym (append_assoc s.events h.done (noted h.part));
         follows = Follows-append s.start s.number f.done s.events h.before h.done f.follows follows;
-        next = subst (λ k. IsPartOfFirst k h.behind h.part) place h.next;
+        next = subst (λ i. IsPartOfFirst i (s.number + length (f.done ++ h.before)) h.behind h.part) (sym (ap ids_at (point-joined h.done))) (subst (λ k. IsPartOfFirst (ids_at (after_events t.start h.done)) k h.behind h.part) place h.next);
       }
 
   pub FollowsTo-joined : (start mid : Option (List ℕ)) (asked : Line) → HasFollowed start mid n s → FollowsTo mid asked t → FollowsTo start asked (joined s t.events)
@@ -115,7 +123,7 @@ module _ (s t : Stretch) (n : ℕ) (next : IsNextOf s t n) where
         line = h.line;
         behind = h.behind;
         parts = lines-taken bytes xs f ∙ ap (λ (ls : List (List ℕ)). f.done ++ ls) h.parts ∙ sym (append_assoc f.done h.before (h.line ∷ h.behind));
-        accepted = subst (λ k. IsAccepted k h.line) place h.accepted;
+        accepted = subst (λ i. IsAccepted i (s.number + length (f.done ++ h.before)) h.line) (sym ids-joined) (subst (λ k. IsAccepted (ids_at (end_point t)) k h.line) place h.accepted);
         asks = h.asks;
         follows = lines-joined f.done h.before f.count f.follows h.follows;
       }
@@ -137,15 +145,15 @@ module _ (s t : Stretch) (n : ℕ) (next : IsNextOf s t n) where
 -- ---- a line at which power is lost
 
 -- it gives that the store is opened again
-gives-crash : (p : Point) (number pick ids : ℕ) (cells : List Cell) (line : List ℕ) → AsksCrash number line pick → LineGives p number line (Reopened ids cells ∷ [])
+gives-crash : (p : Point) (number pick ids : ℕ) (cells : List Cell) (line : List ℕ) → AsksCrash (ids_at p) number line pick → LineGives p number line (Reopened ids cells ∷ [])
 gives-crash p number pick ids cells line asks =
     (asks.0, subst (λ (o : Option Line). IfSome o (λ l. GivesEvents p l (Reopened ids cells ∷ []))) (sym asks.1) (ids, cells, refl))
 
-module _ (s : Stretch) (n pick : ℕ) (line : List ℕ) (asks : AsksCrash (s.number + n) line pick) where
+module _ (s : Stretch) (n pick : ℕ) (line : List ℕ) (asks : AsksCrash (ids_at (end_point s)) (s.number + n) line pick) where
   -- the lines, and this one behind them
   lines-crashed : (ids : ℕ) (cells : List Cell) (ls : List (List ℕ)) → length ls ≡ n → FollowsLines ls s → FollowsLines (ls ++ line ∷ []) (joined s (Reopened ids cells ∷ []))
   lines-crashed ids cells ls count f =
-      Follows-push s.start s.number ls s.events line (Reopened ids cells ∷ []) f (gives-crash (after_events s.start s.events) (s.number + length ls) pick ids cells line (subst (λ k. AsksCrash (s.number + k) line pick) (sym count) asks))
+      Follows-push s.start s.number ls s.events line (Reopened ids cells ∷ []) f (gives-crash (after_events s.start s.events) (s.number + length ls) pick ids cells line (subst (λ k. AsksCrash (ids_at (end_point s)) (s.number + k) line pick) (sym count) asks))
 
   pub HasFollowed-crashed : (start mid left : Option (List ℕ)) (ids : ℕ) (cells : List Cell) → HasFollowed start mid n s → TakesLine mid left line → HasFollowed start left (n + 1) (joined s (Reopened ids cells ∷ []))
   HasFollowed-crashed None mid left ids cells f t = tt
@@ -183,7 +191,7 @@ module _ (s : Stretch) (n pick : ℕ) (line : List ℕ) (asks : AsksCrash (s.num
       line = line;
       behind = l.0;
       parts = ap lines_of f.parts ∙ f.lines xs ∙ ap (λ (ls : List (List ℕ)). f.done ++ ls) l.1;
-      accepted = subst (λ k. IsAccepted (s.number + k) line) (sym f.count) asks.0;
+      accepted = subst (λ k. IsAccepted (ids_at (end_point s)) (s.number + k) line) (sym f.count) asks.0;
       asks = asks.1;
       follows = f.follows;
     },
@@ -192,9 +200,9 @@ module _ (s : Stretch) (n pick : ℕ) (line : List ℕ) (asks : AsksCrash (s.num
 -- ---- all that is taken
 
 -- nothing more is asked of the lines that are left
-no_part : (number : ℕ) (lines : List (List ℕ)) → IsPartOfFirst number lines []
-no_part number [] = refl
-no_part number (l ∷ ls) = inl refl
+no_part : (ids number : ℕ) (lines : List (List ℕ)) → IsPartOfFirst ids number lines []
+no_part ids number [] = refl
+no_part ids number (l ∷ ls) = inl refl
 
 pub FollowsPart-done : (start left : Option (List ℕ)) (n : ℕ) (s : Stretch) → HasFollowed start left n s → FollowsPart start s
 FollowsPart-done None left n s f = tt
@@ -207,5 +215,5 @@ FollowsPart-done (Some bytes) (Some xs) n s f = record {
   part = [];
   events = sym (append-nil s.events);
   follows = f.follows;
-  next = no_part (s.number + length f.done) (lines_of xs);
+  next = no_part (ids_at (end_point s)) (s.number + length f.done) (lines_of xs);
 }

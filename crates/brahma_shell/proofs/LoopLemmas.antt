@@ -1,6 +1,6 @@
 -- How a replay goes on from one loss of power to the next, and how each of its stretches ends it.
 use Rattle.std.proofs.Common.{◌≡◌, ◌⊎◌, ⊎_elim, inl, inr, ◌≤◌, ℕ, ◌+◌, Bool, true, false, List, [], ◌++◌, Option, Some, None, refl, sym, ap, subst, ◌∙◌, arith, Err}
-use Rattle.std.specs.Prelude.{Result, Ok, IfOk, IfSome, MatchBool, codes, option_map}
+use Rattle.std.specs.Prelude.{Result, Ok, IfOk, IfSome, MatchBool, codes}
 use Rattle.std.specs.Io.KnownBytes.{prepend_known, Appends}
 use Rattle.plain_model.specs.History.{History, IsLegal}
 use Rattle.plain_model.specs.Text.{text_of, stored_line}
@@ -33,17 +33,19 @@ use Rattle.brahma_shell.specs.declared.ended.Ended.TheVariants.{Shut, Kept}
 use Rattle.brahma_shell.specs.declared.replay.Reached.{Reached}
 use Rattle.brahma_shell.specs.declared.replay.Stop.{Stop}
 use Rattle.brahma_shell.specs.declared.replay.Stop.TheVariants as stop
-use Rattle.brahma_shell.specs.Follows.{FollowsAll, FollowsPart, FollowsToCommit}
+use Rattle.brahma_shell.specs.Follows.{FollowsAll, FollowsPart, FollowsToCommit, FollowsToUpkeep}
 use Rattle.brahma_shell.specs.Growth.{IsSameStart}
 use Rattle.brahma_shell.specs.Log.{WasLogFull}
 use Rattle.brahma_shell.specs.Replay.{HasFollowed, AsksCrash, ComesToCrash, StopsReplay, FailsReplay, LeavesLog, LeavesMarks, status_of, last_line}
-use Rattle.brahma_shell.specs.Runs.{Run, whole, since_opening}
+use Rattle.brahma_shell.specs.Runs.{Run, whole, ids_at, end_point, since_opening}
 use Rattle.brahma_shell.specs.Top.{Tell, IsJustOpened, IsOfReplay, Outside, outside, Ends, EndsAtCrash, Replayed, text_in, whole_text, stored_at_end, status_of_refusal}
 use Rattle.brahma_shell.specs.Crashes.{Reopens, StaysShut, StopsCrash, shut, unwritten, reopened_line}
 use Rattle.brahma_shell.proofs.EndLemmas.{FailedGranted, of-replay, of-opened, sound-opening, off, front-kept, nothing-more, FollowsPart-to}
-use Rattle.brahma_shell.proofs.LogLemmas.{history-running}
+use Rattle.brahma_shell.proofs.LogLemmas.{history-running, none-committed, committed}
+use Rattle.brahma_shell.proofs.FollowLemmas.{ids-since}
+use Rattle.brahma_shell.proofs.PointLemmas.{ids_of_point}
 use Rattle.brahma_shell.proofs.ReplayLemmas.{HasLine, HasLine-whole, HasLine-last}
-use Rattle.brahma_shell.proofs.JoinLemmas.{IsNextOf, FollowsAll-joined, FollowsUpTo-joined, FollowsRead-joined, FollowsPart-joined, FollowsTo-joined, HasFollowed-joined, HasFollowed-crashed, FollowsAll-crashed, FollowsToCrash-here, FollowsPart-done}
+use Rattle.brahma_shell.proofs.JoinLemmas.{IsNextOf, ids-joined, FollowsAll-joined, FollowsUpTo-joined, FollowsRead-joined, FollowsPart-joined, FollowsTo-joined, HasFollowed-joined, HasFollowed-crashed, FollowsAll-crashed, FollowsToCrash-here, FollowsPart-done}
 use Rattle.brahma_shell.proofs.RunLemmas.{first_run, extended, reopened, StandsAt, stands-first, last-extended, next-of, text-extended, legal-extended, exit-extended, stored-extended, text-reopened, stands-again, exit-standing, stored-standing}
 use Rattle.brahma_shell.proofs.RunEnds.{AtEnd, AtLoss, ends-done, ends-refused, ends-read, ends-write, ends-memory, ends-limit, ends-fault, ends-lost-disk, ends-lost-memory, ends-lost-store}
 use Rattle.brahma_shell.proofs.TopLemmas.{EndsWith-after, FollowsPart-all}
@@ -87,7 +89,7 @@ comes-first content may_leave source written pending v none just journal =
 
 -- ---- the end of a script
 
--- the journal and its log are not marked, and the disk failed no commit
+-- the journal and its log are not marked, and the disk failed no commit and no upkeep
 pub record StaysUnmarked {D : Type 0} (v : LoggedView D) : Type 0 where
   pub running : v.failed ≡ None
   pub trace : v.journal.marks.trace ≡ false
@@ -164,7 +166,7 @@ module _ {D : Type 0} (content : D → Area → Option (List ℕ)) (may_leave : 
   then-text = text-extended content come.run v w come.stands same journal.entries
 
   then-running : w.failed ≡ None → (extended come.run w).failed ≡ None
-  then-running e = ap (option_map (λ f. f.pass)) e
+  then-running e = none-committed w e
 
   -- what is printed by then
   pub then-printed : (written : Option (List ℕ)) → Appends mid written (text_of (history_of w).entries) → Appends before written (text_in (extended come.run w))
@@ -180,6 +182,9 @@ module _ {D : Type 0} (content : D → Area → Option (List ℕ)) (may_leave : 
   running-front written e a = subst (λ (h : History). AppendsFront mid written (text_of h.entries)) (sym (history-running w e)) a
 
   -- what is known at the end
+  then-ids : Tell content → ids_at (end_point (whole (extended come.run w))) ≡ (extended come.run w).ids
+  then-ids tell = ids-joined (whole come.run) (since_opening number w.journal) come.lines then-next ∙ ids-since number w.journal ∙ ids_of_point w.journal ∙ ap (λ (h : History). h.ids) same.history ∙ sym (come.stands.ids tell)
+
   then-end : (disk : D) (b a : Outside) → ReadsAs content 6 disk cells → AtEnd content may_leave disk b a (extended come.run w) w
   then-end disk b a reads = record {
     opened = subst (ReadsAs content 6 disk) (sym come.opened) reads;
@@ -187,6 +192,7 @@ module _ {D : Type 0} (content : D → Area → Option (List ℕ)) (may_leave : 
     last = last-extended content come.run v w come.stands same journal.entries;
     journal = journal;
     exit = exit-extended content come.run v w come.stands same journal.entries may_leave w.disk journal.opens;
+    same_ids = then-ids;
   }
 
   then-stored : w.failed ≡ None → stored_line (stored_at_end (extended come.run w)) ≡ stored_line (end_of w.journal.history).state.stored
@@ -252,6 +258,9 @@ module _ {D : Type 0} (content : D → Area → Option (List ℕ)) (may_leave : 
         to-commit : (client : ℕ) → FollowsToCommit left client (since_opening number w.journal) → FollowsToCommit source client (whole r)
         to-commit client f = FollowsTo-joined (whole come.run) (since_opening number w.journal) come.lines then-next source left (Ask client Commit) come.followed f
 
+        to-upkeep : FollowsToUpkeep left (since_opening number w.journal) → FollowsToUpkeep source (whole r)
+        to-upkeep f = (f.0, f.1, FollowsTo-joined (whole come.run) (since_opening number w.journal) come.lines then-next source left f.0 come.followed f.2)
+
         stops : (s : Stop) → LeavesMarks (Err s) v.journal w.journal → StopsReplay s number left left_now mid mid_out w.journal → LeavesLog faults s v w → (s ≡ stop.Read → Rose reads_0 reads_1) → (s ≡ stop.Write → Rose faults_0 count)
             → EndsWith mid_out written count faults_1 [] (last_line s) → Replayed content may_leave script later disk b a (status_of s) (Kept w)
         stops (stop.Line n) m h g rr rw e =
@@ -273,6 +282,7 @@ module _ {D : Type 0} (content : D → Area → Option (List ℕ)) (may_leave : 
             ends-limit content may_leave script later disk b a r w k (then-running g.running) (part h.0)
             (inr (record { marked = (trace m, g.marked); full = log_full g.marked; printed = last (codes "refused: log\n") (running-text mid_out g.running h.1) e }))
         stops stop.Fault m h g rr rw e = absurd h
+        stops stop.UpkeepFault m h g rr rw e = absurd h
         stops stop.Stopped m h g rr rw e = absurd h
 
         fails : (s : Stop) → LeavesMarks (Err s) v.journal w.journal → FailsReplay faults s number left mid mid_out v w → (s ≡ stop.Write → Rose faults_0 count)
@@ -283,7 +293,7 @@ module _ {D : Type 0} (content : D → Area → Option (List ℕ)) (may_leave : 
             let lost = h.1 in
             let rose : Rose faults_0 faults_1 = omega (arith, rw refl, le) in
             let commit = to-commit h.0 h.2 in
-            let told : r.failed ≡ Some h.0 = ap (option_map (λ f. f.pass)) lost.told in
+            let told : r.failed ≡ Some h.0 = committed faults h.0 v w lost in
             ends-write content may_leave script later disk b a r w k (trace m) (log lost.log_full) rose (FollowsPart-to source (Ask h.0 Commit) (whole r) commit) (front h.3 e)
             (subst (λ (o : Option ℕ). IfSome o (λ client. FollowsToCommit source client (whole r))) (sym told) commit)
         fails stop.Memory m h rw e = absurd h
@@ -293,7 +303,12 @@ module _ {D : Type 0} (content : D → Area → Option (List ℕ)) (may_leave : 
             let lost = h.1 in
             let rose : Rose disk_0 (faults w.disk) = omega (arith, disk_le, lost.rose) in
             ends-fault content may_leave script later disk b a r w k (trace m) (log lost.log_full) rose
-            (record { commit = record { pass = h.0; faults = faults w.disk }; told = lost.told; follows = to-commit h.0 h.2; printed = last (codes "refused: disk\n") h.3 e })
+            (inl (record { client = h.0; faults = faults w.disk; told = lost.told; follows = to-commit h.0 h.2; printed = last (codes "refused: disk\n") h.3 e }))
+        fails stop.UpkeepFault m h rw e =
+            let lost = h.0 in
+            let rose : Rose disk_0 (faults w.disk) = omega (arith, disk_le, lost.rose) in
+            ends-fault content may_leave script later disk b a r w k (trace m) (log lost.log_full) rose
+            (inr (record { faults = faults w.disk; told = lost.told; follows = to-upkeep h.1; printed = last (codes "refused: disk\n") h.2 e }))
         fails stop.Stopped m h rw e = absurd h
 
   -- ---- power is lost behind it
@@ -307,8 +322,11 @@ module _ {D : Type 0} (content : D → Area → Option (List ℕ)) (may_leave : 
     crash-place : number + n ≡ 1 + (come.lines + n)
     crash-place = omega (arith, come.place)
 
-    crash-asks : AsksCrash (1 + (come.lines + n)) comes.line pick
-    crash-asks = subst (λ k. AsksCrash k comes.line pick) crash-place comes.asks
+    crash-ids : ids_at (end_point (whole (extended come.run w))) ≡ ids_at (end_point (since_opening number w.journal))
+    crash-ids = ids-joined (whole come.run) (since_opening number w.journal) come.lines then-next
+
+    crash-asks : AsksCrash (ids_at (end_point (whole (extended come.run w)))) (1 + (come.lines + n)) comes.line pick
+    crash-asks = subst (λ i. AsksCrash i (1 + (come.lines + n)) comes.line pick) (sym crash-ids) (subst (λ k. AsksCrash (ids_at (end_point (since_opening number w.journal))) k comes.line pick) crash-place comes.asks)
 
     crash-followed : HasFollowed source comes.mid (come.lines + n) (whole (extended come.run w))
     crash-followed = HasFollowed-joined (whole come.run) (since_opening number w.journal) come.lines then-next source left comes.mid n come.followed comes.before
@@ -337,6 +355,7 @@ module _ {D : Type 0} (content : D → Area → Option (List ℕ)) (may_leave : 
           opened = subst (ReadsAs content 6 disk) (sym come.opened) reads;
           legal = legal-extended content come.run v w come.stands same journal.entries journal.legal;
           exit = λ tell. exit-extended content come.run v w come.stands same journal.entries may_leave now (x.opens tell) tell;
+          same_ids = then-ids;
         }
 
         at : (line : List ℕ) → EndsWith mid_out written count faults_1 [] line → EndsAtCrash b a r line
@@ -403,9 +422,10 @@ module _ {D : Type 0} (content : D → Area → Option (List ℕ)) (may_leave : 
         again-end b a = record {
           opened = subst (ReadsAs content 6 disk) (sym come.opened) reads;
           legal = again-stands.legal;
-          last = record { events = again-stands.last; failed = sym (ap (option_map (λ f. f.pass)) again.just.running) };
+          last = record { events = again-stands.last; failed = sym (none-committed new again.just.running) };
           journal = again.journal;
           exit = exit-standing content (reopened (extended come.run w) new) new again-stands may_leave new.disk again.journal.opens;
+          same_ids = λ tell. ap ids_at again-stands.point ∙ sym (again-stands.ids tell);
         }
 
         again-unmarked : StaysUnmarked new

@@ -13,8 +13,8 @@ use Rattle.logged_journal.specs.Opens.{OpensAfter}
 use Rattle.script_lines.specs.Output.{AppendsFront, refused_line, open_refusal_line}
 use Rattle.brahma_shell.specs.declared.ended.Ended.TheVariants.{Shut, Kept}
 use Rattle.brahma_shell.specs.Follows.{FollowsAll, FollowsUpTo, FollowsRead, FollowsPart, FollowsToCommit}
-use Rattle.brahma_shell.specs.Runs.{Run, run_history, whole, IsLastOf}
-use Rattle.brahma_shell.specs.Top.{Tell, IsOfReplay, Outside, Ends, EndsAtCommit, EndsAtCrash, EndsAtHistory, EndsAtLog, Replayed, text_in, whole_text, status_of_refusal}
+use Rattle.brahma_shell.specs.Runs.{Run, run_history, whole, ids_at, end_point, IsLastOf}
+use Rattle.brahma_shell.specs.Top.{Tell, IsOfReplay, Outside, Ends, EndsAtCommit, EndsAtUpkeep, EndsAtCrash, EndsAtHistory, EndsAtLog, Replayed, text_in, whole_text, status_of_refusal}
 use Rattle.brahma_shell.proofs.EndLemmas.{both-unmarked}
 use Rattle.brahma_shell.proofs.TopLemmas.{none-refused}
 
@@ -28,12 +28,14 @@ pub record AtEnd {D : Type 0} (content : D → Area → Option (List ℕ)) (may_
   pub last : IsLastOf r v
   pub journal : IsOfReplay may_leave v
   pub exit : Tell content → EachImage may_leave v.disk (OpensAfter 6 (run_history r))
+  pub same_ids : Tell content → ids_at (end_point (whole r)) ≡ r.ids
 
 -- and of each that hands the disk back
 pub record AtLoss {D : Type 0} (content : D → Area → Option (List ℕ)) (may_leave : D → Area → List ℕ → Type 0) (disk now : D) (r : Run) : Type 0 where
   pub opened : ReadsAs content 6 disk r.opening
   pub legal : Tell content → IsLegal (run_history r)
   pub exit : Tell content → EachImage may_leave now (OpensAfter 6 (run_history r))
+  pub same_ids : Tell content → ids_at (end_point (whole r)) ≡ r.ids
 
 module _ {S D : Type 0} (content : D → Area → Option (List ℕ)) (may_leave : D → Area → List ℕ → Type 0) (script later : S) (disk : D) (before after : Outside) (r : Run) where
   -- each line was done
@@ -42,6 +44,7 @@ module _ {S D : Type 0} (content : D → Area → Option (List ℕ)) (may_leave 
     run = r;
     opened = k.opened;
     legal = k.legal;
+    same_ids = k.same_ids;
     journal = (k.last, k.journal);
     exit = k.exit;
     statuses = inl refl;
@@ -68,6 +71,7 @@ module _ {S D : Type 0} (content : D → Area → Option (List ℕ)) (may_leave 
     run = r;
     opened = k.opened;
     legal = k.legal;
+    same_ids = k.same_ids;
     journal = (k.last, k.journal);
     exit = k.exit;
     statuses = inr (inl refl);
@@ -94,6 +98,7 @@ module _ {S D : Type 0} (content : D → Area → Option (List ℕ)) (may_leave 
     run = r;
     opened = k.opened;
     legal = k.legal;
+    same_ids = k.same_ids;
     journal = (k.last, k.journal);
     exit = k.exit;
     statuses = inr (inr (inl refl));
@@ -120,6 +125,7 @@ module _ {S D : Type 0} (content : D → Area → Option (List ℕ)) (may_leave 
     run = r;
     opened = k.opened;
     legal = k.legal;
+    same_ids = k.same_ids;
     journal = (k.last, k.journal);
     exit = k.exit;
     statuses = inr (inr (inr (inl refl)));
@@ -146,6 +152,7 @@ module _ {S D : Type 0} (content : D → Area → Option (List ℕ)) (may_leave 
     run = r;
     opened = k.opened;
     legal = k.legal;
+    same_ids = k.same_ids;
     journal = (k.last, k.journal);
     exit = k.exit;
     statuses = inr (inr (inr (inr (inr (inr (inl refl))))));
@@ -172,6 +179,7 @@ module _ {S D : Type 0} (content : D → Area → Option (List ℕ)) (may_leave 
     run = r;
     opened = k.opened;
     legal = k.legal;
+    same_ids = k.same_ids;
     journal = (k.last, k.journal);
     exit = k.exit;
     statuses = inr (inr (inr (inr (inr (inr (inr refl))))));
@@ -192,12 +200,13 @@ module _ {S D : Type 0} (content : D → Area → Option (List ℕ)) (may_leave 
     failed = λ some. absurd (none-failed r running some);
   }
 
-  -- the disk failed a commit
-  pub ends-fault : (v : LoggedView D) → AtEnd content may_leave disk before after r v → v.journal.marks.trace ≡ false → v.log_full ≡ false → Rose before.disk_faults after.disk_faults → EndsAtCommit before after r v → Replayed content may_leave script later disk before after 6 (Kept v)
-  ends-fault v k trace log rose commit = record {
+  -- the disk failed a commit, or upkeep
+  pub ends-fault : (v : LoggedView D) → AtEnd content may_leave disk before after r v → v.journal.marks.trace ≡ false → v.log_full ≡ false → Rose before.disk_faults after.disk_faults → EndsAtCommit before after r v ⊎ EndsAtUpkeep before after r v → Replayed content may_leave script later disk before after 6 (Kept v)
+  ends-fault v k trace log rose failed = record {
     run = r;
     opened = k.opened;
     legal = k.legal;
+    same_ids = k.same_ids;
     journal = (k.last, k.journal);
     exit = k.exit;
     statuses = inr (inr (inr (inr (inl refl))));
@@ -208,7 +217,7 @@ module _ {S D : Type 0} (content : D → Area → Option (List ℕ)) (may_leave 
     refused = λ e. absurd (omega (arith, e));
     read = λ e. absurd (omega (arith, e));
     write = λ e. absurd (omega (arith, e));
-    failed_disk = λ _. (rose, commit);
+    failed_disk = λ _. (rose, failed);
     disk_crash = λ _ e. absurd (cc);
     store = λ e. absurd (omega (arith, e));
     memory = λ e _. absurd (omega (arith, e));
@@ -224,6 +233,7 @@ module _ {S D : Type 0} (content : D → Area → Option (List ℕ)) (may_leave 
     run = r;
     opened = k.opened;
     legal = k.legal;
+    same_ids = k.same_ids;
     journal = tt;
     exit = k.exit;
     statuses = inr (inr (inr (inr (inl refl))));
@@ -250,6 +260,7 @@ module _ {S D : Type 0} (content : D → Area → Option (List ℕ)) (may_leave 
     run = r;
     opened = k.opened;
     legal = k.legal;
+    same_ids = k.same_ids;
     journal = tt;
     exit = k.exit;
     statuses = inr (inr (inr (inr (inr (inr (inl refl))))));
@@ -276,6 +287,7 @@ module _ {S D : Type 0} (content : D → Area → Option (List ℕ)) (may_leave 
     run = r;
     opened = k.opened;
     legal = k.legal;
+    same_ids = k.same_ids;
     journal = tt;
     exit = k.exit;
     statuses = inr (inr (inr (inr (inr (inl refl)))));

@@ -1,6 +1,5 @@
 -- How a run goes on, from one opening of the store to the next.
 use Rattle.std.proofs.Common.{◌≡◌, ⊎_elim, inl, inr, ℕ, ◌+◌, List, [], ◌∷◌, ◌++◌, map, Option, Some, None, append_assoc, length, refl, sym, ap, subst, ◌∙◌}
-use Rattle.std.specs.Prelude.{option_map}
 use Rattle.std.specs.Option.{option_map_or}
 use Rattle.std.specs.Io.KnownBytes.{Appends}
 use Rattle.std.proofs.lemmas.List.{append-nil, map-append}
@@ -19,8 +18,7 @@ use Rattle.disk_model.specs.declared.area.Area.{Area}
 use Rattle.disk_model.specs.Told.{EachImage}
 use Rattle.core_store.specs.declared.note.Note.{Note}
 use Rattle.core_store.specs.Opening.{opened_history}
-use Rattle.logged_journal.specs.declared.failed.FailedCommit.{FailedCommit}
-use Rattle.logged_journal.specs.View.{LoggedView, history_of}
+use Rattle.logged_journal.specs.View.{LoggedView, failed_commit, history_of}
 use Rattle.logged_journal.specs.Opens.{OpensAfter}
 use Rattle.brahma_shell.specs.Points.{Point, start_point, start_with, entries_in}
 use Rattle.brahma_shell.specs.Runs.{Event, Noted, Reopened, entry_of, noted, after_event, after_events, Run, run_history, whole, since_opening, IsSinceOpening, IsLastOf}
@@ -29,7 +27,7 @@ use Rattle.brahma_shell.specs.Top.{Tell, IsJustOpened, text_in, stored_at_end}
 use Rattle.brahma_shell.specs.Crashes.{Reopens, reopened_line}
 use Rattle.brahma_shell.proofs.FollowLemmas.{text_of-append, after_events-append, after-noted}
 use Rattle.brahma_shell.proofs.GrowthLemmas.{start_point-same}
-use Rattle.brahma_shell.proofs.LogLemmas.{history-running}
+use Rattle.brahma_shell.proofs.LogLemmas.{history-running, none-committed}
 use Rattle.brahma_shell.proofs.PointLemmas.{moment_of_point}
 use Rattle.brahma_shell.proofs.JoinLemmas.{IsNextOf}
 
@@ -41,7 +39,7 @@ first_run v = record { opening = v.journal.opening; ids = v.journal.history.ids;
 
 -- the run, and behind it what the journal has noted
 abbrev pub extended : {D : Type 0} → Run → LoggedView D → Run
-extended r v = record { opening = r.opening; ids = r.ids; events = r.events ++ noted v.journal.notes; failed = option_map (λ f. f.pass) v.failed }
+extended r v = record { opening = r.opening; ids = r.ids; events = r.events ++ noted v.journal.notes; failed = failed_commit v }
 
 -- the run, and behind it the store opened again
 abbrev pub reopened : {D : Type 0} → Run → LoggedView D → Run
@@ -90,18 +88,18 @@ run-slots r = cases r.failed
 
 -- a failed commit leaves how the history begins
 history-start : {D : Type 0} (v : LoggedView D) → start_of (history_of v) ≡ start_of v.journal.history
-history-start v = cases v.failed
+history-start v = cases (failed_commit v)
   where
-    cases : (o : Option FailedCommit) → start_of (option_map_or (λ f. with_entry v.journal.history (Call f.pass Commit DiskFault)) o v.journal.history) ≡ start_of v.journal.history
+    cases : (o : Option ℕ) → start_of (option_map_or (λ client. with_entry v.journal.history (Call client Commit DiskFault)) o v.journal.history) ≡ start_of v.journal.history
     cases None = refl
-    cases (Some f) = refl
+    cases (Some client) = refl
 
 pub history-size : {D : Type 0} (v : LoggedView D) → (history_of v).ids ≡ v.journal.history.ids
-history-size v = cases v.failed
+history-size v = cases (failed_commit v)
   where
-    cases : (o : Option FailedCommit) → (option_map_or (λ f. with_entry v.journal.history (Call f.pass Commit DiskFault)) o v.journal.history).ids ≡ v.journal.history.ids
+    cases : (o : Option ℕ) → (option_map_or (λ client. with_entry v.journal.history (Call client Commit DiskFault)) o v.journal.history).ids ≡ v.journal.history.ids
     cases None = refl
-    cases (Some f) = refl
+    cases (Some client) = refl
 
 -- the entries of the events of notes
 noted-entries : (notes : List Note) → map entry_of (noted notes) ≡ entries_in notes
@@ -176,16 +174,16 @@ module _ {D : Type 0} (content : D → Area → Option (List ℕ)) (r : Run) (v 
       ∙ ap (λ (h : History). h.entries ++ w.journal.history.entries) (sym (run-running r stands.running))
 
   pub entries-extended : (run_history (extended r w)).entries ≡ (run_history r).entries ++ (history_of w).entries
-  entries-extended = cases w.failed
+  entries-extended = cases (failed_commit w)
     where
       h : History
       h = record (opened_history 6 r.ids r.opening) { entries = map entry_of (r.events ++ noted w.journal.notes) }
 
-      cases : (o : Option FailedCommit) → (option_map_or (λ client. with_entry h (Call client Commit DiskFault)) (option_map (λ f. f.pass) o) h).entries ≡ (run_history r).entries ++ (option_map_or (λ f. with_entry w.journal.history (Call f.pass Commit DiskFault)) o w.journal.history).entries
+      cases : (o : Option ℕ) → (option_map_or (λ client. with_entry h (Call client Commit DiskFault)) o h).entries ≡ (run_history r).entries ++ (option_map_or (λ client. with_entry w.journal.history (Call client Commit DiskFault)) o w.journal.history).entries
       cases None = plain-entries
-      cases (Some f) =
-          ap (λ (es : List Entry). es ++ Call f.pass Commit DiskFault ∷ []) plain-entries
-          ∙ append_assoc (run_history r).entries w.journal.history.entries (Call f.pass Commit DiskFault ∷ [])
+      cases (Some client) =
+          ap (λ (es : List Entry). es ++ Call client Commit DiskFault ∷ []) plain-entries
+          ∙ append_assoc (run_history r).entries w.journal.history.entries (Call client Commit DiskFault ∷ [])
 
   pub text-extended : text_in (extended r w) ≡ text_in r ++ text_of (history_of w).entries
   text-extended = ap text_of entries-extended ∙ text_of-append (run_history r).entries (history_of w).entries
@@ -241,7 +239,7 @@ module _ {D : Type 0} (content : D → Area → Option (List ℕ)) (r : Run) (v 
     now = extended r w
 
     now-running : (extended r w).failed ≡ None
-    now-running = ap (option_map (λ f. f.pass)) running
+    now-running = none-committed w running
 
     entries-reopened : (run_history (reopened (extended r w) new)).entries ≡ (run_history (extended r w)).entries ++ Crash (graph_of new.journal.opening) ∷ []
     entries-reopened =

@@ -9,7 +9,7 @@ use Rattle.core_store.specs.JournalView.{JournalView}
 use Rattle.script_lines.specs.Lines.{lines_of}
 use Rattle.script_lines.specs.Grammar.{IsRefused}
 use Rattle.script_lines.specs.Output.{EndsWith}
-use Rattle.brahma_shell.specs.Runs.{Stretch}
+use Rattle.brahma_shell.specs.Runs.{ids_at, Stretch, end_point}
 use Rattle.brahma_shell.specs.Follows.{FollowsAll, FollowsUpTo, FollowsPart}
 use Rattle.brahma_shell.specs.Top.{HasOnlyLines}
 use Rattle.script_lines.proofs.OutputLemmas.{Appends-trans}
@@ -62,8 +62,8 @@ pub handed-at : (n : ℕ) → (n ≡ 8 → ⊥) → (true ≡ false → n ≡ 8)
 handed-at n a = (λ e. absurd (cc), λ s. absurd (a s))
 
 -- a script that has only lines has none that is refused
-pub none-refused : (left : Option (List ℕ)) (number : ℕ) (s : Stretch) → s.number ≡ 1 → FollowsUpTo left number s → HasOnlyLines left → ⊥
+pub none-refused : (left : Option (List ℕ)) (number : ℕ) (s : Stretch) → s.number ≡ 1 → FollowsUpTo left number s → HasOnlyLines (ids_at (end_point s)) left → ⊥
 none-refused None number s one f only = only
 none-refused (Some bytes) number s one f only =
     let place : number ≡ length f.before + 1 = omega (arith, one, f.place) in
-    only f.before f.behind f.line f.parts (subst (λ n. IsRefused n f.line) place f.refused)
+    only f.before f.behind f.line f.parts (subst (λ n. IsRefused (ids_at (end_point s)) n f.line) place f.refused)

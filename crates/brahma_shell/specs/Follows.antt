@@ -1,21 +1,23 @@
 -- Which events follow the lines of a script, and how far a run has followed them.
 use Rattle.std.specs.Prelude.{◌≡◌, ℕ, ◌+◌, ◌≤◌, nat_lt, List, [], ◌∷◌, ◌++◌, length, replicate, count_by, Option, Some, None, IfSome, MatchBool, ⊤, ◌⊎◌}
 use Rattle.std.specs.List.{AllByRecursion}
+use Rattle.std.specs.Option.{option_map_or}
 use Rattle.plain_model.specs.declared.calls.Call.{Call as TransactionCall}
 use Rattle.plain_model.specs.declared.calls.Call.TheVariants as call
 use Rattle.plain_model.specs.declared.calls.Reply.{Reply}
 use Rattle.plain_model.specs.declared.calls.Entry.{Entry}
 use Rattle.plain_model.specs.declared.calls.Entry.TheVariants as entry
-use Rattle.plain_model.specs.History.{left_to_undo}
+use Rattle.plain_model.specs.History.{Moment, left_to_undo, least_active}
 use Rattle.core_store.specs.declared.note.Note.{Note}
 use Rattle.core_store.specs.Collecting.{is_pop}
 use Rattle.cell_model.specs.Cells.{Cell}
 use Rattle.script_lines.specs.declared.grammar.Line.{Line}
-use Rattle.script_lines.specs.declared.grammar.Line.TheVariants.{Nothing, Ask, Abort, Undo, CollectStep, CollectAll, Crash}
+use Rattle.script_lines.specs.declared.grammar.Line.TheVariants.{Nothing, Ask, Abort, Undo, CollectStep, CollectAll, Clean, Turn, Crash}
 use Rattle.script_lines.specs.Lines.{lines_of, whole_lines_of}
 use Rattle.script_lines.specs.Grammar.{meaning_of, IsAccepted, IsRefused}
 use Rattle.brahma_shell.specs.Points.{Point, after_notes, entries_in, MayRest, IsExactAt}
-use Rattle.brahma_shell.specs.Runs.{Event, Reopened, noted, after_events, Stretch}
+use Rattle.brahma_shell.specs.Growth.{IsOfUpkeep}
+use Rattle.brahma_shell.specs.Runs.{Event, Reopened, noted, after_events, ids_at, Stretch, end_point}
 
 -- ---- the entries of a line
 
@@ -45,6 +47,14 @@ pub record GivesSteps (p : Point) (notes : List Note) : Type 0 where
   pub rests : p.moment.state.active ≡ [] → MayRest (after_notes p notes)
   pub exact : p.moment.state.active ≡ [] → IsExactAt (after_notes p notes)
 
+-- what a checkpoint enters at this moment: what no line tells, or, where some client has a transaction, that it was refused, since the least of these clients has one
+abbrev pub turn_entry : Moment → Entry
+turn_entry m = option_map_or entry.TurnBusy (least_active m.state) entry.Hidden
+
+-- one note, of upkeep with this entry
+abbrev pub GivesUpkeep : Entry → List Note → Type 0
+GivesUpkeep e notes = (n : Note) × (notes ≡ n ∷ []) × IsOfUpkeep e n
+
 -- the notes that a line gives at a point. An abort undoes each write that isn't undone yet, and ends the transaction;
 -- `undo` does one of these steps. Where the client has no transaction nothing is left to undo, and the abort alone is asked
 abbrev pub Gives : Point → Line → List Note → Type 0
@@ -54,6 +64,8 @@ Gives p (Abort client) notes = (reply : Reply) × (entries_in notes ≡ replicat
 Gives p (Undo client) notes = MatchBool (nat_lt 0 (left_to_undo p.moment client)) (entries_in notes ≡ entry.Undo client ∷ []) (IsCall client call.Abort (entries_in notes))
 Gives p CollectStep notes = GivesStep p notes
 Gives p CollectAll notes = GivesSteps p notes
+Gives p (Clean page) notes = GivesUpkeep entry.Hidden notes
+Gives p Turn notes = GivesUpkeep (turn_entry p.moment) notes
 Gives p (Crash pick) notes = ⊥
 
 -- the events that a line gives at a point: those of its notes; where power is lost, that the store is opened again
@@ -61,9 +73,9 @@ abbrev pub GivesEvents : Point → Line → List Event → Type 0
 GivesEvents p (Crash pick) events = (ids : ℕ) × (cells : List Cell) × (events ≡ Reopened ids cells ∷ [])
 GivesEvents p line events = (notes : List Note) × (events ≡ noted notes) × Gives p line notes
 
--- the line of this number is accepted, and gives the events at this point
+-- the line of this number is accepted at this point, and gives the events there
 abbrev pub LineGives : Point → ℕ → List ℕ → List Event → Type 0
-LineGives p number bytes events = IsAccepted number bytes × IfSome (meaning_of bytes) (λ line. GivesEvents p line events)
+LineGives p number bytes events = IsAccepted (ids_at p) number bytes × IfSome (meaning_of bytes) (λ line. GivesEvents p line events)
 
 -- the events are those of the lines, one line after another, from this point on. The first line has this number
 abbrev pub Follows : Point → ℕ → List (List ℕ) → List Event → Type 0
@@ -76,24 +88,24 @@ Follows p number (line ∷ lines) events = («first» rest : List Event) × (eve
 abbrev pub FollowsLines : List (List ℕ) → Stretch → Type 0
 FollowsLines lines s = Follows s.start s.number lines s.events
 
--- the line of this number is the first that is refused, and the stretch follows those before it
+-- the line of this number is the first that is refused, by the store as it is there, and the stretch follows those before it
 pub record StopsAt (lines : List (List ℕ)) (number : ℕ) (s : Stretch) : Type 0 where
   pub before : List (List ℕ)
   pub line : List ℕ
   pub behind : List (List ℕ)
   pub parts : lines ≡ before ++ line ∷ behind
   pub place : number ≡ s.number + length before
-  pub refused : IsRefused number line
+  pub refused : IsRefused (ids_at (end_point s)) number line
   pub follows : FollowsLines before s
 
--- events of a line that is cut off: only `gc all` gives some before it is done
-abbrev pub IsCutOff : ℕ → List ℕ → List Note → Type 0
-IsCutOff number line part = (part ≡ []) ⊎ (IsAccepted number line × (meaning_of line ≡ Some CollectAll) × AreOfCollector part)
+-- events of a line that is cut off, in a store with so many ids: only `gc all` gives some before it is done
+abbrev pub IsCutOff : (ids number : ℕ) → List ℕ → List Note → Type 0
+IsCutOff ids number line part = (part ≡ []) ⊎ (IsAccepted ids number line × (meaning_of line ≡ Some CollectAll) × AreOfCollector part)
 
 -- events of the first of the lines, which is cut off; they are none where there is no line
-abbrev pub IsPartOfFirst : ℕ → List (List ℕ) → List Note → Type 0
-IsPartOfFirst number [] part = part ≡ []
-IsPartOfFirst number (line ∷ lines) part = IsCutOff number line part
+abbrev pub IsPartOfFirst : (ids number : ℕ) → List (List ℕ) → List Note → Type 0
+IsPartOfFirst ids number [] part = part ≡ []
+IsPartOfFirst ids number (line ∷ lines) part = IsCutOff ids number line part
 
 -- the stretch follows some first lines, and a part of the next one where there is one
 pub record StopsWithin (lines : List (List ℕ)) (s : Stretch) : Type 0 where
@@ -104,7 +116,7 @@ pub record StopsWithin (lines : List (List ℕ)) (s : Stretch) : Type 0 where
   pub part : List Note
   pub events : s.events ≡ done ++ noted part
   pub follows : Follows s.start s.number before done
-  pub next : IsPartOfFirst (s.number + length before) behind part
+  pub next : IsPartOfFirst (ids_at (after_events s.start done)) (s.number + length before) behind part
 
 -- some line asks this, and the stretch follows those before it
 pub record StopsBefore (lines : List (List ℕ)) (asked : Line) (s : Stretch) : Type 0 where
@@ -112,7 +124,7 @@ pub record StopsBefore (lines : List (List ℕ)) (asked : Line) (s : Stretch) : 
   pub line : List ℕ
   pub behind : List (List ℕ)
   pub parts : lines ≡ before ++ line ∷ behind
-  pub accepted : IsAccepted (s.number + length before) line
+  pub accepted : IsAccepted (ids_at (end_point s)) (s.number + length before) line
   pub asks : meaning_of line ≡ Some asked
   pub follows : FollowsLines before s
 
@@ -148,6 +160,16 @@ FollowsTo (Some bytes) asked s = StopsBefore (lines_of bytes) asked s
 -- the stretch follows the lines before one that asks a commit of this client, which the disk failed
 abbrev pub FollowsToCommit : Option (List ℕ) → ℕ → Stretch → Type 0
 FollowsToCommit source client s = FollowsTo source (Ask client call.Commit) s
+
+-- the line asks upkeep, of a page or of the log
+abbrev pub AsksUpkeep : Line → Type 0
+AsksUpkeep (Clean page) = Unit {0}
+AsksUpkeep Turn = Unit {0}
+AsksUpkeep _ = ⊥
+
+-- the stretch follows the lines before one that asks upkeep, which the disk failed
+abbrev pub FollowsToUpkeep : Option (List ℕ) → Stretch → Type 0
+FollowsToUpkeep source s = (asked : Line) × AsksUpkeep asked × FollowsTo source asked s
 
 -- the stretch follows the lines before one at which power was lost, and behind which the store isn't opened
 abbrev pub FollowsToCrash : Option (List ℕ) → Stretch → Type 0

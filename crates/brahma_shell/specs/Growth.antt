@@ -1,6 +1,7 @@
 -- How a journal grows.
-use Rattle.std.specs.Prelude.{◌≡◌, ℕ, ◌<◌, Bool, true, false, List, [], ◌∷◌, ◌++◌}
+use Rattle.std.specs.Prelude.{◌≡◌, ℕ, ◌<◌, Bool, true, false, List, [], ◌∷◌, ◌++◌, None}
 use Rattle.plain_model.specs.declared.calls.Entry.{Entry}
+use Rattle.core_store.specs.declared.act.Act.TheVariants.{Other}
 use Rattle.core_store.specs.declared.note.Note.{Note}
 use Rattle.core_store.specs.Collecting.{is_pop}
 use Rattle.core_store.specs.JournalView.{JournalView, last_left}
@@ -30,6 +31,19 @@ pub record GrowsBy (old new : JournalView) (es : List Entry) : Type 0 where
 pub record BecomesFull (old new : JournalView) : Type 0 where
   pub grows : Grows old new []
   pub marked : new.marks.trace ≡ true
+
+-- a note of upkeep, with this entry: it logs nothing, and is no event of the collector
+pub record IsOfUpkeep (e : Entry) (n : Note) : Type 0 where
+  pub entry : n.entry ≡ e
+  pub logged : n.logged ≡ None
+  pub act : n.act ≡ Other
+
+-- upkeep is noted with this entry, and no mark is set
+pub record GrowsByUpkeep (old new : JournalView) (e : Entry) : Type 0 where
+  pub note : Note
+  pub is : IsOfUpkeep e note
+  pub grows : Grows old new (note ∷ [])
+  pub unmarked : new.marks ≡ old.marks
 
 -- an event of the collector is noted with this entry. Either it took an object out of the queue while no round was open, or it left less of the round
 pub record GrowsByEvent (old new : JournalView) (popped : Bool) (left : ℕ) (e : Entry) : Type 0 where

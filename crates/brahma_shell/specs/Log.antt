@@ -6,7 +6,7 @@ use Rattle.plain_model.specs.Machine.{refusal_of}
 use Rattle.plain_model.specs.History.{end_of}
 use Rattle.logged_journal.specs.View.{LoggedView}
 
--- the journal goes on: the disk failed no commit, and no call was answered that the log is full. The disk's count of faults doesn't fall
+-- the journal goes on: the disk failed no commit and no upkeep, and no call was answered that the log is full. The disk's count of faults doesn't fall
 pub record StaysRunning {D : Type 0} (faults : D → ℕ) (old new : LoggedView D) : Type 0 where
   pub running : new.failed ≡ None
   pub log_full : new.log_full ≡ old.log_full
@@ -20,8 +20,15 @@ pub record TellsFull {D : Type 0} (faults : D → ℕ) (old new : LoggedView D) 
 
 -- the disk failed a commit of this client, which would have been done; its count of faults rose
 pub record LosesCommit {D : Type 0} (faults : D → ℕ) (client : ℕ) (old new : LoggedView D) : Type 0 where
-  pub told : new.failed ≡ Some (record { pass = client; faults = faults new.disk })
+  pub told : new.failed ≡ Some (record { commit = Some client; faults = faults new.disk })
   pub granted : refusal_of (end_of new.journal.history).state client Commit ≡ None
+  pub log_full : new.log_full ≡ old.log_full
+  pub rose : Rose (faults old.disk) (faults new.disk)
+  pub later : faults old.disk ≤ faults new.disk
+
+-- the disk failed upkeep; its count of faults rose
+pub record LosesUpkeep {D : Type 0} (faults : D → ℕ) (old new : LoggedView D) : Type 0 where
+  pub told : new.failed ≡ Some (record { commit = None; faults = faults new.disk })
   pub log_full : new.log_full ≡ old.log_full
   pub rose : Rose (faults old.disk) (faults new.disk)
   pub later : faults old.disk ≤ faults new.disk

@@ -1,5 +1,5 @@
 -- Runs of the program: what happens to a store from one opening to the next, and over several openings.
-use Rattle.std.specs.Prelude.{◌≡◌, ◌⊎◌, ℕ, List, ◌∷◌, ◌++◌, map, fold, Option, option_map}
+use Rattle.std.specs.Prelude.{◌≡◌, ◌⊎◌, ℕ, List, ◌∷◌, ◌++◌, map, fold, Option}
 use Rattle.std.specs.Option.{option_map_or}
 use Rattle.plain_model.specs.declared.calls.Call.TheVariants.{Commit}
 use Rattle.plain_model.specs.declared.calls.Reply.TheVariants.{DiskFault}
@@ -11,7 +11,7 @@ use Rattle.cell_model.specs.Graph.{graph_of}
 use Rattle.core_store.specs.declared.note.Note.{Note}
 use Rattle.core_store.specs.JournalView.{JournalView}
 use Rattle.core_store.specs.Opening.{opened_history}
-use Rattle.logged_journal.specs.View.{LoggedView}
+use Rattle.logged_journal.specs.View.{LoggedView, failed_commit}
 use Rattle.brahma_shell.specs.Points.{Point, after_note, start_with, start_point}
 
 -- an event of a run: something that a journal notes; or power was lost, and the store was opened again, with so many ids and to these cells
@@ -36,6 +36,10 @@ after_event p (Reopened ids cells) = start_with (opened_history p.slots ids cell
 abbrev pub after_events : Point → List Event → Point
 after_events p events = fold after_event p events
 
+-- how many ids the store has there
+abbrev pub ids_at : Point → ℕ
+ids_at p = p.moment.state.ids
+
 -- ---- stretches and whole runs
 
 -- a stretch of a run: it begins at this point, where the next line of the script has this number, and has these events
@@ -43,6 +47,10 @@ pub record Stretch : Type 0 where
   pub start : Point
   pub number : ℕ
   pub events : List Event
+
+-- the point at its end
+abbrev pub end_point : Stretch → Point
+end_point s = after_events s.start s.events
 
 -- a run: what the store opened to at first, with so many ids; its events since; and the client whose commit the disk failed at the end, if it failed one
 pub record Run : Type 0 where
@@ -76,4 +84,4 @@ IsSinceOpening r j =
 -- the journal stands at the end of the run
 pub record IsLastOf {D : Type 0} (r : Run) (v : LoggedView D) : Type 0 where
   pub events : IsSinceOpening r v.journal
-  pub failed : r.failed ≡ option_map (λ f. f.pass) v.failed
+  pub failed : r.failed ≡ failed_commit v

@@ -80,7 +80,7 @@ fn end_stopped<W: Sink>(out: &mut W, stop: Stop) -> u8
             READ_FAULT
         }
         Stop::Write => WRITE_FAULT,
-        Stop::Fault | Stop::Stopped => {
+        Stop::Fault | Stop::UpkeepFault | Stop::Stopped => {
             write_last(out, b"refused: disk\n");
             DISK_FAULT
         }

@@ -1,8 +1,8 @@
 //! The store of a replay: a journal with its log on a disk, and all its frames.
 
-ghost use Rattle.std.specs.Prelude.{◌≡◌, ◌<◌, ◌≤◌, ◌*◌, ℕ, [], ◌∷◌, true, false, Bool, IfOk, IfErr, IsErrOf, IsSome, is_some, None};
+ghost use Rattle.std.specs.Prelude.{◌≡◌, ◌<◌, ◌≤◌, ◌*◌, ℕ, [], ◌∷◌, true, false, Bool, IfOk, IfErr, IsErrOf, IsSome, is_some, Some, None};
 ghost use Rattle.plain_model.specs.Machine.{IsInRange, transaction_of};
-ghost use Rattle.plain_model.specs.History.{IsLegal, end_of, is_stopped, left_to_undo};
+ghost use Rattle.plain_model.specs.History.{IsLegal, end_of, is_stopped, left_to_undo, least_active};
 ghost use Rattle.plain_laws.specs.Serializable.{IsSerializable};
 ghost use Rattle.std.specs.List.{range_with_len};
 ghost use Rattle.disk_model.specs.Told.{EachImage};
@@ -21,7 +21,8 @@ ghost use Rattle.logged_journal.specs.Calls.{IsOfJournal};
 ghost use Rattle.logged_journal.specs.Records.{MayBeLeft, durable_notes};
 ghost use Rattle.script_lines.specs.Grammar.{IsClient};
 ghost use Rattle.brahma_shell.specs.Points.{point_of, entries_in, MayRest, IsExactAt};
-ghost use Rattle.brahma_shell.specs.Growth.{GrowsBy, GrowsByEvent, BecomesFull};
+ghost use Rattle.brahma_shell.specs.Growth.{GrowsBy, GrowsByEvent, GrowsByUpkeep, BecomesFull};
+ghost use Rattle.brahma_shell.specs.Upkeep.{GivesUp, HasClean, HasTurned};
 ghost use Rattle.brahma_shell.specs.Log.{StaysRunning, TellsFull, LosesCommit, WasLogFull};
 ghost use Rattle.brahma_shell.specs.Rest.{StaysQuiet};
 
@@ -31,7 +32,7 @@ use core_store::{AbortStep, Collect, Limits, Note};
 use disk_model::Disk;
 use framed_journal::FramedJournal;
 use journal_opening::open;
-use logged_journal::{CollectRefusal, LoggedJournal, Stopped};
+use logged_journal::{CollectRefusal, LoggedJournal, Stopped, Upkeep};
 use plain_model::{Call, Entry, Ids, Memory, Reply};
 use std::alloc::Global;
 use std::marker::Model;
@@ -143,6 +144,29 @@ impl<D: Disk> Store<D> {
         let step = self.framed.collect_step();
         let _ = self.framed.logged().journal().history();
         step
+    }
+
+    /// Writes the page in place.
+    pub(crate) fn clean(&mut self, page: u16) -> Upkeep
+        requires page { 8 * page < self.old.journal.history.ids }
+        requires running { self.old.failed ≡ None }
+        ensures done { result ≡ Upkeep.Done → GrowsByUpkeep self.old.journal self.new.journal Entry.Hidden × StaysRunning D.faults self.old self.new }
+        ensures clean { result ≡ Upkeep.Done → HasClean D.may_leave page self.old self.new }
+        ensures gives_up { GivesUp D.faults self.old self.new result }
+        ensures never_busy { (pass : ℕ) → result ≡ Upkeep.Busy pass → ⊥ }
+    {
+        self.framed.clean(page)
+    }
+
+    /// Makes a checkpoint, where no client has a transaction.
+    pub(crate) fn turn(&mut self) -> Upkeep
+        requires running { self.old.failed ≡ None }
+        ensures done { result ≡ Upkeep.Done → (least_active (end_of self.old.journal.history).state ≡ None) × GrowsByUpkeep self.old.journal self.new.journal Entry.Hidden × StaysRunning D.faults self.old self.new }
+        ensures turned { result ≡ Upkeep.Done → HasTurned D.may_leave self.old self.new }
+        ensures busy { (pass : ℕ) → result ≡ Upkeep.Busy pass → (least_active (end_of self.old.journal.history).state ≡ Some pass) × GrowsByUpkeep self.old.journal self.new.journal (Entry.TurnBusy pass) × StaysRunning D.faults self.old self.new }
+        ensures gives_up { GivesUp D.faults self.old self.new result }
+    {
+        self.framed.turn()
     }
 
     /// Counts all pointers again, and tells what it found: no difference.

@@ -1,5 +1,5 @@
 -- What the lines of a script ask, and which lines are refused.
-use Rattle.std.specs.Prelude.{ℕ, ◌≤◌, ◌==◌, ◌≢◌, Bool, false, if◌then◌else◌, List, [], ◌∷◌, length, Option, Some, None, IsSome, bytes_eq, codes, option_and_then}
+use Rattle.std.specs.Prelude.{ℕ, ◌*◌, ◌<◌, ◌≤◌, ◌==◌, ◌≢◌, Bool, false, if◌then◌else◌, List, [], ◌∷◌, length, Option, Some, None, IsSome, IfSome, bytes_eq, codes, option_and_then}
 use Rattle.plain_model.specs.declared.calls.Call.TheVariants as call
 use Rattle.plain_model.specs.Machine.{IsInRange}
 use Rattle.script_lines.specs.declared.verb.Verb.{Verb}
@@ -7,7 +7,7 @@ use Rattle.script_lines.specs.declared.verb.Verb.TheVariants.{Begin, Read, Make,
 use Rattle.script_lines.specs.declared.grammar.Line.{Line}
 use Rattle.script_lines.specs.declared.grammar.Line.TheVariants as line
 use Rattle.script_lines.specs.Fields.{fields_of}
-use Rattle.script_lines.specs.Numbers.{client_of, register_of, slot_of, pick_of, payload_of, source_of}
+use Rattle.script_lines.specs.Numbers.{client_of, register_of, slot_of, page_of, pick_of, payload_of, source_of}
 
 infixl 10 ◌>>=◌
 abbrev pub ◌>>=◌ : {A B : Type 0} → Option A → (A → Option B) → Option B
@@ -74,6 +74,17 @@ client_line client verb operands = do
 abbrev pub is_collector : List ℕ → Bool
 is_collector field = bytes_eq field (codes "gc")
 
+-- the field names the page cleaner, which writes a page in place
+abbrev pub is_cleaner : List ℕ → Bool
+is_cleaner field = bytes_eq field (codes "clean")
+
+-- what a line asks of the page cleaner, by the fields behind `clean`: the page, and no more
+abbrev pub clean_line : List ℕ → List (List ℕ) → Option Line
+clean_line page [] = do
+  g ← page_of page
+  Some (line.Clean g)
+clean_line page operands = None
+
 -- the field names a loss of power
 abbrev pub is_crash : List ℕ → Bool
 is_crash field = bytes_eq field (codes "crash")
@@ -85,11 +96,16 @@ crash_line pick [] = do
   Some (line.Crash k)
 crash_line pick operands = None
 
--- what the line of a client, of the collector or of the power asks, by its first field and those behind it
+-- what a line of one field asks: `turn` asks for a checkpoint
+abbrev pub lone_line : List ℕ → Option Line
+lone_line word = if bytes_eq word (codes "turn") then Some line.Turn else None
+
+-- what the line of a client, of the collector, of the page cleaner, of the power or of the log asks, by its first field and those behind it
 abbrev pub line_of_party : List ℕ → List (List ℕ) → Option Line
-line_of_party party [] = None
+line_of_party party [] = lone_line party
 line_of_party party (verb ∷ operands) =
     if is_collector party then collector_line verb operands
+    else if is_cleaner party then clean_line verb operands
     else if is_crash party then crash_line verb operands
     else client_line party verb operands
 
@@ -117,15 +133,21 @@ max_line = 128
 abbrev pub max_lines : ℕ
 max_lines = 65536
 
--- the line of this number, counted from 1, is within both limits and in the grammar
-pub record IsAccepted (number : ℕ) (bytes : List ℕ) : Type 0 where
+-- a store with so many ids, eight a page, has the page that the line names, if it names one
+abbrev pub IsOfStore : ℕ → Line → Type 0
+IsOfStore ids (line.Clean page) = 8 * page < ids
+IsOfStore ids other = Unit {0}
+
+-- in a store with so many ids the line of this number, counted from 1, is within both limits and in the grammar, and the page that it names is one of the store's
+pub record IsAccepted (ids number : ℕ) (bytes : List ℕ) : Type 0 where
   pub within_line : length bytes ≤ max_line
   pub within_script : number ≤ max_lines
   pub in_grammar : IsSome (meaning_of bytes)
+  pub in_store : IfSome (meaning_of bytes) (IsOfStore ids)
 
--- the line of this number isn't accepted
-abbrev pub IsRefused : ℕ → List ℕ → Type 0
-IsRefused number bytes = IsAccepted number bytes → ⊥
+-- the line of this number isn't accepted there
+abbrev pub IsRefused : (ids number : ℕ) → List ℕ → Type 0
+IsRefused ids number bytes = IsAccepted ids number bytes → ⊥
 
 -- a client has a number from 1 to 64
 abbrev pub IsClient : ℕ → Type 0

@@ -27,6 +27,10 @@ register_of field = number_within 0 8 field
 abbrev pub slot_of : List ℕ → Option ℕ
 slot_of field = number_within 0 6 field
 
+-- a page: 0 to 1,023. Whether a store has it is for the store to say
+abbrev pub page_of : List ℕ → Option ℕ
+page_of field = number_within 0 1024 field
+
 -- a pick of what a power loss leaves: below 2^32
 abbrev pub pick_of : List ℕ → Option ℕ
 pick_of field = number_within 0 (2 ^ 32) field

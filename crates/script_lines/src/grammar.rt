@@ -1,10 +1,10 @@
 //! What the lines of a script ask.
-ghost use Rattle.std.specs.Prelude.{◌≡◌, ◌<◌, IfSome, MatchOption, Option, Some};
+ghost use Rattle.std.specs.Prelude.{◌≡◌, ◌↔◌, ◌*◌, ◌<◌, IfSome, MatchOption, Option, Some, true};
 ghost use Rattle.script_lines.specs.Operands.{listed};
-ghost use Rattle.script_lines.specs.Grammar.{request_of, is_collector, collector_line, is_crash, crash_line, meaning_of, IsAccepted, IsRefused, IsClient, IsLineInRange};
+ghost use Rattle.script_lines.specs.Grammar.{request_of, is_collector, collector_line, is_cleaner, clean_line, is_crash, crash_line, lone_line, meaning_of, IsOfStore, IsAccepted, IsRefused, IsClient, IsLineInRange};
 
 use crate::fields::{Operands, next_field, operands_of};
-use crate::numbers::{client_of, payload_of, pick_of, register_of, slot_of, source_of};
+use crate::numbers::{client_of, page_of, payload_of, pick_of, register_of, slot_of, source_of};
 use crate::verb::{Verb, verb_of};
 use plain_model::Call;
 
@@ -25,6 +25,10 @@ pub enum Line {
     /// The collector goes on until there is nothing to do, or until it has looked at as many objects of its queue as the
     /// store has ids.
     CollectAll,
+    /// The page is written in place, counted from 0.
+    Clean { page: u16 },
+    /// A checkpoint: the log begins anew, in its other area.
+    Turn,
     /// Power is lost, with this pick of what it leaves of the disk, and the store is opened again.
     Crash { pick: u32 },
 }
@@ -81,6 +85,25 @@ fn collector_line(steps: &[u8], operands: Operands<'_>) -> Option<Line>
     }
 }
 
+/// Whether the first field names the page cleaner.
+fn is_cleaner(party: &[u8]) -> bool
+    ensures { result ≡ is_cleaner party.now }
+{
+    matches!(party, b"clean")
+}
+
+/// What a line asks of the page cleaner, by the fields behind `clean`.
+fn clean_line(page: &[u8], operands: Operands<'_>) -> Option<Line>
+    ensures { result ≡ clean_line page.now (listed operands.entry) }
+{
+    match operands {
+        Operands::Nil => Some(Line::Clean {
+            page: page_of(page)?,
+        }),
+        _ => None,
+    }
+}
+
 /// Whether the first field names a loss of power.
 fn is_crash(party: &[u8]) -> bool
     ensures { result ≡ is_crash party.now }
@@ -100,6 +123,16 @@ fn crash_line(pick: &[u8], operands: Operands<'_>) -> Option<Line>
     }
 }
 
+/// What a line of one field asks.
+fn lone_line(word: &[u8]) -> Option<Line>
+    ensures { result ≡ lone_line word.now }
+{
+    match word {
+        b"turn" => Some(Line::Turn),
+        _ => None,
+    }
+}
+
 /// What a line asks, where it is in the grammar.
 fn meaning_of(line: &[u8]) -> Option<Line>
     ensures value { result ≡ meaning_of line.now }
@@ -111,9 +144,14 @@ fn meaning_of(line: &[u8]) -> Option<Line>
     if party.starts_with(b"#") {
         return Some(Line::Nothing);
     }
-    let (verb, rest) = next_field(rest)?;
+    let Some((verb, rest)) = next_field(rest) else {
+        return lone_line(party);
+    };
     if is_collector(party) {
         return collector_line(verb, operands_of(rest)?);
+    }
+    if is_cleaner(party) {
+        return clean_line(verb, operands_of(rest)?);
     }
     if is_crash(party) {
         return crash_line(verb, operands_of(rest)?);
@@ -127,14 +165,37 @@ const MAX_LINE: usize = 128;
 /// The most lines that a script may have.
 const MAX_LINES: u32 = 65_536;
 
-/// What the line of this number asks, where it is within the limits and in the grammar.
-pub fn accepted(number: u32, line: &[u8]) -> Option<Line>
-    ensures value { MatchOption result (IsRefused number line.now)
-        (λ asked. IsAccepted number line.now × (meaning_of line.now ≡ Some asked)) }
+/// Whether a store with so many ids, eight a page, has the page that the line names, if it names one.
+fn is_of_store(ids: u32, line: Line) -> bool
+    ensures { (result ≡ true) ↔ IsOfStore ids line }
+{
+    match line {
+        Line::Clean { page } => 8 * u32::from(page) < ids,
+        Line::Nothing => true,
+        Line::Ask { .. } => true,
+        Line::Abort { .. } => true,
+        Line::Undo { .. } => true,
+        Line::CollectStep => true,
+        Line::CollectAll => true,
+        Line::Turn => true,
+        Line::Crash { .. } => true,
+    }
+}
+
+/// What the line of this number asks, where it is within the limits and in the grammar, and a store with so many ids has the
+/// page that it names.
+pub fn accepted(ids: u32, number: u32, line: &[u8]) -> Option<Line>
+    ensures value { MatchOption result (IsRefused ids number line.now)
+        (λ asked. IsAccepted ids number line.now × (meaning_of line.now ≡ Some asked)) }
     ensures in_range { IfSome result IsLineInRange }
+    ensures of_store { IfSome result (λ asked. IsOfStore ids asked) }
 {
     if line.len() > MAX_LINE || number > MAX_LINES {
         return None;
     }
-    meaning_of(line)
+    let asked = meaning_of(line)?;
+    if !is_of_store(ids, asked) {
+        return None;
+    }
+    Some(asked)
 }

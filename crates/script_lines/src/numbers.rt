@@ -1,7 +1,7 @@
 //! What a field spells.
 ghost use Rattle.std.specs.Prelude.{◌≡◌, ◌<◌, ◌≤◌, ◌^◌, ◌+◌, ◌*◌, IsTrue, SomeIff, IfSome};
 ghost use Rattle.std.specs.Char.{is_ascii_digit, digit_value};
-ghost use Rattle.script_lines.specs.Numbers.{number_within, client_of, register_of, slot_of, pick_of, pages_of, payload_of, source_of};
+ghost use Rattle.script_lines.specs.Numbers.{number_within, client_of, register_of, slot_of, page_of, pick_of, pages_of, payload_of, source_of};
 ghost use Rattle.script_lines.specs.Grammar.{IsClient};
 
 /// The most digits that a number may have.
@@ -66,6 +66,13 @@ pub(crate) fn slot_of(field: &[u8]) -> Option<u8>
     ensures below { IfSome result (λ s. s < 6) }
 {
     Some(number_within(0, 6, field)? as u8)
+}
+
+/// The page that a field names: 0 to 1,023, whether or not a store has it.
+pub(crate) fn page_of(field: &[u8]) -> Option<u16>
+    ensures { result ≡ page_of field.now }
+{
+    Some(number_within(0, 1024, field)? as u16)
 }
 
 /// The pick that a field names.

@@ -92,6 +92,17 @@ pub fn delete_line(id: u32) -> ArrayString<LINE_ROOM>
     line
 }
 
+/// The line of a checkpoint that was refused, since this client has a transaction. It takes no memory.
+pub fn turn_busy_line(client: u8) -> ArrayString<LINE_ROOM>
+    ensures { result.bytes ≡ line_of (Entry.TurnBusy client) }
+{
+    let mut line = ArrayString::new();
+    line.push_str("turn: busy ");
+    push_number(&mut line, u64::from(client));
+    line.push_str("\n");
+    line
+}
+
 /// The last line where the line of this number is refused. It takes no memory.
 pub fn refused_line(number: u32) -> ArrayString<LINE_ROOM>
     ensures { result.bytes ≡ refused_line number }

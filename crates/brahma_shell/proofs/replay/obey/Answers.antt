@@ -1,6 +1,7 @@
 use Rattle.std.proofs.Common.{[], inl}
 use Rattle.std.proofs.lemmas.Result.{err_from_is_err_and}
-use Rattle.brahma_shell.proofs.DoLemmas.{stops-call, nothing-performs}
+use Rattle.script_lines.specs.declared.grammar.Line.TheVariants.{Clean}
+use Rattle.brahma_shell.proofs.DoLemmas.{stops-call, upkeep-err, nothing-performs}
 use Rattle.brahma_shell.proofs.GcLemmas.{steps-performs}
 use Rattle.script_lines.proofs.OutputLemmas.{Appends-none}
 use Rattle.brahma_shell.proofs.replay.obey.Goals as goal
@@ -26,3 +27,7 @@ returns-in-Ok-clause-ok g c =
 
 pub returns-in-Nothing-clause-ok : goal.returns-in-Nothing-clause-ok
 returns-in-Nothing-clause-ok g c = rw c.in-Nothing.is ([], nothing-performs c.args.store.now.journal, Appends-none (g.W.Sink.written c.args.out.now))
+
+pub returns-in-Clean-clause-stopped : goal.returns-in-Clean-clause-stopped
+returns-in-Clean-clause-stopped g c =
+    rw c.in-Clean.is (upkeep-err g.D.Disk.faults c.clean.result (Clean c.in-Clean.page) c.args.store.now c.clean.new.store _ _ tt c.clean.ensures.err (Appends-none (g.W.Sink.written c.args.out.now)))

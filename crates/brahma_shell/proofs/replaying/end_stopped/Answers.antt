@@ -10,7 +10,7 @@ returns-in-Read-clause-last g c = rw c.in-Read.is c.write_last-in-Read.ensures.e
 pub returns-in-Fault-clause-last : goal.returns-in-Fault-clause-last
 returns-in-Fault-clause-last g c =
     let ends = c.write_last-in-Fault.ensures.ends in
-    ⊎_elim (λ e. rw e ends) (λ e. rw e ends) c.in-Fault.is
+    ⊎_elim (λ e. rw e ends) (λ h. ⊎_elim (λ e. rw e ends) (λ e. rw e ends) h) c.in-Fault.is
 
 pub returns-in-Memory-clause-last : goal.returns-in-Memory-clause-last
 returns-in-Memory-clause-last g c = rw c.in-Memory.is c.write_last-in-Memory.ensures.ends

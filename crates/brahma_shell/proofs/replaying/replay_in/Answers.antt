@@ -1,8 +1,8 @@
-use Rattle.std.proofs.Common.{◌≡◌, ◌∙◌, inl, sym, ap, subst, arith, Err}
+use Rattle.std.proofs.Common.{◌≡◌, ◌∙◌, sym, ap, subst, arith, Err}
 use Rattle.script_lines.specs.LineReader.{pending}
 use Rattle.brahma_shell.specs.declared.replay.Reached.TheVariants.{End, CrashLine}
 use Rattle.brahma_shell.specs.Scripts.{left_in}
-use Rattle.brahma_shell.proofs.EndLemmas.{of-replay, sound-opening, stops-granted, stops-later, off}
+use Rattle.brahma_shell.proofs.EndLemmas.{granted-running, of-replay, sound-opening, stops-granted, stops-later, off}
 use Rattle.brahma_shell.proofs.LoopLemmas.{ComesTo, comes-first, then-journal, when-ok, marks-ok, all-done, all-stopped, all-crashed, crashed-later, comes-again, all-done-again}
 use Rattle.brahma_shell.proofs.replaying.replay_in.Goals as goal
 
@@ -11,7 +11,7 @@ crashes-init g c =
     let v = c.args.store in
     let h = c.history.ensures in
     let just = c.requires.opened in
-    let journal = of-replay g.D.Disk.may_leave v just.store (sound-opening v.journal h.sound just.entries) (inl just.running) h.legal h.running h.entries h.sound h.led h.lasting h.images h.opens in
+    let journal = of-replay g.D.Disk.may_leave v just.store (sound-opening v.journal h.sound just.entries) (granted-running v just.running) h.legal h.running h.entries h.sound h.led h.lasting h.images h.opens in
     let left = g.R.Source.left c.args.source.now in
     let written = g.W.Sink.written c.args.out.now in
     record {
@@ -36,7 +36,7 @@ returns-in-Ok-End-clause-replayed g c =
     let reached = when-ok c.replay-reached.result at.field-0 End _ at.is field ran.reached in
     let text = when-ok c.replay-reached.result at.field-0 End _ at.is field ran.printed in
     let marks = marks-ok c.replay-reached.result at.field-0 v.journal w.journal at.is ran.marks in
-    let journal = then-journal g.D.Disk.content g.D.Disk.may_leave _ _ _ _ _ _ v w come ran.same_start (inl goes.running) h.legal h.running h.entries h.sound h.led h.lasting h.images h.opens in
+    let journal = then-journal g.D.Disk.content g.D.Disk.may_leave _ _ _ _ _ _ v w come ran.same_start (granted-running w goes.running) h.legal h.running h.entries h.sound h.led h.lasting h.images h.opens in
     let e = c.end_in.ensures in
     rw e.kept
     (λ disk faults le reads. all-done g.D.Disk.content g.D.Disk.may_leave _ _ _ _ _ _ v w come ran.same_start journal c.args.source.now c.replay-reached.new.source disk reads
@@ -58,7 +58,7 @@ returns-in-Err-crash-clause-replayed g c =
     let goes = when-ok c.replay-reached.result at.field-0 line _ at.is field ran.goes_on in
     let reached = when-ok c.replay-reached.result at.field-0 line _ at.is field ran.reached in
     let text = when-ok c.replay-reached.result at.field-0 line _ at.is field ran.printed in
-    let journal = then-journal g.D.Disk.content g.D.Disk.may_leave _ _ _ _ _ _ v w come ran.same_start (inl goes.running) h.legal h.running h.entries h.sound h.led h.lasting h.images h.opens in
+    let journal = then-journal g.D.Disk.content g.D.Disk.may_leave _ _ _ _ _ _ v w come ran.same_start (granted-running w goes.running) h.legal h.running h.entries h.sound h.led h.lasting h.images h.opens in
     λ disk faults le reads. all-crashed g.D.Disk.content g.D.Disk.may_leave _ _ _ _ _ _ v w come ran.same_start journal reached.0 c.in-Ok-CrashLine.pick c.in-Ok-CrashLine.last (pending c.replay-reached.new.script.lines) (g.R.Source.left c.replay-reached.new.source)
     (g.W.Sink.written c.replay-reached.new.out) reached.2 goes.running text c.args.source.now c.replay-reached.new.source disk reads g.D.Disk.faults (g.W.Sink.written c.crash.new.out) (g.R.Source.faults c.args.source.now) (g.R.Source.faults c.replay-reached.new.source)
     (g.W.Sink.faults c.args.out.now) (g.W.Sink.faults c.replay-reached.new.out) (g.W.Sink.faults c.crash.new.out) faults c.in-Err-crash.ended.0 c.in-Err-crash.ended.1 (omega (arith, c.crashes.invariant.out_later, ran.out_later))
@@ -77,7 +77,7 @@ returns-in-Err-crash-clause-later g c =
     let goes = when-ok c.replay-reached.result at.field-0 line _ at.is field ran.goes_on in
     let reached = when-ok c.replay-reached.result at.field-0 line _ at.is field ran.reached in
     let text = when-ok c.replay-reached.result at.field-0 line _ at.is field ran.printed in
-    let journal = then-journal g.D.Disk.content g.D.Disk.may_leave _ _ _ _ _ _ v w come ran.same_start (inl goes.running) h.legal h.running h.entries h.sound h.led h.lasting h.images h.opens in
+    let journal = then-journal g.D.Disk.content g.D.Disk.may_leave _ _ _ _ _ _ v w come ran.same_start (granted-running w goes.running) h.legal h.running h.entries h.sound h.led h.lasting h.images h.opens in
     let later = crashed-later g.D.Disk.content g.D.Disk.may_leave _ _ _ _ _ _ v w come ran.same_start journal reached.0 c.in-Ok-CrashLine.pick c.in-Ok-CrashLine.last (pending c.replay-reached.new.script.lines) (g.R.Source.left c.replay-reached.new.source)
     (g.W.Sink.written c.replay-reached.new.out) reached.2 goes.running text g.D.Disk.faults (g.W.Sink.written c.crash.new.out) (g.W.Sink.faults c.replay-reached.new.out) (g.W.Sink.faults c.crash.new.out) c.in-Err-crash.ended.0 c.in-Err-crash.ended.1 c.in-Err-crash.ensures.err in
     record {
@@ -99,7 +99,7 @@ returns-then-last-clause-replayed g c =
     let goes = when-ok c.replay-reached.result at.field-0 line _ at.is field ran.goes_on in
     let reached = when-ok c.replay-reached.result at.field-0 line _ at.is field ran.reached in
     let text = when-ok c.replay-reached.result at.field-0 line _ at.is field ran.printed in
-    let journal = then-journal g.D.Disk.content g.D.Disk.may_leave _ _ _ _ _ _ v w come ran.same_start (inl goes.running) h.legal h.running h.entries h.sound h.led h.lasting h.images h.opens in
+    let journal = then-journal g.D.Disk.content g.D.Disk.may_leave _ _ _ _ _ _ v w come ran.same_start (granted-running w goes.running) h.legal h.running h.entries h.sound h.led h.lasting h.images h.opens in
     let again = c.in-Ok.ensures.ok in
     let e = c.end_in-then-last.ensures in
     rw e.kept
@@ -122,7 +122,7 @@ crashes-preserved g c =
     let reached = when-ok c.replay-reached.result at.field-0 line _ at.is field ran.reached in
     let text = when-ok c.replay-reached.result at.field-0 line _ at.is field ran.printed in
     let number = when-ok c.replay-reached.result at.field-0 line _ at.is field ran.number in
-    let journal = then-journal g.D.Disk.content g.D.Disk.may_leave _ _ _ _ _ _ v w come ran.same_start (inl goes.running) h.legal h.running h.entries h.sound h.led h.lasting h.images h.opens in
+    let journal = then-journal g.D.Disk.content g.D.Disk.may_leave _ _ _ _ _ _ v w come ran.same_start (granted-running w goes.running) h.legal h.running h.entries h.sound h.led h.lasting h.images h.opens in
     let again = c.in-Ok.ensures.ok in
     record {
       number = number;
