@@ -12,6 +12,8 @@ mod host_disk;
 #[cfg(test)]
 mod log;
 #[cfg(test)]
+mod made;
+#[cfg(test)]
 mod openings;
 #[cfg(test)]
 mod pages;

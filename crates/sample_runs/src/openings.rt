@@ -1,23 +1,28 @@
-//! Runs of how a store is read from a disk: a new one, and logs and pages that are refused, each at its place.
-use disk_model::{Area, Disk, MemoryDisk};
-use restart_store::init;
+//! Runs of how a store is read from a disk: logs that are refused, each at its place.
+use crate::made::disk_with;
+use disk_model::MemoryDisk;
+use restart_store::InitRefusal;
+use std::alloc::Global;
 use std::process::Abort;
 use std::test::Fail;
-use store_opening::{OpenRefusal, Place, read_cells, read_store};
+use store_opening::{OpenRefusal, Place, read_cells};
 
-/// The log with these bytes, in a store of one page, is read with this answer.
+/// What reading the store of the disk is refused with.
+fn refusal(alloc: Global, disk: &mut MemoryDisk) -> Option<OpenRefusal> {
+    read_cells::<MemoryDisk, 6>(alloc, disk).err()
+}
+
+/// The logs with these bytes, each in a store of one page, are read with these answers.
 fn expect_read(
-    rt: &(impl Abort + AllocGlobal),
-    log: &[u8],
-    wanted: Option<OpenRefusal>,
-) -> Result<(), Fail> {
-    let alloc = rt.alloc();
-    let mut disk = MemoryDisk::new(alloc);
-    init(&mut disk, 1)?;
-    disk.cut(Area::LogA, 0)?;
-    disk.write_at(Area::LogA, 0, log)?;
-    let answer = read_cells::<MemoryDisk, 6>(alloc, &mut disk);
-    assert!(rt; answer.err() == wanted, "{log:?}");
+    rt: &impl Abort,
+    alloc: Global,
+    cases: &[(&[u8], Option<OpenRefusal>)],
+) -> Result<(), InitRefusal> {
+    for (log, wanted) in cases {
+        let mut disk = disk_with(alloc, log)?;
+        let answer = refusal(alloc, &mut disk);
+        assert!(rt; answer == *wanted, "{log:?}");
+    }
     Ok(())
 }
 
@@ -30,84 +35,76 @@ fn damaged(at: u64) -> Option<OpenRefusal> {
 }
 
 #[test]
-fn a_new_store_is_read(rt: HostRuntime) -> Result<(), Fail> {
-    let alloc = rt.alloc();
-    let mut disk = MemoryDisk::new(alloc);
-    init(&mut disk, 3)?;
-    let store = read_store::<MemoryDisk, 6>(alloc, &mut disk)?;
-    assert!(rt; store.pages.len() == 3);
-    assert!(rt; store.log.durable() == 9);
-    Ok(())
-}
-
-#[test]
-fn an_empty_disk_has_no_store(rt: HostRuntime) -> Result<(), Fail> {
+fn an_empty_disk_has_no_store(rt: HostRuntime) {
     let mut disk = MemoryDisk::new(rt.alloc());
-    let answer = read_cells::<MemoryDisk, 6>(rt.alloc(), &mut disk);
-    assert!(rt; answer.err() == Some(OpenRefusal::NoStore));
-    Ok(())
+    let answer = refusal(rt.alloc(), &mut disk);
+    assert!(rt; answer == Some(OpenRefusal::NoStore));
 }
 
 #[test]
 fn first_batches(rt: HostRuntime) -> Result<(), Fail> {
     let unknown = Some(OpenRefusal::UnknownVersion { byte: 9 });
-    expect_read(&rt, b"", damaged(0))?;
-    expect_read(&rt, b"\x00", damaged(0))?;
-    expect_read(&rt, b"\x01\0\0\0\x04\x0e\x09\0\x01\0", unknown)?;
-    expect_read(&rt, b"\x01\0\0\0\x05\x0e\x09\0\x01\0\0", damaged(5))?;
-    expect_read(&rt, b"\x01\0\0\0\x05\x0e\x01\0\x01\0\0", damaged(9))?;
-    expect_read(&rt, b"\x01\0\0\0\x04\x0e\x01\0\x01", damaged(9))
+    let cases = [
+        (b"".as_slice(), damaged(0)),
+        (b"\x00", damaged(0)),
+        (b"\x01\0\0\0\x04\x0e\x09\0\x01\0", unknown),
+        (b"\x01\0\0\0\x05\x0e\x09\0\x01\0\0", damaged(5)),
+        (b"\x01\0\0\0\x05\x0e\x01\0\x01\0\0", damaged(9)),
+        (b"\x01\0\0\0\x04\x0e\x01\0\x01", damaged(9)),
+    ];
+    expect_read(&rt, rt.alloc(), &cases)?;
+    Ok(())
 }
 
 #[test]
 fn records_that_do_not_fit_a_log(rt: HostRuntime) -> Result<(), Fail> {
-    // A second begin of client 1; an object of page 1 in a store of one page; a second `Turn`.
-    expect_read(
-        &rt,
-        b"\x01\0\0\0\x04\x0e\x01\0\x01\x01\0\0\0\x04\x01\x01\x01\x01\0",
-        damaged(16),
-    )?;
-    expect_read(
-        &rt,
-        b"\x01\0\0\0\x04\x0e\x01\0\x01\x01\0\0\0\x08\x01\x01\x02\x01\0\0\0\x09\0",
-        damaged(16),
-    )?;
-    expect_read(
-        &rt,
-        b"\x01\0\0\0\x04\x0e\x01\0\x01\x01\0\0\0\x04\x0e\x01\0\x01\0",
-        damaged(14),
-    )?;
-    // A bad record comes before the commit byte that is missing behind its batch.
-    expect_read(
-        &rt,
-        b"\x01\0\0\0\x04\x0e\x01\0\x01\x01\0\0\0\x02\x05\x01",
-        damaged(14),
-    )
+    let cases = [
+        // A second begin of client 1; an object of page 1 in a store of one page; a second `Turn`.
+        (
+            b"\x01\0\0\0\x04\x0e\x01\0\x01\x01\0\0\0\x04\x01\x01\x01\x01\0".as_slice(),
+            damaged(16),
+        ),
+        (
+            b"\x01\0\0\0\x04\x0e\x01\0\x01\x01\0\0\0\x08\x01\x01\x02\x01\0\0\0\x09\0",
+            damaged(16),
+        ),
+        (
+            b"\x01\0\0\0\x04\x0e\x01\0\x01\x01\0\0\0\x04\x0e\x01\0\x01\0",
+            damaged(14),
+        ),
+        // A bad record comes before the commit byte that is missing behind its batch.
+        (
+            b"\x01\0\0\0\x04\x0e\x01\0\x01\x01\0\0\0\x02\x05\x01",
+            damaged(14),
+        ),
+    ];
+    expect_read(&rt, rt.alloc(), &cases)?;
+    Ok(())
 }
 
 #[test]
 fn records_that_do_not_fit_cells(rt: HostRuntime) -> Result<(), Fail> {
-    // An object is made and laid into the root; all fits.
-    expect_read(
-        &rt,
-        b"\x01\0\0\0\x04\x0e\x01\0\x01\x01\0\0\0\x1c\x01\x01\x02\x01\0\0\0\x02\x03\x01\0\0\0\x01\0\0\0\0\0\0\0\0\0\x02\0\x01\x05\x01\0",
-        None,
-    )?;
-    // It was not made; then the slot does not hold the old target.
-    expect_read(
-        &rt,
-        b"\x01\0\0\0\x04\x0e\x01\0\x01\x01\0\0\0\x16\x01\x01\x03\x01\0\0\0\x01\0\0\0\0\0\0\0\0\0\x02\0\x01\x05\x01\0",
-        damaged(16),
-    )?;
-    expect_read(
-        &rt,
-        b"\x01\0\0\0\x04\x0e\x01\0\x01\x01\0\0\0\x1c\x01\x01\x02\x01\0\0\0\x02\x03\x01\0\0\0\x01\0\0\0\0\x02\x01\0\0\0\x02\0\x01\x05\x01\0",
-        damaged(22),
-    )?;
-    // A bad record behind one that does not fit a cell is told first.
-    expect_read(
-        &rt,
-        b"\x01\0\0\0\x04\x0e\x01\0\x01\x01\0\0\0\x17\x01\x01\x03\x01\0\0\0\x01\0\0\0\0\0\0\0\0\0\x02\0\x01\x05\x01\x63\0",
-        damaged(36),
-    )
+    let cases = [
+        // An object is made and laid into the root; all fits.
+        (
+            b"\x01\0\0\0\x04\x0e\x01\0\x01\x01\0\0\0\x1c\x01\x01\x02\x01\0\0\0\x02\x03\x01\0\0\0\x01\0\0\0\0\0\0\0\0\0\x02\0\x01\x05\x01\0".as_slice(),
+            None,
+        ),
+        // It was not made; then the slot does not hold the old target.
+        (
+            b"\x01\0\0\0\x04\x0e\x01\0\x01\x01\0\0\0\x16\x01\x01\x03\x01\0\0\0\x01\0\0\0\0\0\0\0\0\0\x02\0\x01\x05\x01\0",
+            damaged(16),
+        ),
+        (
+            b"\x01\0\0\0\x04\x0e\x01\0\x01\x01\0\0\0\x1c\x01\x01\x02\x01\0\0\0\x02\x03\x01\0\0\0\x01\0\0\0\0\x02\x01\0\0\0\x02\0\x01\x05\x01\0",
+            damaged(22),
+        ),
+        // A bad record behind one that does not fit a cell is told first.
+        (
+            b"\x01\0\0\0\x04\x0e\x01\0\x01\x01\0\0\0\x17\x01\x01\x03\x01\0\0\0\x01\0\0\0\0\0\0\0\0\0\x02\0\x01\x05\x01\x63\0",
+            damaged(36),
+        ),
+    ];
+    expect_read(&rt, rt.alloc(), &cases)?;
+    Ok(())
 }

@@ -1,35 +1,30 @@
 //! Runs of how a store is opened: what had not ended is undone for good, and stores that break a rule are refused.
+use crate::made::{disk_with, made, replace};
 use disk_model::{Area, Disk, MemoryDisk};
 use opened_store::open_store;
-use restart_store::init;
-use std::alloc::Global;
+use std::alloc::{AllocError, Global};
 use std::process::Abort;
 use std::test::Fail;
 use store_opening::{OpenRefusal, Place};
 
-/// A new store of one page whose log area A has these bytes.
-fn disk_with(alloc: Global, log: &[u8]) -> Result<MemoryDisk, Fail> {
-    let mut disk = MemoryDisk::new(alloc);
-    init(&mut disk, 1)?;
-    disk.cut(Area::LogA, 0)?;
-    disk.write_at(Area::LogA, 0, log)?;
-    Ok(disk)
-}
-
-/// A new store of one page, of which the first cells begin with these bytes.
-fn disk_of(alloc: Global, cells: &[&[u8]]) -> Result<MemoryDisk, Fail> {
-    let mut disk = MemoryDisk::new(alloc);
-    init(&mut disk, 1)?;
-    let mut page = Vec::new(alloc);
-    for (place, byte) in disk.bytes(Area::Pages).iter().enumerate() {
+/// The page, of which the first cells begin with these bytes.
+fn page_of(alloc: Global, page: &[u8], cells: &[&[u8]]) -> Result<Vec<u8>, AllocError> {
+    let mut bytes = Vec::new(alloc);
+    for (place, byte) in page.iter().enumerate() {
         let byte = match cells.get(place / 64) {
             Some(cell) => *cell.get(place % 64).unwrap_or(byte),
             None => *byte,
         };
-        page.push(byte)?;
+        bytes.push(byte)?;
     }
-    disk.cut(Area::Pages, 0)?;
-    disk.write_at(Area::Pages, 0, &page)?;
+    Ok(bytes)
+}
+
+/// A new store of one page, of which the first cells begin with these bytes.
+fn disk_of(alloc: Global, cells: &[&[u8]]) -> Result<MemoryDisk, Fail> {
+    let mut disk = made(alloc, 1)?;
+    let page = page_of(alloc, disk.bytes(Area::Pages), cells)?;
+    replace(&mut disk, Area::Pages, &page)?;
     Ok(disk)
 }
 
@@ -104,53 +99,60 @@ fn rules_of_a_store(rt: HostRuntime) -> Result<(), Fail> {
     Ok(())
 }
 
-/// A new store of two pages whose log has an image of the second one, and whose pages area has so many bytes.
-fn short_disk(alloc: Global, len: u64) -> Result<MemoryDisk, Fail> {
-    let mut disk = MemoryDisk::new(alloc);
-    init(&mut disk, 2)?;
-    let mut log = Vec::from_slice(
-        alloc,
-        b"\x01\0\0\0\x04\x0e\x01\0\x02\x01\0\0\x02\x03\x0d\0\x01",
-    )?;
-    let mut pages = Vec::new(alloc);
-    for (place, byte) in disk.bytes(Area::Pages).iter().enumerate() {
-        if (place as u64) < len {
-            pages.push(*byte)?;
-        }
-        if 512 <= place {
-            log.push(*byte)?;
-        }
-    }
+/// The log of a store of two pages that has an image of the second one, with these bytes.
+fn log_with_image(alloc: Global, page: &[u8]) -> Result<Vec<u8>, AllocError> {
+    let turn_and_image = b"\x01\0\0\0\x04\x0e\x01\0\x02\x01\0\0\x02\x03\x0d\0\x01";
+    let mut log = Vec::from_slice(alloc, turn_and_image)?;
+    log.extend_from_slice(page)?;
     log.push(0)?;
-    disk.cut(Area::LogA, 0)?;
-    disk.write_at(Area::LogA, 0, &log)?;
-    disk.cut(Area::Pages, 0)?;
-    disk.write_at(Area::Pages, 0, &pages)?;
+    Ok(log)
+}
+
+/// A new store of two pages whose log has an image of the second one, and whose pages area has so many bytes.
+fn short_disk(alloc: Global, len: usize) -> Result<MemoryDisk, Fail> {
+    let mut disk = made(alloc, 2)?;
+    let pages = Vec::from_slice(alloc, disk.bytes(Area::Pages))?;
+    let log = log_with_image(alloc, pages.get(512..).unwrap_or(&[]))?;
+    replace(&mut disk, Area::LogA, &log)?;
+    replace(&mut disk, Area::Pages, pages.get(..len).unwrap_or(&[]))?;
     Ok(disk)
+}
+
+/// The pages area has 1,024 bytes, and zeros from this offset on.
+fn expect_zeros(rt: &impl Abort, disk: &MemoryDisk, from: usize) {
+    let bytes = disk.bytes(Area::Pages);
+    assert!(rt; bytes.len() == 1024);
+    for (place, byte) in bytes.iter().enumerate() {
+        assert!(rt; place < from || *byte == 0);
+    }
+}
+
+/// The store whose pages area has so many bytes is opened, and lengthened for good.
+fn expect_lengthened(rt: &(impl Abort + AllocGlobal), len: usize) -> Result<(), Fail> {
+    let mut disk = short_disk(rt.alloc(), len)?;
+    expect_opened(rt, &mut disk, None);
+    expect_zeros(rt, &disk, len);
+    disk.lose_power(3)?;
+    expect_zeros(rt, &disk, len);
+    expect_opened(rt, &mut disk, None);
+    Ok(())
 }
 
 #[test]
 fn a_short_pages_area_is_lengthened(rt: HostRuntime) -> Result<(), Fail> {
-    let alloc = rt.alloc();
-    for len in [512u64, 600, 1023, 1024] {
-        let mut disk = short_disk(alloc, len)?;
-        expect_opened(&rt, &mut disk, None);
-        assert!(rt; disk.bytes(Area::Pages).len() == 1024);
-        for (place, byte) in disk.bytes(Area::Pages).iter().enumerate() {
-            assert!(rt; (place as u64) < len || *byte == 0);
-        }
-        disk.lose_power(3)?;
-        assert!(rt; disk.bytes(Area::Pages).len() == 1024);
-        expect_opened(&rt, &mut disk, None);
+    for len in [512, 600, 1023, 1024] {
+        expect_lengthened(&rt, len)?;
     }
-    // The first page has no image, and isn't whole.
-    let mut disk = short_disk(alloc, 511)?;
+    Ok(())
+}
+
+/// The first page has no image, and isn't whole.
+#[test]
+fn a_cut_page_without_an_image_is_refused(rt: HostRuntime) -> Result<(), Fail> {
+    let mut disk = short_disk(rt.alloc(), 511)?;
     let place = Place::Page(0);
-    expect_opened(
-        &rt,
-        &mut disk,
-        Some(OpenRefusal::Damaged { place, at: 511 }),
-    );
+    let damaged = OpenRefusal::Damaged { place, at: 511 };
+    expect_opened(&rt, &mut disk, Some(damaged));
     assert!(rt; disk.bytes(Area::Pages).len() == 511);
     Ok(())
 }

@@ -6,16 +6,18 @@
 #[cfg(test)]
 mod audits;
 #[cfg(test)]
-mod limits;
+mod cleaned;
 #[cfg(test)]
 mod logged;
 #[cfg(test)]
 mod opened;
 #[cfg(test)]
-mod readme;
+mod program;
 #[cfg(test)]
-mod restarted;
+mod readme;
 #[cfg(test)]
 mod restarts;
 #[cfg(test)]
 mod scripts;
+#[cfg(test)]
+mod steps;
