@@ -121,6 +121,19 @@ impl<const SLOTS: usize> Three<SLOTS> {
         Some(held.page)
     }
 
+    /// Lets the frame that was put last go, and gives it with its page; `None` exactly where none is held.
+    pub fn take(&mut self) -> Option<(u16, Frame<SLOTS>)>
+        ensures last { IfSome result (λ r. self.old ≡ self.new ++ record { page = r.0; frame = r.1 } ∷ []) }
+        ensures none { IfNone result ((self.old ≡ []) × (self.new ≡ [])) }
+    {
+        if self.count == 0 {
+            return None;
+        }
+        self.count -= 1;
+        let held = &self.frames[self.count];
+        Some((held.page, held.frame))
+    }
+
     /// Whether no frame is held.
     pub(crate) fn is_empty(&self) -> bool
         ensures exact { result ≡ holds_nothing self.now }
