@@ -1,0 +1,21 @@
+//! Words that threads latch: one for each page, one for a log, and the log's length.
+//!
+//! A [`Chronicle`] is a log whose entries determine the content of every page. [`Latches`] keeps it behind the log word and
+//! each page's frame behind a word of its own. What a frame shows is at each moment what the chronicle says of its page.
+#![tactic(auto)]
+
+mod chronicle;
+mod content;
+mod hold;
+mod latches;
+mod packing;
+mod plays;
+mod rule;
+mod table;
+mod view;
+
+pub use chronicle::Chronicle;
+pub use content::Content;
+pub use hold::{Held, Hold};
+pub use table::Latches;
+pub use view::{Hands, Knowledge, Station, Story, View};
