@@ -10,6 +10,8 @@ mod edges;
 #[cfg(test)]
 mod host_disk;
 #[cfg(test)]
+mod latches;
+#[cfg(test)]
 mod log;
 #[cfg(test)]
 mod made;
