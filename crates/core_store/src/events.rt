@@ -31,7 +31,7 @@ impl<const SLOTS: usize> Tables<SLOTS> {
     pub(crate) fn is_idle(&self) -> bool
         ensures { result ≡ (is_closed (view_of self.now).round && is_none_queued (view_of self.now).queue) }
     {
-        self.round.left() == 0 && self.queue.len() == 0
+        self.round.is_closed() && self.queue.len() == 0
     }
 
     /// Makes the event that comes next. Out of memory leaves all as it was.

@@ -11,7 +11,7 @@ ghost use Rattle.green_walk.specs.Sweeping.{SweepState as Sweep, started, found}
 ghost use Rattle.green_walk.specs.Greening.{Greening, next as next_of_green, found as found_by_green, started as green_started, IsAnswer, IsTestable, waits, testing, tested};
 ghost use Rattle.green_walk.specs.GreenLaws.{most_work};
 ghost use Rattle.cell_model.specs.Cells.{Cell as StoredCell};
-ghost use Rattle.core_store.specs.RoundView.{RoundView, Closed, Walking, Sweeping, asked, asked_by_test, asked_by_green, IsSlotLook, IsGreenAnswer, IsGreenTestable, looked_past, touched_in, left_of, ids_in, IsInStep};
+ghost use Rattle.core_store.specs.RoundView.{RoundView, Closed, Walking, Sweeping, is_closed, asked, asked_by_test, asked_by_green, IsSlotLook, IsGreenAnswer, IsGreenTestable, looked_past, touched_in, left_of, ids_in, IsInStep};
 ghost use Rattle.core_store.specs.RoundInside.{IsRowOf};
 
 use crate::round_at::RoundAt;
@@ -176,6 +176,16 @@ impl<const SLOTS: usize> Round<SLOTS> {
                 let sweeping = slots.saturating_sub(self.slot as u64) + self.sweep.unfreed() as u64;
                 sweeping + self.green.work_left() + 1
             }
+        }
+    }
+
+    /// Whether no round is open.
+    pub(crate) fn is_closed(&self) -> bool
+        ensures { result ≡ is_closed self.now.view }
+    {
+        match self.stage {
+            Stage::Closed => true,
+            Stage::Walking | Stage::Sweeping => false,
         }
     }
 

@@ -17,12 +17,12 @@ use Rattle.log_record.specs.Spelling.{IsPass}
 use Rattle.cell_page.specs.Format.{IsSlotCount}
 use Rattle.core_store.specs.JournalView.{JournalView}
 use Rattle.core_store.specs.Limited.{is_past_limit}
-use Rattle.core_store.specs.Owed.{entries_needed}
+use Rattle.core_store.specs.Owed.{entries_needed, bytes_needed}
 use Rattle.core_store.specs.Steppings.{IsEntered, bytes_at, bytes_to_collect}
 use Rattle.core_store.specs.RoundView.{RoundView, Closed, asked}
 use Rattle.core_store.specs.declared.round_at.RoundAt.{RoundAt}
 use Rattle.core_store.specs.declared.round_at.RoundAt.TheVariants as at
-use Rattle.logged_journal.specs.View.{image_need, LoggedView, history_of}
+use Rattle.logged_journal.specs.View.{image_need, LoggedView, IsPast, history_of}
 use Rattle.logged_journal.specs.Records.{HasRecords, MayBeLeft, MayHave, with_commit}
 use Rattle.logged_journal.specs.Calls.{IsGranted, IsOfJournal, DoesCall}
 use Rattle.logged_journal.specs.Opens.{OpensAfter, OpensDuring, as_before, as_failed}
@@ -71,6 +71,18 @@ is-granted j pass c b is true-is = by (is_past_limit j (entries_needed c)) refl 
     by false room None granted e = record { room = room; granted = granted }
     by false room (Some r) granted e = absurd (cc (e))
     by true room o granted e = absurd (cc (e))
+
+-- a call that can't be made at once, for which the history has room, and that isn't past the log's limit, is a commit
+pub commit-left : {D : Type 0} (v : LoggedView D) (c : TransactionCall) (full b : Bool) (n : ℕ) → (c ≡ call.Commit) ⊎ (full ≡ true) ⊎ IsPast v (bytes_needed c) → full ≡ false → (IsPast v n → b ≡ true) → b ≡ false → n ≡ bytes_needed c → c ≡ call.Commit
+commit-left v c full b n either room past isnt value =
+    ⊎_elim
+    (λ is. is)
+    (λ rest.
+    ⊎_elim
+    (λ is. absurd (let e : true ≡ false = sym is ∙ room in cc (e)))
+    (λ over. absurd (let e = sym isnt ∙ past (subst (λ (k : ℕ). IsPast v k) (sym value) over) in cc (e)))
+    rest)
+    either
 
 -- a commit that isn't granted isn't done
 pub never-done : (slots : ℕ) (j k : JournalView) (pass : ℕ) (r : Reply) → (IsGranted j pass call.Commit → ⊥) → DoesCall slots j k pass call.Commit r → r ≡ reply.Done → ⊥

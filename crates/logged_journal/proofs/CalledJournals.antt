@@ -12,7 +12,7 @@ use Rattle.plain_model.specs.declared.calls.Reply.TheVariants as reply
 use Rattle.plain_model.specs.declared.calls.Entry.TheVariants.{Call}
 use Rattle.plain_model.specs.ActiveTransaction.{ActiveTransaction}
 use Rattle.plain_model.specs.Machine.{State, refusal_of, transaction_of}
-use Rattle.plain_model.specs.History.{end_of, next}
+use Rattle.plain_model.specs.History.{Moment, end_of, next}
 use Rattle.plain_model.proofs.HistoryLemmas.{end_of-with_entry}
 use Rattle.plain_model.proofs.StepLaws.{is_plain, step-plain}
 use Rattle.plain_laws.specs.Sound.{is_crash, PassesAscend}
@@ -276,17 +276,16 @@ note-length n = by n.logged
     by None = refl
     by (Some r) = refl
 
--- a granted call that there is room for, and its journal after it
+-- a call that was answered, that there is room for, and its journal after it
 pub record IsCalled {D : Type 0} (slots : ℕ) (v : LoggedView D) (new : JournalView) (pass : ℕ) (c : TransactionCall) (r : Reply) : Type 0 where
   pub running : v.failed ≡ None
-  pub granted : IsGranted v.journal pass c
   pub other : c ≢ call.Commit
   pub no_abort : c ≡ call.Abort → transaction_of (end_of v.journal.history).state pass ≡ None
   pub ascend : PassesAscend (end_of v.journal.history).state.active
   pub room : IsPast v (bytes_needed c) → ⊥
   pub limits : AreLimits v.journal.limits
   pub does : DoesCall slots v.journal new pass c r
-  pub some : r ≢ reply.Memory
+  pub entered : IsEntered r
 
 -- the bytes of the log that the call asks for
 abbrev pub asked : {D : Type 0} → LoggedView D → TransactionCall → ℕ
@@ -298,23 +297,35 @@ after_call v new marks c =
     let log : LogState = appended (record v.log { room = max v.log.room (asked v c) }) (last_bytes new.notes) in
     record v { journal = new; log = log; marks = marks; peak = max v.peak (used log + bytes_owed (end_of new.history)) }
 
-pub called-entered : {D : Type 0} (slots : ℕ) (v : LoggedView D) (new : JournalView) (pass : ℕ) (c : TransactionCall) (r : Reply) → IsCalled slots v new pass c r → IsEntered r
-called-entered slots v new pass c r h = (h.some, λ full. let e : true ≡ false = sym (h.does.full.0 full) ∙ h.granted.room in absurd (cc (e)))
-
 -- its record
 called-last : {D : Type 0} (slots : ℕ) (v : LoggedView D) (new : JournalView) (pass : ℕ) (c : TransactionCall) (r : Reply) → IsCalled slots v new pass c r → last_bytes new.notes ≡ note_bytes (note_of slots v.journal new pass c r)
-called-last slots v new pass c r h = ap last_bytes (h.does.noted (called-entered slots v new pass c r h)) ∙ last-push v.journal.notes (note_of slots v.journal new pass c r)
+called-last slots v new pass c r h = ap last_bytes (h.does.noted h.entered) ∙ last-push v.journal.notes (note_of slots v.journal new pass c r)
 
 -- what it logs and the transactions then owe is at most what it asks for
 pub called-owes : {D : Type 0} (slots : ℕ) (v : LoggedView D) (new : JournalView) (pass : ℕ) (c : TransactionCall) (r : Reply) → IsCalled slots v new pass c r → bytes_owed (end_of new.history) + length (last_bytes new.notes) ≤ asked v c
-called-owes slots v new pass c r h =
-    let m = end_of v.journal.history in
-    let e = called-entered slots v new pass c r h in
-    let law = call-owes m pass c h.ascend (granted-other m.state pass c h.granted.granted h.no_abort) h.granted.granted in
-    let after = owed-after slots v.journal new pass c r h.does e ∙ ap (λ (r : Reply). bytes_owed (next m (Call pass c r))) (h.does.machine e) in
-    let len = ap (λ (l : List ℕ). length l) (called-last slots v new pass c r h) ∙ note-length (note_of slots v.journal new pass c r) in
-    let most = call-length m.state (cells_of v.journal) pass c h.granted.granted in
-    omega (arith, law, after, len, most)
+called-owes slots v new pass c r h = by (refusal_of m.state pass c) refl
+  where
+    m : Moment
+    m = end_of v.journal.history
+
+    owed : bytes_owed (end_of new.history) ≡ bytes_owed (next m (Call pass c r))
+    owed = owed-after slots v.journal new pass c r h.does h.entered
+
+    len : length (last_bytes new.notes) ≡ logged_length (logged_by m.state (cells_of v.journal) pass c)
+    len = ap (λ (l : List ℕ). length l) (called-last slots v new pass c r h) ∙ note-length (note_of slots v.journal new pass c r)
+
+    by : (o : Option Reply) → refusal_of m.state pass c ≡ o → bytes_owed (end_of new.history) + length (last_bytes new.notes) ≤ asked v c
+    by None granted =
+        let law = call-owes m pass c h.ascend (granted-other m.state pass c granted h.no_abort) granted in
+        let after = owed ∙ ap (λ (r : Reply). bytes_owed (next m (Call pass c r))) (h.does.machine h.entered) in
+        let most = call-length m.state (cells_of v.journal) pass c granted in
+        omega (arith, law, after, len, most)
+    by (Some q) refused =
+        let same : r ≡ q = h.does.machine h.entered ∙ ap (λ (x : Reply × State). x.0) (call-refused m.state pass c q refused) in
+        let is : refusal_of m.state pass c ≡ Some r = refused ∙ ap (λ (q : Reply). Some q) (sym same) in
+        let after = owed ∙ refused-owes m pass c r is in
+        let none : length (last_bytes new.notes) ≡ 0 = len ∙ ap logged_length (refused-logs m.state v.journal pass c r is) in
+        omega (arith, after, none)
 
 -- so the log has room for its record
 pub called-room : {D : Type 0} (slots : ℕ) (v : LoggedView D) (new : JournalView) (pass : ℕ) (c : TransactionCall) (r : Reply) → IsCalled slots v new pass c r → length (last_bytes new.notes) ≤ max v.log.room (asked v c)
@@ -336,17 +347,17 @@ called-bounded slots v new marks pass c r h =
 called-marked : {D : Type 0} (slots : ℕ) (v : LoggedView D) (new : JournalView) (marks : List PageMark) (pass : ℕ) (c : TransactionCall) (r : Reply) → v.journal.history.slots ≡ slots → AreMarkedAfter slots (last_logged new.notes) v.marks marks
     → IsCalled slots v new pass c r → AreMarkedAfter v.journal.history.slots (logged_by (end_of v.journal.history).state (cells_of v.journal) pass c) v.marks marks
 called-marked slots v new marks pass c r own marked h =
-    last-marked slots v.journal.history.slots v.journal.notes new.notes (note_of slots v.journal new pass c r) v.marks marks own (h.does.noted (called-entered slots v new pass c r h)) marked
+    last-marked slots v.journal.history.slots v.journal.notes new.notes (note_of slots v.journal new pass c r) v.marks marks own (h.does.noted h.entered) marked
 
 pub called-goes : {D : Type 0} (slots : ℕ) (v : LoggedView D) (new : JournalView) (marks : List PageMark) (pass : ℕ) (c : TransactionCall) (r : Reply) → v.journal.history.slots ≡ slots → AreMarkedAfter slots (last_logged new.notes) v.marks marks
     → IsCalled slots v new pass c r → GoWithNotes v (after_call v new marks c)
-called-goes slots v new marks pass c r own marked h = joined (note_of slots v.journal new pass c r) (h.does.noted (called-entered slots v new pass c r h)) (called-marked slots v new marks pass c r own marked h)
+called-goes slots v new marks pass c r own marked h = joined (note_of slots v.journal new pass c r) (h.does.noted h.entered) (called-marked slots v new marks pass c r own marked h)
 
 module _ {D : Type 0} (may_leave : D → Area → List ℕ → Type 0) where
   pub kept-called : (slots : ℕ) (v : LoggedView D) (new : JournalView) (marks : List PageMark) (pass : ℕ) (c : TransactionCall) (r : Reply) → IsKept may_leave v → IsLastTyped new.notes → v.journal.history.slots ≡ slots → AreMarkedAfter slots (last_logged new.notes) v.marks marks
       → IsCalled slots v new pass c r → IsKept may_leave (after_call v new marks c)
   kept-called slots v new marks pass c r kept typed own marked h =
-      let e = called-entered slots v new pass c r h in
+      let e = h.entered in
       let owes = called-owes slots v new pass c r h in
       kept-event may_leave v (after_call v new marks c) (note_of slots v.journal new pass c r) kept
       (record {

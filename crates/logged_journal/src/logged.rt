@@ -20,7 +20,7 @@ ghost use Rattle.core_store.specs.Frames.{Agree, AllAgree, IsNext, pages_held};
 ghost use Rattle.core_store.specs.JournalView.{cells_of};
 ghost use Rattle.core_store.specs.Limited.{AreLimits, is_past_limit, pages_for_call, pages_for_collector};
 ghost use Rattle.core_store.specs.Logged.{pages_for_undo, want_of};
-ghost use Rattle.core_store.specs.Owed.{bytes_needed};
+ghost use Rattle.core_store.specs.Owed.{bytes_needed, entries_needed};
 ghost use Rattle.core_store.specs.Replaced.{next_to_restore};
 ghost use Rattle.core_store.specs.RoundView.{Closed, left_of};
 ghost use Rattle.core_store.specs.Safe.{IsDurable};
@@ -298,7 +298,20 @@ impl<const SLOTS: usize, D: Disk> LoggedJournal<SLOTS, D> {
         self.journal.apply(held, pass, call)
     }
 
-    /// A call that is granted and is no commit, for which there is room in the log.
+    /// Whether the call can be made before it is known whether it is granted: it is no commit, the history has room for it,
+    /// and what it needs stays within the log's limit.
+    fn is_within(&self, call: &Call) -> bool
+        requires running { self.now.failed ≡ None }
+        ensures within { result ≡ true → (call.now ≢ Call.Commit) × (is_past_limit self.now.journal (entries_needed call.now) ≡ false) × (IsPast self.now (bytes_needed call.now) → ⊥) × AreLimits self.now.journal.limits }
+        ensures other { result ≡ false → (call.now ≡ Call.Commit) ⊎ (is_past_limit self.now.journal (entries_needed call.now) ≡ true) ⊎ IsPast self.now (bytes_needed call.now) }
+    {
+        match call {
+            Call::Commit => false,
+            _ => !self.journal.is_full_for(call) && !self.is_past(bytes_needed(call)),
+        }
+    }
+
+    /// A call that is no commit, for which there is room in the history and in the log. Where it is refused, it logs nothing.
     fn log_call(&mut self, held: &mut Three<SLOTS>, pass: u8, call: &Call) -> Reply
         requires client { (1 ≤ pass) × (pass ≤ 64) }
         requires in_range { IsInRange SLOTS call.now }
@@ -306,7 +319,7 @@ impl<const SLOTS: usize, D: Disk> LoggedJournal<SLOTS, D> {
         requires agree { Agree (cells_of self.old.journal) held.old }
         requires ready { want_of (pages_for_call self.old.journal pass call.now) (pages_held held.old) ≡ Want.Ready }
         requires running { self.old.failed ≡ None }
-        requires granted { IsGranted self.old.journal pass call.now }
+        requires history { is_past_limit self.old.journal (entries_needed call.now) ≡ false }
         requires other { call.now ≢ Call.Commit }
         requires room { IsPast self.old (bytes_needed call.now) → ⊥ }
         requires limits { AreLimits self.old.journal.limits }
@@ -413,6 +426,9 @@ impl<const SLOTS: usize, D: Disk> LoggedJournal<SLOTS, D> {
                 faults: failed.faults,
             };
         }
+        if self.is_within(call) {
+            return self.log_call(held, pass, call);
+        }
         if !self.journal.grants(pass, call) {
             return self.refuse(held, pass, call);
         }
@@ -420,10 +436,7 @@ impl<const SLOTS: usize, D: Disk> LoggedJournal<SLOTS, D> {
             self.mark_full();
             return Reply::LogFull;
         }
-        match call {
-            Call::Commit => self.commit(held, pass),
-            _ => self.log_call(held, pass, call),
-        }
+        self.commit(held, pass)
     }
 
     /// Undoes the last write of the client's transaction that isn't undone, or ends the transaction where none is left. What

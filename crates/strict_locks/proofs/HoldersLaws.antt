@@ -26,6 +26,10 @@ least-owner h o exclusive owner = (grind (arith, nat_tests), λ q holds. let e =
 pub least-other_owner : (h : Holders) (pass o : ℕ) → IsExclusive h → h.owner ≡ Some o → o ≢ pass → IsLeast (StandsInWayOfOwn h pass) o
 least-other_owner h pass o exclusive owner other = let l = least-owner h o exclusive owner in ((other, l.0), λ q stands. l.1 q stands.1)
 
+-- nobody stands in the way of the owner
+pub nobody-beside_owner : (h : Holders) (pass o : ℕ) → IsExclusive h → h.owner ≡ Some o → o ≡ pass → Nobody (StandsInWayOfOwn h pass)
+nobody-beside_owner h pass o exclusive owner same p stands = let owns : is_owner h o ≡ true = grind (arith, nat_tests) in stands.0 (exclusive o p owns stands.1 ∙ same)
+
 -- who holds an object that has an entry
 pub holders_of-found : (table : Table) (id : ℕ) (h : Holders) → lookup (nat_eq id) table ≡ Some h → holders_of table id ≡ h
 holders_of-found table id h found = ap (λ o. unwrap_or o no_holders) found

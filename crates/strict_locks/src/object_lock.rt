@@ -66,7 +66,8 @@ impl ObjectLock {
     {
         match self.owner {
             Some(owner) if owner != pass => Some(owner),
-            _ => self.sharers.first_but(pass),
+            Some(_) => None,
+            None => self.sharers.first_but(pass),
         }
     }
 

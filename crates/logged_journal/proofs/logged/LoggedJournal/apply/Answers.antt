@@ -1,11 +1,14 @@
 use Rattle.std.proofs.Common.{rules, ◌≡◌, ◌≤◌, arith, ⊎_elim, sym, ◌∙◌, ap, subst, refl}
 use Rattle.disk_model.specs.Time.{LeavesOnlyImages}
 use Rattle.plain_model.specs.declared.calls.Call.{Call as TransactionCall}
+use Rattle.plain_model.specs.declared.calls.Call.TheVariants as call
 use Rattle.plain_model.specs.declared.calls.Reply.TheVariants as reply
+use Rattle.core_store.specs.Limited.{is_past_limit}
+use Rattle.core_store.specs.Owed.{entries_needed}
 use Rattle.logged_journal.specs.View.{LoggedView, IsPast}
 use Rattle.logged_journal.specs.Records.{MayHave}
 use Rattle.logged_journal.specs.Calls.{IsOfJournal, DoesCall, FailsCommit, IsGranted, KeepsFrames}
-use Rattle.logged_journal.proofs.AppliedCalls.{few-needed, still, opens-still, opens-commit, not-granted, is-granted, never-done, never-memory, no-other, if-none}
+use Rattle.logged_journal.proofs.AppliedCalls.{few-needed, still, opens-still, opens-commit, not-granted, is-granted, never-done, never-memory, no-other, if-none, commit-left}
 use Rattle.logged_journal.proofs.logged.LoggedJournal.apply.Given.{Over}
 use Rattle.logged_journal.proofs.logged.LoggedJournal.apply.Goals as goal
 
@@ -35,6 +38,9 @@ returns-then-not-grants-clause-moments g c =
     subst (λ (w : LoggedView g.row.D.Denot). w.disk ≡ w.disk → LeavesOnlyImages g.D.Disk.moment g.D.Disk.left_since w.disk c.refuse.new.self.disk (MayHave w c.args.pass)) c.self.view_is
     (λ _. still g.D.Disk.may_leave g.D.Disk.moment g.D.Disk.left_since g.D.Disk.only_now _ c.args.pass c.refuse.new.self.disk
     (c.refuse.ensures.disk.disk ∙ ap (λ (w : LoggedView g.row.D.Denot). w.disk) (sym c.self.view_is)) c.self.invariant.kept) refl
+
+pub is_within-requires-clause-running : goal.is_within-requires-clause-running
+is_within-requires-clause-running g c κs within = (search rules, ap (λ (w : LoggedView g.row.D.Denot). w.failed) (sym c.self.view_is) ∙ c.in_default.is)
 
 pub is_past-requires-after_bounds : goal.is_past-requires-after_bounds
 is_past-requires-after_bounds g c κs within = (search rules, (ap (λ (w : LoggedView g.row.D.Denot). w.failed) (sym c.self.view_is) ∙ c.in_default.is, few-needed g.row.SLOTS _ c.self.invariant.size c.bytes_needed.ensures.few))
@@ -84,7 +90,8 @@ commit-requires-after_bounds g c κs within =
               search rules,
               (
                 ap (λ (w : LoggedView g.row.D.Denot). w.failed) (sym c.self.view_is) ∙ c.in_default.is,
-                subst (λ (x : TransactionCall). IsGranted c.args.self.now.journal c.args.pass x) c.in-Commit.is all,
+                subst (λ (x : TransactionCall). IsGranted c.args.self.now.journal c.args.pass x)
+                    (commit-left c.args.self.now c.args.call.now (is_past_limit c.args.self.now.journal (entries_needed c.args.call.now)) c.is_past.result c.bytes_needed.result (c.is_within.ensures.other c.if-is_within.false) all.room c.is_past.ensures.past.1 c.if-is_past.false c.bytes_needed.ensures.value) all,
               ),
             ),
           ),
@@ -94,9 +101,7 @@ commit-requires-after_bounds g c κs within =
 
 pub log_call-requires-after_bounds : goal.log_call-requires-after_bounds
 log_call-requires-after_bounds g c κs within =
-    let size = c.self.invariant.size in
-    let all = subst (λ (w : LoggedView g.row.D.Denot). IsGranted w.journal c.args.pass c.args.call.now) c.self.view_is
-    (is-granted c.self.inside.journal c.args.pass c.args.call.now c.grants.result c.grants.ensures c.if-not-grants.false) in (
+    let free = c.is_within.ensures.within c.if-is_within.true in (
       search rules,
       (
         search rules,
@@ -112,7 +117,7 @@ log_call-requires-after_bounds g c κs within =
                   c.requires.ready,
                   (
                     ap (λ (w : LoggedView g.row.D.Denot). w.failed) (sym c.self.view_is) ∙ c.in_default.is,
-                    (all, (c.in_default-call.not-Commit, ((λ past. let e = sym c.if-is_past.false ∙ c.is_past.ensures.past.1 (subst (λ n. IsPast c.args.self.now n) (sym c.bytes_needed.ensures.value) past) in cc (e)), c.is_past.ensures.limits))),
+                    (free.1, (free.0, (free.2, free.3))),
                   ),
                 ),
               ),
@@ -122,49 +127,61 @@ log_call-requires-after_bounds g c κs within =
       ),
     )
 
-pub returns-in-Commit-clause-log_full : goal.returns-in-Commit-clause-log_full
-returns-in-Commit-clause-log_full g c =
+-- what is left is a commit
+left : (g : Over) (c : goal.After-commit g) → c.args.call.now ≡ call.Commit
+left g c =
+    let all = subst (λ (w : LoggedView g.row.D.Denot). IsGranted w.journal c.args.pass c.args.call.now) c.self.view_is
+    (is-granted c.self.inside.journal c.args.pass c.args.call.now c.grants.result c.grants.ensures c.if-not-grants.false) in
+    commit-left c.args.self.now c.args.call.now (is_past_limit c.args.self.now.journal (entries_needed c.args.call.now)) c.is_past.result c.bytes_needed.result (c.is_within.ensures.other c.if-is_within.false) all.room c.is_past.ensures.past.1 c.if-is_past.false c.bytes_needed.ensures.value
+
+pub returns-clause-log_full : goal.returns-clause-log_full
+returns-clause-log_full g c =
     ((λ is. let e = sym is ∙ c.commit.ensures.other (λ of. subst IsOfJournal is of) in absurd (cc (e))), λ past. absurd (let e = sym c.if-is_past.false ∙ c.is_past.ensures.past.1 (subst (λ n. IsPast c.args.self.now n) (sym c.bytes_needed.ensures.value) past.past) in cc (e)))
 
-pub returns-in-Commit-clause-same : goal.returns-in-Commit-clause-same
-returns-in-Commit-clause-same g c is =
+pub returns-clause-does : goal.returns-clause-does
+returns-clause-does g c of =
+    subst (λ (x : TransactionCall). DoesCall g.row.SLOTS c.args.self.now.journal c.commit.new.self.journal c.args.pass x c.commit.result) (sym (left g c)) (c.commit.ensures.does of)
+
+pub returns-clause-same : goal.returns-clause-same
+returns-clause-same g c is =
     absurd (⊎_elim (λ full. no-other c.commit.result reply.TraceFull (λ of. (c.commit.ensures.done of).0) full (λ e. cc (e)) tt)
     (λ memory. no-other c.commit.result reply.Memory (λ of. (c.commit.ensures.done of).0) memory (λ e. cc (e)) tt) is)
 
-pub returns-in-Commit-clause-committed : goal.returns-in-Commit-clause-committed
-returns-in-Commit-clause-committed g c is done = (c.commit.ensures.done (subst IsOfJournal (sym done) tt)).1
+pub returns-clause-committed : goal.returns-clause-committed
+returns-clause-committed g c is done = (c.commit.ensures.done (subst IsOfJournal (sym done) tt)).1
 
-pub returns-in-Commit-clause-commit : goal.returns-in-Commit-clause-commit
-returns-in-Commit-clause-commit g c is granted memory = no-other c.commit.result reply.Memory (λ of. (c.commit.ensures.done of).0) memory (λ e. cc (e)) tt
+pub returns-clause-commit : goal.returns-clause-commit
+returns-clause-commit g c is granted memory = no-other c.commit.result reply.Memory (λ of. (c.commit.ensures.done of).0) memory (λ e. cc (e)) tt
 
-pub returns-in-Commit-clause-untouched : goal.returns-in-Commit-clause-untouched
-returns-in-Commit-clause-untouched g c never =
+pub returns-clause-untouched : goal.returns-clause-untouched
+returns-clause-untouched g c never =
     let all = subst (λ (w : LoggedView g.row.D.Denot). IsGranted w.journal c.args.pass c.args.call.now) c.self.view_is
     (is-granted c.self.inside.journal c.args.pass c.args.call.now c.grants.result c.grants.ensures c.if-not-grants.false) in
-    absurd (never c.in-Commit.is (subst (λ (x : TransactionCall). IsGranted c.args.self.now.journal c.args.pass x) c.in-Commit.is all))
+    absurd (never (left g c) (subst (λ (x : TransactionCall). IsGranted c.args.self.now.journal c.args.pass x) (left g c) all))
 
-pub returns-in-Commit-clause-fault : goal.returns-in-Commit-clause-fault
-returns-in-Commit-clause-fault g c is =
+pub returns-clause-fault : goal.returns-clause-fault
+returns-clause-fault g c is =
     let fails = c.commit.ensures.fault is in
-    (subst (λ (x : TransactionCall). FailsCommit g.D.Disk.faults c.args.self.now c.commit.new.self c.args.pass x) (sym c.in-Commit.is) fails.0, fails.1)
+    (subst (λ (x : TransactionCall). FailsCommit g.D.Disk.faults c.args.self.now c.commit.new.self c.args.pass x) (sym (left g c)) fails.0, fails.1)
 
-pub returns-in_default-call : goal.returns-in_default-call
-returns-in_default-call g c =
+pub returns-then-is_within : goal.returns-then-is_within
+returns-then-is_within g c =
     let none = ap (λ (w : LoggedView g.row.D.Denot). w.failed) (sym c.self.view_is) ∙ c.in_default.is in
+    let free = c.is_within.ensures.within c.if-is_within.true in
     record {
       stopped = if-none c.args.self.now.failed _ none;
       only_stopped = λ faults is. absurd (subst IsOfJournal is c.log_call.ensures.journal);
       log_full = (
         (λ is. absurd (subst IsOfJournal is c.log_call.ensures.journal)),
-        (λ past. absurd (let e = sym c.if-is_past.false ∙ c.is_past.ensures.past.1 (subst (λ n. IsPast c.args.self.now n) (sym c.bytes_needed.ensures.value) past.past) in cc (e))),
+        (λ past. absurd (free.2 past.past)),
       );
       log_marked = λ is. absurd (subst IsOfJournal is c.log_call.ensures.journal);
       does = λ of. c.log_call.ensures.does;
       goes_on = λ of. c.log_call.ensures.goes_on;
       frames = c.log_call.ensures.frames;
       same = c.log_call.ensures.same;
-      committed = λ is done. absurd (c.in_default-call.not-Commit is);
-      commit = λ is granted memory. c.in_default-call.not-Commit is;
+      committed = λ is done. absurd (free.0 is);
+      commit = λ is granted memory. free.0 is;
       untouched = λ never. c.log_call.ensures.disk;
       fault = λ is. absurd (subst IsOfJournal is c.log_call.ensures.journal);
       later = subst (λ (d : g.row.D.Denot). g.D.Disk.faults c.args.self.now.disk ≤ g.D.Disk.faults d) (sym c.log_call.ensures.disk.disk) (omega (arith));
@@ -192,10 +209,10 @@ returns-then-is_past-clause-opens g c =
     opens-still g.D.Disk.may_leave g.D.Disk.moment g.D.Disk.left_since g.D.Disk.only_now g.row.SLOTS c.args.pass c.args.call.now _ c.args.self.now c.mark_full.new.self.disk c.self.view_is
     c.self.invariant.kept (ap (λ (w : LoggedView g.row.D.Denot). w.disk) c.mark_full.ensures.marked) c.know_images.ensures.left
 
-pub returns-in-Commit-clause-opens : goal.returns-in-Commit-clause-opens
-returns-in-Commit-clause-opens g c =
+pub returns-clause-opens : goal.returns-clause-opens
+returns-clause-opens g c =
     let all = subst (λ (w : LoggedView g.row.D.Denot). IsGranted w.journal c.args.pass c.args.call.now) c.self.view_is
     (is-granted c.self.inside.journal c.args.pass c.args.call.now c.grants.result c.grants.ensures c.if-not-grants.false) in
-    opens-commit g.D.Disk.moment g.D.Disk.left_since g.row.SLOTS c.args.pass c.args.call.now c.args.self.now c.args.self.now.disk c.commit.new.self.disk c.in-Commit.is
+    opens-commit g.D.Disk.moment g.D.Disk.left_since g.row.SLOTS c.args.pass c.args.call.now c.args.self.now c.args.self.now.disk c.commit.new.self.disk (left g c)
     (ap (λ (w : LoggedView g.row.D.Denot). w.failed) (sym c.self.view_is) ∙ c.in_default.is) c.requires.client
-    (subst (λ (x : TransactionCall). IsGranted c.args.self.now.journal c.args.pass x) c.in-Commit.is all) c.know_images.ensures.left c.know_images.ensures.failing c.commit.ensures.moments
+    (subst (λ (x : TransactionCall). IsGranted c.args.self.now.journal c.args.pass x) (left g c) all) c.know_images.ensures.left c.know_images.ensures.failing c.commit.ensures.moments

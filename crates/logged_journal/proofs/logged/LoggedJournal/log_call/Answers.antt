@@ -1,5 +1,5 @@
 use Rattle.std.proofs.Common.{◌≡◌, ◌≢◌, ◌≤◌, ◌<◌, ◌+◌, ⊎_elim, ℕ, max, Bool, false, length, None, refl, sym, ap, ◌∙◌, subst, arith, rules}
-use Rattle.std.specs.Prelude.{if◌then◌else◌, not}
+use Rattle.std.specs.Prelude.{◌↔◌, true, if◌then◌else◌, not}
 use Rattle.plain_model.specs.declared.calls.Call.{Call as TransactionCall}
 use Rattle.plain_model.specs.declared.calls.Call.TheVariants as call
 use Rattle.plain_model.specs.declared.calls.Reply.{Reply}
@@ -11,16 +11,17 @@ use Rattle.gate_log.specs.State.{LogState, used, appended}
 use Rattle.core_store.specs.declared.want.Want.TheVariants as want
 use Rattle.core_store.specs.Frames.{Agree, pages_held}
 use Rattle.core_store.specs.JournalView.{JournalView, cells_of}
-use Rattle.core_store.specs.Limited.{AreLimits, pages_for_call}
+use Rattle.core_store.specs.Limited.{AreLimits, is_past_limit, pages_for_call}
 use Rattle.core_store.specs.Logged.{want_of}
-use Rattle.core_store.specs.Owed.{bytes_owed, bytes_needed}
+use Rattle.core_store.specs.Owed.{bytes_owed, bytes_needed, entries_needed}
+use Rattle.core_store.specs.Steppings.{IsEntered}
 use Rattle.logged_journal.specs.Inside.{view_of}
 use Rattle.logged_journal.specs.declared.logged.LoggedJournal.TheInside.{Inside}
 use Rattle.logged_journal.specs.View.{LoggedView, IsPast}
 use Rattle.logged_journal.specs.Records.{last_bytes}
 use Rattle.logged_journal.specs.Kept.{IsKept}
-use Rattle.logged_journal.specs.Calls.{DoesCall, IsGranted, KeepsFrames, GoesOn, GoWithNotes, stayed, joined}
-use Rattle.logged_journal.proofs.CalledJournals.{of-journal, called-slots, called-entered, called-goes, kept-reserved, IsCalled, asked, after_call, called-room, called-bounded, kept-called}
+use Rattle.logged_journal.specs.Calls.{DoesCall, KeepsFrames, GoesOn, GoWithNotes, stayed, joined}
+use Rattle.logged_journal.proofs.CalledJournals.{of-journal, called-slots, called-goes, kept-reserved, IsCalled, asked, after_call, called-room, called-bounded, kept-called}
 use Rattle.logged_journal.proofs.logged.LoggedJournal.log_call.Given.{Over}
 use Rattle.logged_journal.proofs.logged.LoggedJournal.log_call.Goals as goal
 
@@ -36,21 +37,28 @@ taken a c log ok err owed needed is negation none value need =
     ∙ ap (λ (n : ℕ). record a.log { room = max a.log.room (n + needed) }) value
     ∙ ap (λ (n : ℕ). record a.log { room = max a.log.room (bytes_owed (end_of a.journal.history) + n) }) need
 
-called : {slots : ℕ} {D : Type 0} (a : Inside slots D) (now : LoggedView D) (new : JournalView) (pass : ℕ) (c : TransactionCall) (r : Reply) → view_of a ≡ now → now.failed ≡ None → IsGranted now.journal pass c → c ≢ call.Commit
+called : {slots : ℕ} {D : Type 0} (a : Inside slots D) (now : LoggedView D) (new : JournalView) (pass : ℕ) (c : TransactionCall) (r : Reply) → view_of a ≡ now → now.failed ≡ None → c ≢ call.Commit
     → (c ≡ call.Abort → transaction_of (end_of now.journal.history).state pass ≡ None) → PassesAscend (end_of a.journal.history).state.active → (IsPast now (bytes_needed c) → ⊥) → AreLimits now.journal.limits
-    → DoesCall slots a.journal new pass c r → r ≢ reply.Memory → IsCalled slots (view_of a) new pass c r
-called a now new pass c r is runs granted other no_abort ascend room limits does some =
+    → DoesCall slots a.journal new pass c r → IsEntered r → IsCalled slots (view_of a) new pass c r
+called a now new pass c r is runs other no_abort ascend room limits does entered =
     record {
       running = running a now is runs;
-      granted = subst (λ v. IsGranted v.journal pass c) (sym is) granted;
       other = other;
       no_abort = subst (λ v. c ≡ call.Abort → transaction_of (end_of v.journal.history).state pass ≡ None) (sym is) no_abort;
       ascend = ascend;
       room = subst (λ v. IsPast v (bytes_needed c) → ⊥) (sym is) room;
       limits = subst (λ v. AreLimits v.journal.limits) (sym is) limits;
       does = does;
-      some = some;
+      entered = entered;
     }
+
+-- the history had room for it
+answered : {slots : ℕ} {D : Type 0} (a : Inside slots D) (now : LoggedView D) (c : TransactionCall) (r : Reply) → view_of a ≡ now → r ≢ reply.Memory → (r ≡ reply.TraceFull) ↔ (is_past_limit a.journal (entries_needed c) ≡ true)
+    → is_past_limit now.journal (entries_needed c) ≡ false → IsEntered r
+answered {D} a now c r is some full room = (
+  some,
+  λ e. absurd (let x : true ≡ false = sym (full.0 e) ∙ (ap (λ (v : LoggedView D). is_past_limit v.journal (entries_needed c)) is ∙ room) in cc (x)),
+)
 
 pub invariant_of-self : goal.invariant_of-self
 invariant_of-self g c =
@@ -129,12 +137,12 @@ append_last-requires g c =
       unmarked = e.unmarked;
     } in
     let r = c.requires in
-    let is = called c.self.inside c.args.self.now c.apply.new.self c.args.pass c.args.call.now c.apply.result c.self.view_is r.running r.granted r.other r.no_abort c.bytes_owed.ensures.ascend r.room r.limits does c.in_default.not-Memory in
+    let is = called c.self.inside c.args.self.now c.apply.new.self c.args.pass c.args.call.now c.apply.result c.self.view_is r.running r.other r.no_abort c.bytes_owed.ensures.ascend r.room r.limits does (answered c.self.inside c.args.self.now c.args.call.now c.apply.result c.self.view_is c.in_default.not-Memory c.apply.ensures.full r.history) in
     let log = taken c.self.inside c.args.call.now c.reserve.new.self _ _ _ _ c.reserve.ensures.log c.is_err.ensures.negation c.if-is_err.false c.bytes_owed.ensures.value c.bytes_needed.ensures.value in
     let stands = c.self.invariant.kept.standing is.running in
     let bounded = stands.bounded in
     let few : used c.self.inside.log + 25 < 4294967296 = omega (arith, bounded) in
-    let ids = ap (λ h. h.ids) (does.entry (called-entered g.row.SLOTS (view_of c.self.inside) c.apply.new.self c.args.pass c.args.call.now c.apply.result is)) ∙ c.self.invariant.kept.many in (
+    let ids = ap (λ h. h.ids) (does.entry is.entered) ∙ c.self.invariant.kept.many in (
       search rules,
       (
         c.self.invariant.size,
@@ -170,7 +178,7 @@ overflow_add-used g c =
       unmarked = e.unmarked;
     } in
     let r = c.requires in
-    let is = called c.self.inside c.args.self.now c.apply.new.self c.args.pass c.args.call.now c.apply.result c.self.view_is r.running r.granted r.other r.no_abort c.bytes_owed.ensures.ascend r.room r.limits does c.in_default.not-Memory in
+    let is = called c.self.inside c.args.self.now c.apply.new.self c.args.pass c.args.call.now c.apply.result c.self.view_is r.running r.other r.no_abort c.bytes_owed.ensures.ascend r.room r.limits does (answered c.self.inside c.args.self.now c.args.call.now c.apply.result c.self.view_is c.in_default.not-Memory c.apply.ensures.full r.history) in
     let log = taken c.self.inside c.args.call.now c.reserve.new.self _ _ _ _ c.reserve.ensures.log c.is_err.ensures.negation c.if-is_err.false c.bytes_owed.ensures.value c.bytes_needed.ensures.value in
     let in-use = c.used.ensures ∙ ap used (c.append_last.ensures.log ∙ ap (λ (l : LogState). appended l (last_bytes c.apply.new.self.notes)) log) in
     let owed = c.bytes_owed-in_default.ensures.value in
@@ -210,7 +218,7 @@ pub invariant_of-self-in_default : goal.invariant_of-self-in_default
 invariant_of-self-in_default g c =
     let v : LoggedView g.row.D.Denot = view_of c.self.inside in
     let r = c.requires in
-    let is = called c.self.inside c.args.self.now c.apply.new.self c.args.pass c.args.call.now c.apply.result c.self.view_is r.running r.granted r.other r.no_abort c.bytes_owed.ensures.ascend r.room r.limits (does g c) c.in_default.not-Memory in
+    let is = called c.self.inside c.args.self.now c.apply.new.self c.args.pass c.args.call.now c.apply.result c.self.view_is r.running r.other r.no_abort c.bytes_owed.ensures.ascend r.room r.limits (does g c) (answered c.self.inside c.args.self.now c.args.call.now c.apply.result c.self.view_is c.in_default.not-Memory c.apply.ensures.full r.history) in
     let P : LogState → ℕ → Type 0 = λ log peak. IsKept g.D.Disk.may_leave (record v { journal = c.apply.new.self; log = log; marks = c.append_last.new.marks; peak = peak }) in
     record {
       size = c.self.invariant.size;
@@ -234,7 +242,7 @@ returns-in_default g c =
     let v : LoggedView g.row.D.Denot = view_of c.self.inside in
     let w : LoggedView g.row.D.Denot = record v { journal = c.apply.new.self; log = c.append_last.new.log; marks = c.append_last.new.marks; peak = c.max-self-inside.result } in
     let r = c.requires in
-    let is = called c.self.inside c.args.self.now c.apply.new.self c.args.pass c.args.call.now c.apply.result c.self.view_is r.running r.granted r.other r.no_abort c.bytes_owed.ensures.ascend r.room r.limits (does g c) c.in_default.not-Memory in
+    let is = called c.self.inside c.args.self.now c.apply.new.self c.args.pass c.args.call.now c.apply.result c.self.view_is r.running r.other r.no_abort c.bytes_owed.ensures.ascend r.room r.limits (does g c) (answered c.self.inside c.args.self.now c.args.call.now c.apply.result c.self.view_is c.in_default.not-Memory c.apply.ensures.full r.history) in
     record {
       journal = of-journal g.row.SLOTS c.self.inside.journal c.apply.new.self c.args.pass c.args.call.now c.apply.result (does g c);
       does = subst (λ (v : LoggedView g.row.D.Denot). DoesCall g.row.SLOTS v.journal c.apply.new.self c.args.pass c.args.call.now c.apply.result) c.self.view_is (does g c);
