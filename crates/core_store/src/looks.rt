@@ -1,9 +1,9 @@
 //! The looks of the collector: what it sees on the held pages where there is nothing to do.
-ghost use Rattle.std.specs.Prelude.{◌≡◌, ℕ, List, IfSome, true};
-ghost use Rattle.cell_page.specs.Format.{IsSlotCount};
+ghost use Rattle.std.specs.Prelude.{◌≡◌, ℕ, List, IfSome, true, Some};
+ghost use Rattle.cell_page.specs.Format.{IsSlotCount, page_of_id};
 ghost use Rattle.store_model.specs.Core.{Core};
 ghost use Rattle.core_store.specs.RoundView.{asked, is_event, IsLookAt, Passes, looked_past};
-ghost use Rattle.core_store.specs.Frames.{Agree, IsNext, pages_held};
+ghost use Rattle.core_store.specs.Frames.{Agree, IsNext, pages_held, is_held};
 ghost use Rattle.core_store.specs.Logged.{want_of};
 ghost use Rattle.core_store.specs.Work.{IsWork, HasSmallTargets};
 ghost use Rattle.core_store.specs.Views.{view_of};
@@ -12,12 +12,14 @@ ghost use Rattle.core_store.specs.Ready.{IsStanding};
 ghost use Rattle.cell_model.specs.Cells.{Cell as StoredCell};
 ghost use Rattle.core_store.specs.Slots.{HoldsPagesOf};
 ghost use Rattle.core_store.specs.Collecting.{work_at, objects_at, pages_to_collect, CanPass, IsPassedBy};
+ghost use Rattle.core_store.specs.Nulls.{slot_at, at_slot, IsNullAt, CanPassNull};
 
 use crate::round_at::RoundAt;
 use crate::slots;
 use crate::tables::Tables;
 use crate::three::Three;
 use crate::want::{Want, Work, wanted};
+use cell_page::page_of;
 use green_walk::Found;
 
 /// The object on which the collector is about to work, if there is one.
@@ -38,6 +40,48 @@ fn work_at(at: RoundAt) -> Option<Work>
             id,
             change: Some((slot, 0)),
         }),
+    }
+}
+
+/// The slot that is looked at, with its object, where there is nothing to do at a null one.
+fn slot_at(at: RoundAt) -> Option<(u32, u8)>
+    ensures { result ≡ slot_at at }
+{
+    match at {
+        RoundAt::Look { id, slot }
+        | RoundAt::Cut { id, slot }
+        | RoundAt::Test { id, slot }
+        | RoundAt::Out { from: id, slot } => Some((id, slot)),
+        RoundAt::Queue
+        | RoundAt::Copy { .. }
+        | RoundAt::Judge
+        | RoundAt::Free { .. }
+        | RoundAt::Seed { .. }
+        | RoundAt::Flip { .. }
+        | RoundAt::Into { .. }
+        | RoundAt::Strengthen { .. }
+        | RoundAt::End => None,
+    }
+}
+
+/// The same look at another slot of the object.
+fn at_slot(at: RoundAt, other: u8) -> RoundAt
+    ensures { result ≡ at_slot at other }
+{
+    match at {
+        RoundAt::Look { id, .. } => RoundAt::Look { id, slot: other },
+        RoundAt::Cut { id, .. } => RoundAt::Cut { id, slot: other },
+        RoundAt::Test { id, .. } => RoundAt::Test { id, slot: other },
+        RoundAt::Out { from, .. } => RoundAt::Out { from, slot: other },
+        RoundAt::Queue
+        | RoundAt::Copy { .. }
+        | RoundAt::Judge
+        | RoundAt::Free { .. }
+        | RoundAt::Seed { .. }
+        | RoundAt::Flip { .. }
+        | RoundAt::Into { .. }
+        | RoundAt::Strengthen { .. }
+        | RoundAt::End => at,
     }
 }
 
@@ -76,12 +120,72 @@ impl<const SLOTS: usize> Tables<SLOTS> {
         ensures same { view_of self.new ≡ record (view_of self.old) { round = (view_of self.new).round } }
     {
         'looks: loop {
-            let at = self.round.at();
+            let at = self.next_look(held);
             let want = wanted(held, work_at(at));
             if want != Want::Ready || is_event(held, at) {
                 return want;
             }
             self.look_past(held, at);
+        }
+    }
+
+    /// What is looked at or done next, behind the slots that the held pages show to be null.
+    fn next_look(&mut self, held: &Three<SLOTS>) -> RoundAt
+        requires standing { IsStanding (view_of self.old) held.now }
+        ensures at { result ≡ asked (view_of self.new).round }
+        ensures passes { (c : Core) → Stands SLOTS (view_of self.old) c → Agree c.cells held.now → Passes SLOTS c.cells (view_of self.old).round (view_of self.new).round }
+        ensures stands { (c : Core) → Stands SLOTS (view_of self.old) c → Agree c.cells held.now → Stands SLOTS (view_of self.new) c }
+        ensures same { view_of self.new ≡ record (view_of self.old) { round = (view_of self.new).round } }
+    {
+        let at = self.round.at();
+        let Some((id, slot)) = slot_at(at) else {
+            return at;
+        };
+        if !held.holds(page_of(id)) {
+            return at;
+        }
+        self.pass_nulls(held, at, id, slot);
+        self.round.at()
+    }
+
+    /// Passes over the slots of the object that are null, from the one on that is looked at.
+    fn pass_nulls(&mut self, held: &Three<SLOTS>, at: RoundAt, id: u32, slot: u8)
+        requires standing { IsStanding (view_of self.old) held.now }
+        requires at { at ≡ asked (view_of self.old).round }
+        requires slot { slot_at at ≡ Some (id, slot) }
+        requires there { is_held held.now (page_of_id id) ≡ true }
+        ensures passes { (c : Core) → Stands SLOTS (view_of self.old) c → Agree c.cells held.now → Passes SLOTS c.cells (view_of self.old).round (view_of self.new).round }
+        ensures stands { (c : Core) → Stands SLOTS (view_of self.old) c → Agree c.cells held.now → Stands SLOTS (view_of self.new) c }
+        ensures same { view_of self.new ≡ record (view_of self.old) { round = (view_of self.new).round } }
+    {
+        let slots = &held.cell(id).slots;
+        for place in slot as usize..SLOTS {
+            if slots[place] != 0 {
+                return;
+            }
+            self.pass_null(at_slot(at, place as u8));
+        }
+    }
+
+    /// Goes on from a slot that is null.
+    fn pass_null(&mut self, at: RoundAt)
+        requires at { at ≡ asked (view_of self.old).round }
+        requires null { CanPassNull SLOTS (view_of self.old) at }
+        ensures passed { (c : Core) → Stands SLOTS (view_of self.old) c → IsNullAt c.cells at → IsPassedBy SLOTS c (view_of self.old) (view_of self.new) }
+    {
+        match at {
+            RoundAt::Look { .. } | RoundAt::Cut { .. } => self.round.look_past(),
+            RoundAt::Test { .. } => self.round.tested(),
+            RoundAt::Out { .. } => self.round.found(Found::Nothing),
+            RoundAt::Queue
+            | RoundAt::Copy { .. }
+            | RoundAt::Judge
+            | RoundAt::Free { .. }
+            | RoundAt::Seed { .. }
+            | RoundAt::Flip { .. }
+            | RoundAt::Into { .. }
+            | RoundAt::Strengthen { .. }
+            | RoundAt::End => {}
         }
     }
 
