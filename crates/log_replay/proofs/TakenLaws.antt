@@ -14,7 +14,7 @@ use Rattle.log_replay.specs.Replays.{is_skipped, FitsUnskippedCells, each_after,
 use Rattle.log_replay.specs.Steps.{FitsCell, AreConcerned}
 use Rattle.log_replay.specs.declared.concerned.ThreeIds.{ThreeIds}
 
-same_or_apart : (p q : ℕ) → (p ≡ q) ⊎ (p ≢ q)
+pub same_or_apart : (p q : ℕ) → (p ≡ q) ⊎ (p ≢ q)
 same_or_apart p q = grind (arith, nat_tests)
 
 -- ---- cells that became what f makes of them
@@ -43,7 +43,7 @@ length-done_at f id cells = length-set cells id (f id (cell_at cells id))
 at-done_here : (f : ℕ → StoredCell → StoredCell) (id : ℕ) (cells : List StoredCell) → id < length cells → cell_at (done_at f id cells) id ≡ f id (cell_at cells id)
 at-done_here f id cells below = get_or-set_same cells id (f id (cell_at cells id)) (blank_cell false 0) below
 
-at-done_other : (f : ℕ → StoredCell → StoredCell) (id x : ℕ) (cells : List StoredCell) → x ≢ id → cell_at (done_at f id cells) x ≡ cell_at cells x
+pub at-done_other : (f : ℕ → StoredCell → StoredCell) (id x : ℕ) (cells : List StoredCell) → x ≢ id → cell_at (done_at f id cells) x ≡ cell_at cells x
 at-done_other f id x cells n = get_or-set_other cells id x (f id (cell_at cells id)) (blank_cell false 0) n
 
 -- where f leaves a cell alone

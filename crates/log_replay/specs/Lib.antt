@@ -3,3 +3,4 @@ pub mod Placed
 pub mod Replays
 pub mod Steps
 pub mod Finishes
+pub mod After

@@ -26,6 +26,7 @@ pub(crate) struct Relink {
 }
 
 /// The target of a slot.
+#[inline(always)]
 pub(crate) fn target_in<const SLOTS: usize>(cell: &Cell<SLOTS>, slot: u8) -> u32
     requires slotted { length cell.now.slots ≡ SLOTS }
     requires within { slot < SLOTS }
@@ -36,6 +37,7 @@ pub(crate) fn target_in<const SLOTS: usize>(cell: &Cell<SLOTS>, slot: u8) -> u32
 }
 
 /// Whether a slot of the cell, which is live, holds the target.
+#[inline(always)]
 fn holds<const SLOTS: usize>(cell: &Cell<SLOTS>, slot: u8, target: u32) -> bool
     requires slotted { length cell.now.slots ≡ SLOTS }
     requires within { slot < SLOTS }
@@ -74,6 +76,7 @@ fn pointers_to<const SLOTS: usize>(cell: &Cell<SLOTS>, id: u32) -> usize
 }
 
 /// Whether the object of the id, which is in the cell, can be deleted.
+#[inline(always)]
 fn can_free<const SLOTS: usize>(cell: &Cell<SLOTS>, id: u32) -> bool
     ensures { (result ≡ true) ↔ CanFree id (cell_of cell.now) }
 {
@@ -90,6 +93,7 @@ fn can_flip<const SLOTS: usize>(cell: &Cell<SLOTS>, id: u32) -> bool
 }
 
 /// The slot of this object, which has to hold the target, gets another pointer.
+#[inline(always)]
 fn relinked<const SLOTS: usize>(cell: &Cell<SLOTS>, change: &Relink) -> Option<Cell<SLOTS>>
     requires slotted { length cell.now.slots ≡ SLOTS }
     requires count { IsSlotCount SLOTS }
@@ -111,6 +115,7 @@ fn relinked<const SLOTS: usize>(cell: &Cell<SLOTS>, change: &Relink) -> Option<C
 }
 
 /// The pointer of this object's slot, which has to hold the target, gets the other bit.
+#[inline(always)]
 fn turned<const SLOTS: usize>(
     cell: &Cell<SLOTS>,
     id: u32,
@@ -138,6 +143,7 @@ fn turned<const SLOTS: usize>(
 }
 
 /// This object loses one pointer of the strength.
+#[inline(always)]
 fn less<const SLOTS: usize>(cell: &Cell<SLOTS>, id: u32, strong: bool) -> Option<Cell<SLOTS>>
     requires rules { IsCell cell.now.id cell.now }
     ensures some { IfSome result (IsPart id (CanLose strong) (counts_less strong) cell.now) }
@@ -159,6 +165,7 @@ fn less<const SLOTS: usize>(cell: &Cell<SLOTS>, id: u32, strong: bool) -> Option
 }
 
 /// This object gets one pointer more of the strength.
+#[inline(always)]
 fn more<const SLOTS: usize>(cell: &Cell<SLOTS>, id: u32, strong: bool) -> Option<Cell<SLOTS>>
     requires rules { IsCell cell.now.id cell.now }
     ensures some { IfSome result (IsPart id (CanGain strong) (counts_more strong) cell.now) }
@@ -180,6 +187,7 @@ fn more<const SLOTS: usize>(cell: &Cell<SLOTS>, id: u32, strong: bool) -> Option
 }
 
 /// The payload of this object, which has to be the old value, becomes the new one.
+#[inline(always)]
 fn paid<const SLOTS: usize>(cell: &Cell<SLOTS>, id: u32, old: u64, new: u64) -> Option<Cell<SLOTS>>
     requires rules { IsCell cell.now.id cell.now }
     ensures some { IfSome result (IsPart id (CanPay old) (pays new) cell.now) }
@@ -198,6 +206,7 @@ fn paid<const SLOTS: usize>(cell: &Cell<SLOTS>, id: u32, old: u64, new: u64) -> 
 }
 
 /// This cell, which has to be free, holds a new object.
+#[inline(always)]
 fn made<const SLOTS: usize>(cell: &Cell<SLOTS>, id: u32) -> Option<Cell<SLOTS>>
     requires count { IsSlotCount SLOTS }
     requires rules { IsCell cell.now.id cell.now }
@@ -214,6 +223,7 @@ fn made<const SLOTS: usize>(cell: &Cell<SLOTS>, id: u32) -> Option<Cell<SLOTS>>
 }
 
 /// This object, which nothing names and which names nothing, is deleted.
+#[inline(always)]
 fn freed<const SLOTS: usize>(cell: &Cell<SLOTS>, id: u32) -> Option<Cell<SLOTS>>
     requires count { IsSlotCount SLOTS }
     requires rules { IsCell cell.now.id cell.now }
@@ -265,6 +275,7 @@ fn flip<const SLOTS: usize>(cell: &Cell<SLOTS>, id: u32) -> Option<Cell<SLOTS>>
 }
 
 /// A slot gets another pointer, its old target loses one, and its new target, if any, gets one.
+#[inline(always)]
 fn moved<const SLOTS: usize>(
     cell: &Cell<SLOTS>,
     change: &Relink,
@@ -286,6 +297,7 @@ fn moved<const SLOTS: usize>(
 }
 
 /// The pointer of a slot changes its strength, and its target counts it so.
+#[inline(always)]
 fn shifted<const SLOTS: usize>(
     cell: &Cell<SLOTS>,
     id: u32,
@@ -307,6 +319,7 @@ fn shifted<const SLOTS: usize>(
 }
 
 /// The cell after the record; `None` exactly where the record doesn't fit it.
+#[inline(always)]
 pub(crate) fn step<const SLOTS: usize>(r: &CellRecord, cell: &Cell<SLOTS>) -> Option<Cell<SLOTS>>
     requires slotted { length cell.now.slots ≡ SLOTS }
     requires count { IsSlotCount SLOTS }

@@ -2,6 +2,7 @@
 //! undone. Where images of a page are still to come, its cells are left alone until the last of them.
 #![tactic(auto)]
 
+mod after;
 mod cell_steps;
 mod cells;
 mod concerned;

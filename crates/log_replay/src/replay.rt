@@ -9,11 +9,13 @@ ghost use Rattle.log_record.specs.Records.{record_of};
 ghost use Rattle.restart_laws.specs.Unended.{FitsUnended};
 ghost use Rattle.log_replay.specs.Inside.{cells_of_pages, AreStorePages};
 ghost use Rattle.log_replay.specs.Replays.{IsReplaying, IsWithin, is_skipped, NotesNothing, FitsUnskippedCells, FitsReplay, after_taking};
+ghost use Rattle.log_replay.specs.After.{AreCellsAfter};
 ghost use Rattle.log_replay.specs.Steps.{FitsCell, changed_in, with_cells_after, taken_of_cells, taken_image};
 ghost use Rattle.log_replay.specs.declared.refusals.TakeRefusal.TheVariants.{Unfit};
 
+use crate::after::CellsAfter;
 use crate::cell_steps;
-use crate::concerned::{concerned, is_within};
+use crate::concerned::concerned;
 use crate::pages::Pages;
 use crate::refusals::TakeRefusal;
 use crate::unended::{self, UnendedMap};
@@ -91,18 +93,11 @@ impl<const SLOTS: usize> Replay<SLOTS> {
         // `Unfit` is the answer exactly where the record doesn't fit.
         ensures unfit { (result ≢ Err Unfit) ↔ FitsReplay {slots = SLOTS} self.old (OfCells r.now) }
     {
-        if !self.fits_store(r) {
-            return Err(TakeRefusal::Unfit);
+        let _few = self.ids();
+        match self.after(r) {
+            Some(after) => self.take_fitting(r, &after),
+            None => Err(TakeRefusal::Unfit),
         }
-        self.take_fitting(r)
-    }
-
-    /// Whether the record of single cells fits the pages and their cells.
-    fn fits_store(&self, r: &CellRecord) -> bool
-        requires { HasCellSpelling SLOTS r.now }
-        ensures { (result ≡ true) ↔ IsWithin (8 * length self.now.skips) r.now × FitsUnskippedCells self.now.skips self.now.cells (record_of r.now) }
-    {
-        is_within(r, self.ids()) && self.fits_cells(r)
     }
 
     /// The greatest id.
@@ -116,7 +111,7 @@ impl<const SLOTS: usize> Replay<SLOTS> {
     }
 
     /// Whether an image of the id's page is still to come.
-    fn is_skipped(&self, id: u32) -> bool
+    pub(crate) fn is_skipped(&self, id: u32) -> bool
         requires above { 0 < id }
         requires within { id < length self.now.cells }
         ensures { result ≡ is_skipped self.now.skips id }
@@ -124,35 +119,12 @@ impl<const SLOTS: usize> Replay<SLOTS> {
         self.skip[page_of(id) as usize] != 0
     }
 
-    /// Whether the record fits the cell of an id, which may be 0 for none.
-    fn fits_cell(&self, r: &CellRecord, id: u32) -> bool
-        requires within { id < length self.now.cells }
-        requires spelled { HasCellSpelling SLOTS r.now }
-        ensures { (result ≡ true) ↔ FitsCell self.now.skips self.now.cells (record_of r.now) id }
-    {
-        if id == 0 || self.is_skipped(id) {
-            return true;
-        }
-        cell_steps::step(r, self.pages.get(id)).is_some()
-    }
-
-    /// Whether the record fits each cell but those of whose pages images are still to come.
-    fn fits_cells(&self, r: &CellRecord) -> bool
-        requires sized { length self.now.cells ≡ 8 * length self.now.skips + 1 }
-        requires within { IsWithin (8 * length self.now.skips) r.now }
-        requires spelled { HasCellSpelling SLOTS r.now }
-        ensures { (result ≡ true) ↔ FitsUnskippedCells self.now.skips self.now.cells (record_of r.now) }
-    {
-        let ids = concerned(r);
-        self.fits_cell(r, ids.own) & self.fits_cell(r, ids.from) & self.fits_cell(r, ids.to)
-    }
-
-    /// Takes a record of single cells, which fits the pages and their cells. An error changes nothing.
+    /// Takes a record of single cells, which fits the pages and makes these of their cells. An error changes nothing.
     #[tactic(auto, using(crate::proofs::PlacedLaws::placed_after))]
-    fn take_fitting(&mut self, r: &CellRecord) -> Result<(), TakeRefusal>
+    fn take_fitting(&mut self, r: &CellRecord, after: &CellsAfter<SLOTS>) -> Result<(), TakeRefusal>
         requires spelled { HasCellSpelling SLOTS r.now }
         requires within { IsWithin (8 * length self.old.skips) r.now }
-        requires fits { FitsUnskippedCells self.old.skips self.old.cells (record_of r.now) }
+        requires after { AreCellsAfter self.old (record_of r.now) after.now }
         ensures ok { OnOk result (self.new ≡ taken_of_cells SLOTS (record_of r.now) self.old) }
         ensures err { OnErr result (self.new ≡ self.old) }
 
@@ -161,7 +133,7 @@ impl<const SLOTS: usize> Replay<SLOTS> {
     {
         match unended::take(&mut self.unended, self.alloc, r) {
             Ok(()) => {
-                self.change_cells(r);
+                self.put_cells(after);
                 Ok(())
             }
             Err(refusal) => Err(refusal),

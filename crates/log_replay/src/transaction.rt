@@ -83,6 +83,7 @@ impl Transaction {
     }
 
     /// One write more. Out of memory is its only error.
+    #[inline(always)]
     fn note(&mut self, write: Write) -> Result<(), Memory>
         ensures ok { OnOk result (self.new ≡ with_change (change_by write) self.old) }
         ensures err { OnErr result (self.new ≡ self.old) }
@@ -92,6 +93,7 @@ impl Transaction {
     }
 
     /// One write more, unless a write of it was undone. An error changes nothing.
+    #[inline(always)]
     pub(crate) fn note_if_running(&mut self, write: Write) -> Result<(), TakeRefusal>
         ensures ok { OnOk result (self.new ≡ with_change (change_by write) self.old) }
         ensures err { OnErr result (self.new ≡ self.old) }

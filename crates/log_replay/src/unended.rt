@@ -92,6 +92,7 @@ fn fits(unended: &UnendedMap, r: &CellRecord) -> bool
 }
 
 /// The client's transaction wrote once more. An error changes nothing.
+#[inline(always)]
 fn note(unended: &mut UnendedMap, pass: u8, write: Write) -> Result<(), TakeRefusal>
     ensures ok { OnOk result (unended.new.entries ≡ changed_at unended.old.entries pass (with_change (change_by write))) }
     ensures err { OnErr result (unended.new.entries ≡ unended.old.entries) }
@@ -146,6 +147,7 @@ fn begin(unended: &mut UnendedMap, alloc: Global, pass: u8) -> Result<(), TakeRe
 }
 
 /// The transactions after the record. An error changes nothing.
+#[inline(always)]
 pub(crate) fn take(
     unended: &mut UnendedMap,
     alloc: Global,
