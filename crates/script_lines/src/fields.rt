@@ -19,6 +19,7 @@ fn is_blank(byte: u8) -> bool
 }
 
 /// Where the first field begins.
+#[inline(always)]
 fn field_start(bytes: &[u8]) -> Option<usize>
     ensures { result ≡ position (λ b. not (is_blank b)) bytes.now }
 {
@@ -26,6 +27,7 @@ fn field_start(bytes: &[u8]) -> Option<usize>
 }
 
 /// Where the first blank is.
+#[inline(always)]
 fn blank_start(bytes: &[u8]) -> Option<usize>
     ensures { result ≡ position is_blank bytes.now }
 {
@@ -33,6 +35,7 @@ fn blank_start(bytes: &[u8]) -> Option<usize>
 }
 
 /// The first field, and the bytes behind it.
+#[inline(always)]
 pub(crate) fn next_field(bytes: &[u8]) -> Option<(&[u8], &[u8])>
     ensures { MatchOption result (fields_of bytes.now ≡ [])
         (λ p. fields_of bytes.now ≡ p.0.now ∷ fields_of p.1.now) }

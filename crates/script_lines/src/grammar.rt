@@ -34,6 +34,7 @@ pub enum Line {
 }
 
 /// What a client's line asks, by its verb and the fields behind it.
+#[inline(always)]
 fn request_of(client: u8, verb: Verb, operands: Operands<'_>) -> Option<Line>
     requires { IsClient client }
     ensures value { result ≡ request_of client verb (listed operands.entry) }

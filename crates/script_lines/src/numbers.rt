@@ -8,6 +8,7 @@ ghost use Rattle.script_lines.specs.Grammar.{IsClient};
 const MAX_DIGITS: usize = 20;
 
 /// The number with one more digit behind it, where it is below 2^64.
+#[inline(always)]
 fn with_digit(number: u64, digit: u8) -> Option<u64>
     requires { IsTrue (is_ascii_digit digit) }
     ensures { SomeIff result (number * 10 + digit_value digit < 2 ^ 64) (number * 10 + digit_value digit) }
@@ -16,6 +17,7 @@ fn with_digit(number: u64, digit: u8) -> Option<u64>
 }
 
 /// The number that a field spells, where it is below 2^64.
+#[inline(always)]
 pub(crate) fn payload_of(field: &[u8]) -> Option<u64>
     ensures { result ≡ payload_of field.now }
 {
@@ -33,6 +35,7 @@ pub(crate) fn payload_of(field: &[u8]) -> Option<u64>
 }
 
 /// The number that a field spells, where it is at least `low` and below `limit`.
+#[inline(always)]
 fn number_within(low: u64, limit: u64, field: &[u8]) -> Option<u64>
     ensures value { result ≡ number_within low limit field.now }
     ensures within { IfSome result (λ n. (low ≤ n) × (n < limit)) }
@@ -45,6 +48,7 @@ fn number_within(low: u64, limit: u64, field: &[u8]) -> Option<u64>
 }
 
 /// The client that a field names.
+#[inline(always)]
 pub(crate) fn client_of(field: &[u8]) -> Option<u8>
     ensures value { result ≡ client_of field.now }
     ensures within { IfSome result (λ c. IsClient c) }
@@ -53,6 +57,7 @@ pub(crate) fn client_of(field: &[u8]) -> Option<u8>
 }
 
 /// The register that a field names.
+#[inline(always)]
 pub(crate) fn register_of(field: &[u8]) -> Option<u8>
     ensures value { result ≡ register_of field.now }
     ensures below { IfSome result (λ r. r < 8) }
@@ -61,6 +66,7 @@ pub(crate) fn register_of(field: &[u8]) -> Option<u8>
 }
 
 /// The slot that a field names.
+#[inline(always)]
 pub(crate) fn slot_of(field: &[u8]) -> Option<u8>
     ensures value { result ≡ slot_of field.now }
     ensures below { IfSome result (λ s. s < 6) }
@@ -91,6 +97,7 @@ pub fn pages_of(word: &[u8]) -> Option<u16>
 }
 
 /// What a slot is to hold: the id in a register, or nothing for `-`.
+#[inline(always)]
 pub(crate) fn source_of(field: &[u8]) -> Option<Option<u8>>
     ensures value { result ≡ source_of field.now }
     ensures below { IfSome result (λ f. IfSome f (λ r. r < 8)) }

@@ -32,6 +32,7 @@ fn verb_of(call: &Call) -> &'static str
     }
 }
 
+#[inline(always)]
 fn push_number(line: &mut ArrayString<LINE_ROOM>, number: u64)
     requires { array_string_len line.old + 20 ≤ 128 }
     ensures text { line.new.bytes ≡ line.old.bytes ++ decimal number }
@@ -41,6 +42,7 @@ fn push_number(line: &mut ArrayString<LINE_ROOM>, number: u64)
     line.push_str(digits.format(number));
 }
 
+#[inline(always)]
 fn push_reply(line: &mut ArrayString<LINE_ROOM>, reply: &Reply)
     requires { array_string_len line.old + 26 ≤ 128 }
     ensures text { line.new.bytes ≡ line.old.bytes ++ reply_text reply.now }

@@ -17,6 +17,7 @@ pub(crate) enum Verb {
 }
 
 /// The verb that a field spells.
+#[inline(always)]
 pub(crate) fn verb_of(field: &[u8]) -> Option<Verb>
     ensures { result ≡ verb_of field.now }
 {
