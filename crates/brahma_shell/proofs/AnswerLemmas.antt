@@ -1,6 +1,6 @@
 -- What the program answers, by the command that its words name.
-use Rattle.std.proofs.Common.{◌≡◌, ◌⊎◌, ⊎_elim, inl, inr, ◌≤◌, ℕ, Bool, true, false, List, [], ◌∷◌, Option, Some, None, refl, sym, ap, subst, ◌∙◌, arith}
-use Rattle.std.specs.Prelude.{codes, bytes_eq, nat_le, nat_lt, ◌&&◌, if◌then◌else◌, option_and_then, option_map}
+use Rattle.std.proofs.Common.{◌≡◌, ◌⊎◌, ⊎_elim, inl, inr, ◌≤◌, ◌*◌, ℕ, Bool, true, false, List, [], ◌∷◌, Option, Some, None, refl, sym, ap, subst, ◌∙◌, arith}
+use Rattle.std.specs.Prelude.{IfSome, codes, bytes_eq, nat_le, nat_lt, ◌&&◌, if◌then◌else◌, option_and_then, option_map}
 use Rattle.std.proofs.lemmas.Bool.{leb-true, ltb-true}
 use Rattle.disk_model.specs.declared.area.Area.{Area}
 use Rattle.disk_model.specs.Areas.{Bytes}
@@ -14,7 +14,8 @@ use Rattle.brahma_shell.specs.declared.ended.Ended.{Ended}
 use Rattle.brahma_shell.specs.declared.ended.Ended.TheVariants.{Shut}
 use Rattle.brahma_shell.specs.Commands.{command_of}
 use Rattle.brahma_shell.specs.Ended.{disk_in}
-use Rattle.brahma_shell.specs.Top.{IsStatusOfReplay, GoesLater, Outside, Ends, Unopened, Replayed, Audited, Made, Answered}
+use Rattle.brahma_shell.specs.Top.{IsStatusOfReplay, GoesLater, Outside, Ends, AlwaysOpens, CanBeDone, Unopened, Replayed, Audited, Made, Answered}
+use Rattle.brahma_shell.proofs.CompleteLemmas.{made-open, unopened-open, unopened-closed, unopened-memory, replayed-open, replayed-done, audited-open, audited-done}
 
 none-some : (o : Option Command) (c : Command) → o ≡ None → o ≡ Some c → ⊥
 none-some None c e f = cc (f)
@@ -55,66 +56,15 @@ of-audit status is =
     (λ is. ⊎_elim (λ h. inr (inr (inr (inr (inl h)))))
     (λ is. ⊎_elim (λ h. inr (inr (inr (inr (inr (inl h)))))) (λ h. inr (inr (inr (inr (inr (inr (inl h))))))) is) is) is) is
 
-module _ {S D : Type 0} (content : D → Area → Option (List ℕ)) (may_leave : D → Area → List ℕ → Type 0) (moment : D → ℕ) (left_since : D → ℕ → Bytes → Type 0)
-    (words : List (List ℕ)) (script later : S) (disk : D) (before after : Outside) (status : ℕ) (ended : Ended D) (goes : GoesLater before after) where
-  -- a disk that is asked for nothing is only looked at
-  not-asked : ((d : D) (image : Bytes) → left_since d (moment d) image → IsImage may_leave d image) → IsLookedAt content may_leave moment left_since disk disk
-  not-asked only_now = record { keeps = λ area. record { same = refl; no_more = λ c may. may }; moments = no_call may_leave (IsImage may_leave disk) only_now (λ image may. may) }
+same-command : (o : Option Command) (c d : Command) → o ≡ Some c → o ≡ Some d → c ≡ d
+same-command o c d e f = let h : Some c ≡ Some d = sym e ∙ f in cc (h)
 
-  -- the words have no reading
-  pub asks-nothing : ((d : D) (image : Bytes) → left_since d (moment d) image → IsImage may_leave d image) → command_of words ≡ None → status ≡ 2 → later ≡ script → ended ≡ Shut disk → Ends before after [] (codes "usage\n") → Answered content may_leave moment left_since words script later disk before after status ended
-  asks-nothing only_now none two same back ends = record {
-    usage = (λ _. none, λ _. two);
-    statuses = inl two;
-    goes_later = goes;
-    only_looks = λ other image reads closed. subst (λ (e : Ended D). IsLookedAt content may_leave moment left_since disk (disk_in e)) (sym back) (not-asked only_now);
-    unread = λ _. (same, back, ends);
-    made = λ pages e. absurd (none-some (command_of words) (Init pages) none e);
-    replayed = λ e. absurd (none-some (command_of words) Replay none e);
-    audited = λ e. absurd (none-some (command_of words) Audit none e);
-  }
+-- neither a store that was made nor one that was audited is refused
+not-refused : (status : ℕ) → (status ≡ 0) ⊎ ((status ≡ 5) ⊎ (status ≡ 6)) → status ≡ 7 → ⊥
+not-refused status is e = ⊎_elim (λ h. omega (arith, h, e)) (λ is. ⊎_elim (λ h. omega (arith, h, e)) (λ h. omega (arith, h, e)) is) is
 
-  pub asks-init : (pages : ℕ) → command_of words ≡ Some (Init pages) → later ≡ script → Made may_leave moment left_since disk pages before after status ended → Answered content may_leave moment left_since words script later disk before after status ended
-  asks-init pages asked same made =
-      let is = of-init status made.statuses in
-      record {
-        usage = (λ two. absurd (not-usage status is two), λ none. absurd (none-some (command_of words) (Init pages) none asked));
-        statuses = inr is;
-        goes_later = goes;
-        only_looks = λ other. absurd (other pages asked);
-        unread = λ two. absurd (not-usage status is two);
-        made = λ other e. (same, subst (λ (n : ℕ). Made may_leave moment left_since disk n before after status ended) (same-pages (command_of words) pages other asked e) made);
-        replayed = λ e. absurd (init-replay (command_of words) pages asked e);
-        audited = λ e. absurd (init-audit (command_of words) pages asked e);
-      }
-
-  pub asks-replay : command_of words ≡ Some Replay → IsStatusOfReplay status → (later ≡ script) × Unopened content may_leave moment left_since disk before after status ended ⊎ Replayed content may_leave script later disk before after status ended
-      → Answered content may_leave moment left_since words script later disk before after status ended
-  asks-replay asked is replayed = record {
-    usage = (λ two. absurd (not-usage status is two), λ none. absurd (none-some (command_of words) Replay none asked));
-    statuses = inr is;
-    goes_later = goes;
-    only_looks = λ other image reads closed. ⊎_elim (λ u. u.1.refused.only_looks image reads closed) (λ r. absurd (closed r.run.opening (r.opened image reads))) replayed;
-    unread = λ two. absurd (not-usage status is two);
-    made = λ pages e. absurd (init-replay (command_of words) pages e asked);
-    replayed = λ _. replayed;
-    audited = λ e. absurd (replay-audit (command_of words) asked e);
-  }
-
-  pub asks-audit : command_of words ≡ Some Audit → (status ≡ 0) ⊎ ((status ≡ 5) ⊎ ((status ≡ 6) ⊎ ((status ≡ 7) ⊎ (status ≡ 8)))) → later ≡ script → Unopened content may_leave moment left_since disk before after status ended ⊎ Audited content may_leave disk before after status ended
-      → Answered content may_leave moment left_since words script later disk before after status ended
-  asks-audit asked statuses same audited =
-      let is = of-audit status statuses in
-      record {
-        usage = (λ two. absurd (not-usage status is two), λ none. absurd (none-some (command_of words) Audit none asked));
-        statuses = inr is;
-        goes_later = goes;
-        only_looks = λ other image reads closed. ⊎_elim (λ u. u.refused.only_looks image reads closed) (λ a. absurd (closed a.cells (a.opened image reads))) audited;
-        unread = λ two. absurd (not-usage status is two);
-        made = λ pages e. absurd (init-audit (command_of words) pages e asked);
-        replayed = λ e. absurd (replay-audit (command_of words) e asked);
-        audited = λ _. (same, audited);
-      }
+audit-opened : (status : ℕ) → (status ≡ 0) ⊎ ((status ≡ 5) ⊎ (status ≡ 8)) → status ≡ 7 → ⊥
+audit-opened status is e = ⊎_elim (λ h. omega (arith, h, e)) (λ is. ⊎_elim (λ h. omega (arith, h, e)) (λ h. omega (arith, h, e)) is) is
 
 -- ---- a number of pages
 
@@ -155,6 +105,92 @@ pages-within [] p e = absurd (cc (e))
 pages-within (word ∷ []) p e = absurd (one-word (bytes_eq word (codes "replay")) (bytes_eq word (codes "audit")) p (sym e))
 pages-within (word ∷ number ∷ []) p e = within (number_of number) p (two-words (bytes_eq word (codes "init")) (pages_of number) p (sym e))
 pages-within (word ∷ number ∷ other ∷ words) p e = absurd (cc (e))
+
+module _ {S D : Type 0} (content : D → Area → Option (List ℕ)) (may_leave : D → Area → List ℕ → Type 0) (moment : D → ℕ) (left_since : D → ℕ → Bytes → Type 0)
+    (words : List (List ℕ)) (script later : S) (disk : D) (before after : Outside) (status : ℕ) (ended : Ended D) (goes : GoesLater before after)
+    (stay : (d : D) (area : Area) → IfSome (content d area) (may_leave d area)) (counts : (d : D) (t : ℕ) (image : Bytes) → t ≤ moment d → IsImage may_leave d image → left_since d t image) where
+  -- a disk that is asked for nothing is only looked at
+  not-asked : ((d : D) (image : Bytes) → left_since d (moment d) image → IsImage may_leave d image) → IsLookedAt content may_leave moment left_since disk disk
+  not-asked only_now = record { keeps = λ area. record { same = refl; no_more = λ c may. may }; moments = no_call may_leave (IsImage may_leave disk) only_now (λ image may. may) }
+
+  -- the words have no reading
+  pub asks-nothing : ((d : D) (image : Bytes) → left_since d (moment d) image → IsImage may_leave d image) → command_of words ≡ None → status ≡ 2 → later ≡ script → ended ≡ Shut disk → Ends before after [] (codes "usage\n") → Answered content may_leave moment left_since words script later disk before after status ended
+  asks-nothing only_now none two same back ends = record {
+    usage = (λ _. none, λ _. two);
+    statuses = inl two;
+    goes_later = goes;
+    only_looks = λ other image reads closed. subst (λ (e : Ended D). IsLookedAt content may_leave moment left_since disk (disk_in e)) (sym back) (not-asked only_now);
+    unread = λ _. (same, back, ends);
+    made = λ pages e. absurd (none-some (command_of words) (Init pages) none e);
+    replayed = λ e. absurd (none-some (command_of words) Replay none e);
+    audited = λ e. absurd (none-some (command_of words) Audit none e);
+    makes_open = λ pages e. absurd (none-some (command_of words) (Init pages) none e);
+    stays_open = λ tell ids opens other. subst (λ (e : Ended D). AlwaysOpens may_leave ids (disk_in e)) (sym back) opens;
+    complete = λ tell command e. absurd (none-some (command_of words) command none e);
+    refuses = λ image reads closed ask. absurd (⊎_elim (none-some (command_of words) Replay none) (none-some (command_of words) Audit none) ask);
+    only_refused = λ tell seven. absurd (omega (arith, two, seven));
+  }
+
+  pub asks-init : (pages : ℕ) → command_of words ≡ Some (Init pages) → later ≡ script → Made may_leave moment left_since disk pages before after status ended → Answered content may_leave moment left_since words script later disk before after status ended
+  asks-init pages asked same made =
+      let is = of-init status made.statuses in
+      record {
+        usage = (λ two. absurd (not-usage status is two), λ none. absurd (none-some (command_of words) (Init pages) none asked));
+        statuses = inr is;
+        goes_later = goes;
+        only_looks = λ other. absurd (other pages asked);
+        unread = λ two. absurd (not-usage status is two);
+        made = λ other e. (same, subst (λ (n : ℕ). Made may_leave moment left_since disk n before after status ended) (same-pages (command_of words) pages other asked e) made);
+        replayed = λ e. absurd (init-replay (command_of words) pages asked e);
+        audited = λ e. absurd (init-audit (command_of words) pages asked e);
+        makes_open = λ other e not_six. subst (λ (n : ℕ). AlwaysOpens may_leave (8 * n) (disk_in ended)) (same-pages (command_of words) pages other asked e) (made-open may_leave (disk_in ended) pages (pages-within words pages (sym asked)).0 (made.opens not_six));
+        stays_open = λ tell ids opens other. absurd (other pages asked);
+        complete = λ tell command e can reads writes faults. ⊎_elim (λ zero. inl zero) (λ h. ⊎_elim (λ five. absurd (writes (made.write five).0)) (λ six. absurd (faults (made.failed six).0)) h) made.statuses;
+        refuses = λ image reads closed ask. absurd (⊎_elim (init-replay (command_of words) pages asked) (init-audit (command_of words) pages asked) ask);
+        only_refused = λ tell seven. absurd (not-refused status made.statuses seven);
+      }
+
+  pub asks-replay : command_of words ≡ Some Replay → IsStatusOfReplay status → (later ≡ script) × Unopened content may_leave moment left_since disk before after status ended ⊎ Replayed content may_leave script later disk before after status ended
+      → Answered content may_leave moment left_since words script later disk before after status ended
+  asks-replay asked is replayed = record {
+    usage = (λ two. absurd (not-usage status is two), λ none. absurd (none-some (command_of words) Replay none asked));
+    statuses = inr is;
+    goes_later = goes;
+    only_looks = λ other image reads closed. ⊎_elim (λ u. u.1.refused.only_looks image reads closed) (λ r. absurd (closed r.run.opening (r.opened image reads))) replayed;
+    unread = λ two. absurd (not-usage status is two);
+    made = λ pages e. absurd (init-replay (command_of words) pages e asked);
+    replayed = λ _. replayed;
+    audited = λ e. absurd (replay-audit (command_of words) asked e);
+    makes_open = λ pages e. absurd (init-replay (command_of words) pages e asked);
+    stays_open = λ tell ids opens other. ⊎_elim (λ u. unopened-open content may_leave moment left_since disk before after status ended u.1 stay counts tell ids opens) (λ r. replayed-open content may_leave script later disk before after status ended r stay tell ids opens) replayed;
+    complete = λ tell command e can reads writes faults.
+        let c = subst (CanBeDone may_leave disk before.left) (same-command (command_of words) command Replay e asked) can in
+        ⊎_elim (λ u. unopened-memory content may_leave moment left_since disk before after status ended u.1 stay tell c.0 c.1 faults) (λ r. replayed-done content may_leave script later disk before after status ended r stay tell c.0 c.1 c.2 reads writes faults) replayed;
+    refuses = λ image reads closed ask. ⊎_elim (λ u. u.1) (λ r. absurd (closed r.run.opening (r.opened image reads))) replayed;
+    only_refused = λ tell seven image reads. ⊎_elim (λ u. unopened-closed content may_leave moment left_since disk before after status ended u.1 seven image reads) (λ r. absurd (r.only_untold seven tell)) replayed;
+  }
+
+  pub asks-audit : command_of words ≡ Some Audit → (status ≡ 0) ⊎ ((status ≡ 5) ⊎ ((status ≡ 6) ⊎ ((status ≡ 7) ⊎ (status ≡ 8)))) → later ≡ script → Unopened content may_leave moment left_since disk before after status ended ⊎ Audited content may_leave disk before after status ended
+      → Answered content may_leave moment left_since words script later disk before after status ended
+  asks-audit asked statuses same audited =
+      let is = of-audit status statuses in
+      record {
+        usage = (λ two. absurd (not-usage status is two), λ none. absurd (none-some (command_of words) Audit none asked));
+        statuses = inr is;
+        goes_later = goes;
+        only_looks = λ other image reads closed. ⊎_elim (λ u. u.refused.only_looks image reads closed) (λ a. absurd (closed a.cells (a.opened image reads))) audited;
+        unread = λ two. absurd (not-usage status is two);
+        made = λ pages e. absurd (init-audit (command_of words) pages e asked);
+        replayed = λ e. absurd (replay-audit (command_of words) e asked);
+        audited = λ _. (same, audited);
+        makes_open = λ pages e. absurd (init-audit (command_of words) pages e asked);
+        stays_open = λ tell ids opens other. ⊎_elim (λ u. unopened-open content may_leave moment left_since disk before after status ended u stay counts tell ids opens) (λ a. audited-open content may_leave disk before after status ended a stay tell ids opens) audited;
+        complete = λ tell command e can reads writes faults.
+            let c = subst (CanBeDone may_leave disk before.left) (same-command (command_of words) command Audit e asked) can in
+            ⊎_elim (λ u. unopened-memory content may_leave moment left_since disk before after status ended u stay tell c.0 c.1 faults) (λ a. audited-done content may_leave disk before after status ended a writes) audited;
+        refuses = λ image reads closed ask. ⊎_elim (λ u. u) (λ a. absurd (closed a.cells (a.opened image reads))) audited;
+        only_refused = λ tell seven image reads. ⊎_elim (λ u. unopened-closed content may_leave moment left_since disk before after status ended u seven image reads) (λ a. absurd (audit-opened status a.statuses seven)) audited;
+      }
 
 -- ---- the command that was read
 

@@ -168,6 +168,7 @@ just-opened content faults disk v o =
       unmarked = ap (λ m. m.trace) o.unmarked.0;
       log_unmarked = o.unmarked.1;
       running = o.running;
+      size = ids;
     }
 
 -- its line tells what is stored

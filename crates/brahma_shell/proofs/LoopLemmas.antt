@@ -1,5 +1,5 @@
 -- How a replay goes on from one loss of power to the next, and how each of its stretches ends it.
-use Rattle.std.proofs.Common.{◌≡◌, ◌⊎◌, ⊎_elim, inl, inr, ◌≤◌, ℕ, ◌+◌, Bool, true, false, List, [], ◌++◌, Option, Some, None, refl, sym, ap, subst, ◌∙◌, arith, Err}
+use Rattle.std.proofs.Common.{◌≡◌, ◌⊎◌, ⊎_elim, inl, inr, ◌≤◌, ℕ, ◌+◌, Bool, true, false, List, [], ◌++◌, ◌-◌, length, Option, Some, None, refl, sym, ap, subst, ◌∙◌, arith, Err}
 use Rattle.std.specs.Prelude.{Result, Ok, IfOk, IfSome, MatchBool, codes}
 use Rattle.std.specs.Io.KnownBytes.{prepend_known, Appends}
 use Rattle.plain_model.specs.History.{History, IsLegal}
@@ -58,6 +58,7 @@ pub record ComesTo {D : Type 0} (content : D → Area → Option (List ℕ)) (ma
   pub lines : ℕ
   pub place : number ≡ 1 + lines
   pub opened : run.opening ≡ cells
+  pub size : run.ids ≡ length cells - 1
   pub stands : StandsAt content run v
   pub journal : IsOfReplay may_leave v
   pub followed : HasFollowed source left lines (whole run)
@@ -81,6 +82,7 @@ comes-first content may_leave source written pending v none just journal =
       lines = 0;
       place = refl;
       opened = refl;
+      size = just.size;
       stands = stands-first content v just;
       journal = journal;
       followed = subst (λ (o : Option (List ℕ)). HasFollowed source o 0 (whole (first_run v))) (sym same) (none-taken source (first_run v) refl);
@@ -185,6 +187,10 @@ module _ {D : Type 0} (content : D → Area → Option (List ℕ)) (may_leave : 
   then-ids : Tell content → ids_at (end_point (whole (extended come.run w))) ≡ (extended come.run w).ids
   then-ids tell = ids-joined (whole come.run) (since_opening number w.journal) come.lines then-next ∙ ids-since number w.journal ∙ ids_of_point w.journal ∙ ap (λ (h : History). h.ids) same.history ∙ sym (come.stands.ids tell)
 
+  -- there is a cell for each id of the opening
+  then-size : come.run.ids ≡ length come.run.opening - 1
+  then-size = come.size ∙ ap (λ (cs : List Cell). length cs - 1) (sym come.opened)
+
   then-end : (disk : D) (b a : Outside) → ReadsAs content 6 disk cells → AtEnd content may_leave disk b a (extended come.run w) w
   then-end disk b a reads = record {
     opened = subst (ReadsAs content 6 disk) (sym come.opened) reads;
@@ -193,6 +199,7 @@ module _ {D : Type 0} (content : D → Area → Option (List ℕ)) (may_leave : 
     journal = journal;
     exit = exit-extended content come.run v w come.stands same journal.entries may_leave w.disk journal.opens;
     same_ids = then-ids;
+    size = then-size;
   }
 
   then-stored : w.failed ≡ None → stored_line (stored_at_end (extended come.run w)) ≡ stored_line (end_of w.journal.history).state.stored
@@ -356,6 +363,7 @@ module _ {D : Type 0} (content : D → Area → Option (List ℕ)) (may_leave : 
           legal = legal-extended content come.run v w come.stands same journal.entries journal.legal;
           exit = λ tell. exit-extended content come.run v w come.stands same journal.entries may_leave now (x.opens tell) tell;
           same_ids = then-ids;
+          size = then-size;
         }
 
         at : (line : List ℕ) → EndsWith mid_out written count faults_1 [] line → EndsAtCrash b a r line
@@ -395,6 +403,7 @@ module _ {D : Type 0} (content : D → Area → Option (List ℕ)) (may_leave : 
             lines = come.lines + n + 1;
             place = omega (arith, place, come.place);
             opened = come.opened;
+            size = come.size;
             stands = again-stands;
             journal = again.journal;
             followed = HasFollowed-crashed (whole (extended come.run w)) (come.lines + n) pick comes.line crash-asks source comes.mid (prepend_known pending left_now) new.journal.history.ids new.journal.opening crash-followed taken;
@@ -426,6 +435,7 @@ module _ {D : Type 0} (content : D → Area → Option (List ℕ)) (may_leave : 
           journal = again.journal;
           exit = exit-standing content (reopened (extended come.run w) new) new again-stands may_leave new.disk again.journal.opens;
           same_ids = λ tell. ap ids_at again-stands.point ∙ sym (again-stands.ids tell);
+          size = then-size;
         }
 
         again-unmarked : StaysUnmarked new

@@ -1,5 +1,5 @@
 -- How a replay ends, at the end of its run.
-use Rattle.std.proofs.Common.{◌≡◌, ◌⊎◌, ⊎_elim, inl, inr, ℕ, List, false, Option, None, refl, arith}
+use Rattle.std.proofs.Common.{◌≡◌, ◌⊎◌, ⊎_elim, inl, inr, ℕ, ◌-◌, List, length, false, Option, None, refl, arith}
 use Rattle.std.specs.Prelude.{IfSome, IsSome, codes}
 use Rattle.std.specs.Io.KnownBytes.{Appends}
 use Rattle.plain_model.specs.History.{IsLegal}
@@ -29,6 +29,7 @@ pub record AtEnd {D : Type 0} (content : D → Area → Option (List ℕ)) (may_
   pub journal : IsOfReplay may_leave v
   pub exit : Tell content → EachImage may_leave v.disk (OpensAfter 6 (run_history r))
   pub same_ids : Tell content → ids_at (end_point (whole r)) ≡ r.ids
+  pub size : r.ids ≡ length r.opening - 1
 
 -- and of each that hands the disk back
 pub record AtLoss {D : Type 0} (content : D → Area → Option (List ℕ)) (may_leave : D → Area → List ℕ → Type 0) (disk now : D) (r : Run) : Type 0 where
@@ -36,6 +37,7 @@ pub record AtLoss {D : Type 0} (content : D → Area → Option (List ℕ)) (may
   pub legal : Tell content → IsLegal (run_history r)
   pub exit : Tell content → EachImage may_leave now (OpensAfter 6 (run_history r))
   pub same_ids : Tell content → ids_at (end_point (whole r)) ≡ r.ids
+  pub size : r.ids ≡ length r.opening - 1
 
 module _ {S D : Type 0} (content : D → Area → Option (List ℕ)) (may_leave : D → Area → List ℕ → Type 0) (script later : S) (disk : D) (before after : Outside) (r : Run) where
   -- each line was done
@@ -45,12 +47,14 @@ module _ {S D : Type 0} (content : D → Area → Option (List ℕ)) (may_leave 
     opened = k.opened;
     legal = k.legal;
     same_ids = k.same_ids;
+    size = k.size;
     journal = (k.last, k.journal);
     exit = k.exit;
     statuses = inl refl;
     complete = λ only reads writes faults. inl (inl refl);
     only_untold = λ e _. absurd (omega (arith, e));
     handed = λ e. absurd (cc);
+    lost = λ e. absurd (omega (arith, e));
     done = λ _. (follows, text);
     refused = λ e. absurd (omega (arith, e));
     read = λ e. absurd (omega (arith, e));
@@ -72,12 +76,14 @@ module _ {S D : Type 0} (content : D → Area → Option (List ℕ)) (may_leave 
     opened = k.opened;
     legal = k.legal;
     same_ids = k.same_ids;
+    size = k.size;
     journal = (k.last, k.journal);
     exit = k.exit;
     statuses = inr (inl refl);
     complete = λ only reads writes faults. absurd (none-refused before.left number (whole r) refl follows only);
     only_untold = λ e _. absurd (omega (arith, e));
     handed = λ e. absurd (cc);
+    lost = λ e. absurd (omega (arith, e));
     done = λ e. absurd (omega (arith, e));
     refused = λ _. (number, follows, text);
     read = λ e. absurd (omega (arith, e));
@@ -99,12 +105,14 @@ module _ {S D : Type 0} (content : D → Area → Option (List ℕ)) (may_leave 
     opened = k.opened;
     legal = k.legal;
     same_ids = k.same_ids;
+    size = k.size;
     journal = (k.last, k.journal);
     exit = k.exit;
     statuses = inr (inr (inl refl));
     complete = λ only reads writes faults. absurd (reads rose);
     only_untold = λ e _. absurd (omega (arith, e));
     handed = λ e. absurd (cc);
+    lost = λ e. absurd (omega (arith, e));
     done = λ e. absurd (omega (arith, e));
     refused = λ e. absurd (omega (arith, e));
     read = λ _. (rose, follows, text);
@@ -126,12 +134,14 @@ module _ {S D : Type 0} (content : D → Area → Option (List ℕ)) (may_leave 
     opened = k.opened;
     legal = k.legal;
     same_ids = k.same_ids;
+    size = k.size;
     journal = (k.last, k.journal);
     exit = k.exit;
     statuses = inr (inr (inr (inl refl)));
     complete = λ only reads writes faults. absurd (writes rose);
     only_untold = λ e _. absurd (omega (arith, e));
     handed = λ e. absurd (cc);
+    lost = λ e. absurd (omega (arith, e));
     done = λ e. absurd (omega (arith, e));
     refused = λ e. absurd (omega (arith, e));
     read = λ e. absurd (omega (arith, e));
@@ -153,12 +163,14 @@ module _ {S D : Type 0} (content : D → Area → Option (List ℕ)) (may_leave 
     opened = k.opened;
     legal = k.legal;
     same_ids = k.same_ids;
+    size = k.size;
     journal = (k.last, k.journal);
     exit = k.exit;
     statuses = inr (inr (inr (inr (inr (inr (inl refl))))));
     complete = λ only reads writes faults. inl (inr (inl refl));
     only_untold = λ e _. absurd (omega (arith, e));
     handed = λ e. absurd (cc);
+    lost = λ e. absurd (omega (arith, e));
     done = λ e. absurd (omega (arith, e));
     refused = λ e. absurd (omega (arith, e));
     read = λ e. absurd (omega (arith, e));
@@ -180,12 +192,14 @@ module _ {S D : Type 0} (content : D → Area → Option (List ℕ)) (may_leave 
     opened = k.opened;
     legal = k.legal;
     same_ids = k.same_ids;
+    size = k.size;
     journal = (k.last, k.journal);
     exit = k.exit;
     statuses = inr (inr (inr (inr (inr (inr (inr refl))))));
     complete = λ only reads writes faults. inl (inr (inr refl));
     only_untold = λ e _. absurd (omega (arith, e));
     handed = λ e. absurd (cc);
+    lost = λ e. absurd (omega (arith, e));
     done = λ e. absurd (omega (arith, e));
     refused = λ e. absurd (omega (arith, e));
     read = λ e. absurd (omega (arith, e));
@@ -207,12 +221,14 @@ module _ {S D : Type 0} (content : D → Area → Option (List ℕ)) (may_leave 
     opened = k.opened;
     legal = k.legal;
     same_ids = k.same_ids;
+    size = k.size;
     journal = (k.last, k.journal);
     exit = k.exit;
     statuses = inr (inr (inr (inr (inl refl))));
     complete = λ only reads writes faults. absurd (faults rose);
     only_untold = λ e _. absurd (omega (arith, e));
     handed = λ e. absurd (cc);
+    lost = λ e. absurd (omega (arith, e));
     done = λ e. absurd (omega (arith, e));
     refused = λ e. absurd (omega (arith, e));
     read = λ e. absurd (omega (arith, e));
@@ -234,12 +250,14 @@ module _ {S D : Type 0} (content : D → Area → Option (List ℕ)) (may_leave 
     opened = k.opened;
     legal = k.legal;
     same_ids = k.same_ids;
+    size = k.size;
     journal = tt;
     exit = k.exit;
     statuses = inr (inr (inr (inr (inl refl))));
     complete = λ only reads writes faults. absurd (faults rose);
     only_untold = λ e _. absurd (omega (arith, e));
     handed = λ _. inl refl;
+    lost = λ e. absurd (omega (arith, e));
     done = λ e. absurd (omega (arith, e));
     refused = λ e. absurd (omega (arith, e));
     read = λ e. absurd (omega (arith, e));
@@ -261,12 +279,14 @@ module _ {S D : Type 0} (content : D → Area → Option (List ℕ)) (may_leave 
     opened = k.opened;
     legal = k.legal;
     same_ids = k.same_ids;
+    size = k.size;
     journal = tt;
     exit = k.exit;
     statuses = inr (inr (inr (inr (inr (inr (inl refl))))));
     complete = λ only reads writes faults. inl (inr (inl refl));
     only_untold = λ e _. absurd (omega (arith, e));
     handed = λ _. inr (inr refl);
+    lost = λ e. absurd (omega (arith, e));
     done = λ e. absurd (omega (arith, e));
     refused = λ e. absurd (omega (arith, e));
     read = λ e. absurd (omega (arith, e));
@@ -288,12 +308,14 @@ module _ {S D : Type 0} (content : D → Area → Option (List ℕ)) (may_leave 
     opened = k.opened;
     legal = k.legal;
     same_ids = k.same_ids;
+    size = k.size;
     journal = tt;
     exit = k.exit;
     statuses = inr (inr (inr (inr (inr (inl refl)))));
     complete = λ only reads writes faults. inr refl;
     only_untold = λ _ tell. untold tell;
     handed = λ _. inr (inl refl);
+    lost = λ e. refl;
     done = λ e. absurd (omega (arith, e));
     refused = λ e. absurd (omega (arith, e));
     read = λ e. absurd (omega (arith, e));

@@ -17,7 +17,7 @@ use Rattle.logged_journal.specs.declared.upkeep.Upkeep.TheVariants as upkeep
 use Rattle.logged_journal.specs.View.{LoggedView, OnlyTakesRoom}
 use Rattle.logged_journal.specs.Upkeep.{DoesUpkeep, FailsUpkeep, TellsBusy}
 use Rattle.script_lines.specs.declared.grammar.Line.TheVariants.{Clean, Turn}
-use Rattle.brahma_shell.specs.Points.{point_of, entries_in}
+use Rattle.brahma_shell.specs.Points.{entries_in}
 use Rattle.brahma_shell.specs.Growth.{Grows, GrowsBy, GrowsByUpkeep, IsOfUpkeep, BecomesFull}
 use Rattle.brahma_shell.specs.Log.{StaysRunning, TellsFull, LosesUpkeep}
 use Rattle.brahma_shell.specs.Upkeep.{GivesUp}

@@ -1,5 +1,5 @@
 -- What upkeep leaves, of a page or of the log.
-use Rattle.std.specs.Prelude.{◌≡◌, ℕ, List, []}
+use Rattle.std.specs.Prelude.{ℕ, List, []}
 use Rattle.disk_model.specs.declared.area.Area.{Area}
 use Rattle.disk_model.specs.Told.{EachImage}
 use Rattle.gate_log.specs.State.{other_log}

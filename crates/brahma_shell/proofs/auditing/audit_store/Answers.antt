@@ -1,11 +1,12 @@
-use Rattle.std.proofs.Common.{◌≡◌, ℕ, ◌+◌, ◌*◌, ◌-◌, List, length, inl, inr, ⊎_elim, subst, ap, ◌∙◌, arith}
+use Rattle.std.proofs.Common.{◌≡◌, ℕ, ◌+◌, ◌*◌, ◌-◌, List, length, inl, inr, ⊎_elim, refl, sym, subst, ap, ◌∙◌, arith}
 use Rattle.std.specs.Io.KnownBytes.{Appends}
 use Rattle.cell_model.specs.Cells.{Cell}
 use Rattle.plain_model.specs.History.{History}
 use Rattle.core_store.specs.Opening.{opened_history}
 use Rattle.script_lines.specs.Output.{AppendsFront}
-use Rattle.brahma_shell.specs.Top.{audit_text}
+use Rattle.brahma_shell.specs.Top.{audit_text, IsJustOpened}
 use Rattle.brahma_shell.proofs.AuditLemmas.{opening-cells, images-as}
+use Rattle.brahma_shell.proofs.CrashLemmas.{just-opened}
 use Rattle.brahma_shell.proofs.LogLemmas.{history-running}
 use Rattle.brahma_shell.proofs.auditing.audit_store.Goals as goal
 
@@ -27,6 +28,7 @@ returns-in-Ok-clause-audited g c =
       cells = v.journal.opening;
       opened = opened.opens;
       size = size;
+      journal = (c.into_logged.result, refl, subst IsJustOpened (sym c.into_logged.ensures) (just-opened g.D.Disk.content g.D.Disk.faults _ v opened), ap (λ x. x.journal.opening) c.into_logged.ensures);
       exit = images-as g.D.Disk.may_leave v c.into_logged.result (opened_history 6 (8 * pages) v.journal.opening) c.into_logged.ensures history c.history.ensures.opens;
       statuses = told.statuses;
       done = λ s. subst (λ (cs : List Cell). Appends (g.W.Sink.written c.args.out.now) (g.W.Sink.written c.tell_audit-status.new.out) (audit_text cs pages)) cells (told.done pages ids s);

@@ -16,7 +16,7 @@ returns-in-Some-Init g c =
     let at = c.in-Some-Init in
     let asked = named c.of.result (command_of c.args.words.now) at.field-0 (Init at.pages) c.of.ensures at.is at.field-0-is in
     let made = c.make_store.ensures in
-    asks-init g.D.Disk.content g.D.Disk.may_leave g.D.Disk.moment g.D.Disk.left_since _ _ _ _ _ _ _ _ (record { reads = omega arith; writes = made.out_later; disk = made.disk_later }) at.pages asked refl
+    asks-init g.D.Disk.content g.D.Disk.may_leave g.D.Disk.moment g.D.Disk.left_since _ _ _ _ _ _ _ _ (record { reads = omega arith; writes = made.out_later; disk = made.disk_later }) g.D.Disk.reads_may_stay g.D.Disk.counts_now at.pages asked refl
     (made.made (g.R.Source.left c.args.script.now) (g.R.Source.faults c.args.script.now))
 
 pub returns-in-Some-Replay : goal.returns-in-Some-Replay
@@ -24,17 +24,17 @@ returns-in-Some-Replay g c =
     let at = c.in-Some-Replay in
     let asked = named c.of.result (command_of c.args.words.now) at.field-0 Replay c.of.ensures at.is at.field-0-is in
     let r = c.replay_script.ensures in
-    asks-replay g.D.Disk.content g.D.Disk.may_leave g.D.Disk.moment g.D.Disk.left_since _ _ _ _ _ _ _ _ r.later asked r.statuses r.replayed
+    asks-replay g.D.Disk.content g.D.Disk.may_leave g.D.Disk.moment g.D.Disk.left_since _ _ _ _ _ _ _ _ r.later g.D.Disk.reads_may_stay g.D.Disk.counts_now asked r.statuses r.replayed
 
 pub returns-in-Some-Audit : goal.returns-in-Some-Audit
 returns-in-Some-Audit g c =
     let at = c.in-Some-Audit in
     let asked = named c.of.result (command_of c.args.words.now) at.field-0 Audit c.of.ensures at.is at.field-0-is in
     let a = c.audit_store.ensures in
-    asks-audit g.D.Disk.content g.D.Disk.may_leave g.D.Disk.moment g.D.Disk.left_since _ _ _ _ _ _ _ _ (record { reads = omega arith; writes = a.out_later; disk = a.disk_later }) asked a.statuses refl
+    asks-audit g.D.Disk.content g.D.Disk.may_leave g.D.Disk.moment g.D.Disk.left_since _ _ _ _ _ _ _ _ (record { reads = omega arith; writes = a.out_later; disk = a.disk_later }) g.D.Disk.reads_may_stay g.D.Disk.counts_now asked a.statuses refl
     (a.audited (g.R.Source.left c.args.script.now) (g.R.Source.faults c.args.script.now))
 
 pub returns-in-None : goal.returns-in-None
 returns-in-None g c =
     asks-nothing g.D.Disk.content g.D.Disk.may_leave g.D.Disk.moment g.D.Disk.left_since _ _ _ _ _ _ _ _ (record { reads = omega arith; writes = c.write_last.ensures.later; disk = omega arith })
-    g.D.Disk.only_now (sym c.of.ensures ∙ c.in-None.is) refl refl refl c.write_last.ensures.ends
+    g.D.Disk.reads_may_stay g.D.Disk.counts_now g.D.Disk.only_now (sym c.of.ensures ∙ c.in-None.is) refl refl refl c.write_last.ensures.ends

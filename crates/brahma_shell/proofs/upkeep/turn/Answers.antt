@@ -1,4 +1,4 @@
-use Rattle.std.proofs.Common.{◌≡◌, List, [], ℕ, inl, sym, subst, refl, ◌∙◌}
+use Rattle.std.proofs.Common.{◌≡◌, List, [], ℕ, inl, sym, subst, ◌∙◌}
 use Rattle.plain_model.specs.declared.calls.Entry.TheVariants.{TurnBusy}
 use Rattle.plain_model.specs.Text.{line_of}
 use Rattle.script_lines.specs.declared.grammar.Line.TheVariants.{Turn}

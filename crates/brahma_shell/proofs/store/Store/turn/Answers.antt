@@ -1,4 +1,4 @@
-use Rattle.std.proofs.Common.{◌≡◌, ℕ, ◌≤◌, Some, None, sym, subst}
+use Rattle.std.proofs.Common.{◌≡◌, Some, None, sym, subst}
 use Rattle.plain_model.specs.declared.calls.Entry.TheVariants.{Hidden, TurnBusy}
 use Rattle.plain_model.specs.History.{end_of, least_active}
 use Rattle.core_store.specs.Limited.{is_past_limit}
