@@ -111,8 +111,8 @@ fn take_record<const SLOTS: usize>(
     ensures same { walk.new.awaited.items ≡ walk.new.replay.skips }
     ensures as_many { length walk.new.marks ≡ length walk.new.replay.skips }
 {
-    match CellRecord::read::<SLOTS>(bytes) {
-        Ok((rec, len)) => take_of_cells(walk, &rec, bytes, len),
+    match &CellRecord::read::<SLOTS>(bytes) {
+        Ok((rec, len)) => take_of_cells(walk, rec, bytes, *len),
         Err(_) => take_image(walk, bytes),
     }
 }
