@@ -47,8 +47,8 @@ impl<const SLOTS: usize, D: Disk> LoggedJournal<SLOTS, D> {
         self.journal.collect_step(held)
     }
 
-    /// A step of the collector that makes an event, for which there is room in the log.
-    fn log_step(&mut self, held: &mut Three<SLOTS>) -> Collect
+    /// A step of the collector that makes an event, whose record needs so many bytes, for which there is room in the log.
+    fn log_step(&mut self, held: &mut Three<SLOTS>, needed: u64) -> Collect
         requires agree { Agree (cells_of self.old.journal) held.old }
         requires ready { IsReadyForCollector self.old.journal held.old }
         requires running { self.old.failed ≡ None }
@@ -56,13 +56,14 @@ impl<const SLOTS: usize, D: Disk> LoggedJournal<SLOTS, D> {
         requires some { (self.old.journal.queue ≡ []) × (self.old.journal.round ≡ Closed) → ⊥ }
         requires room { IsPast self.old (bytes_to_collect self.old.journal.round) → ⊥ }
         requires limits { AreLimits self.old.journal.limits }
+        requires needed { needed ≡ bytes_to_collect self.old.journal.round }
         ensures does { DoesCollect SLOTS self.old.journal self.new.journal result }
         ensures goes_on { GoesOn self.old self.new }
         ensures frames { KeepsFrames self.old.journal self.new.journal held.old held.new }
         ensures same { (result ≡ Collect.TraceFull) ⊎ (result ≡ Collect.Idle) ⊎ (result ≡ Collect.Memory) → held.new ≡ held.old }
         ensures disk { KeepsDisk self.old self.new }
     {
-        let room = self.journal.bytes_owed() + self.journal.bytes_to_collect();
+        let room = self.journal.bytes_owed() + needed;
         if self.log.reserve(room).is_err() {
             return Collect::Memory;
         }
@@ -108,10 +109,11 @@ impl<const SLOTS: usize, D: Disk> LoggedJournal<SLOTS, D> {
         if !self.journal.collects() {
             return Ok(self.rest(held));
         }
-        if self.is_past(self.journal.bytes_to_collect()) {
+        let needed = self.journal.bytes_to_collect();
+        if self.is_past(needed) {
             self.mark_full();
             return Err(CollectRefusal::LogFull);
         }
-        Ok(self.log_step(held))
+        Ok(self.log_step(held, needed))
     }
 }

@@ -27,10 +27,10 @@ rest-requires-after_bounds g c κs within =
     )
 
 pub is_past-requires-after_bounds : goal.is_past-requires-after_bounds
-is_past-requires-after_bounds g c κs within = (search rules, (ap (λ (w : LoggedView g.row.D.Denot). w.failed) (sym c.self.view_is) ∙ c.in_default.is, subst (λ n. n ≤ image_need g.row.SLOTS) (sym c.bytes_to_collect.ensures) (few-needed g.row.SLOTS _ c.self.invariant.size (few-to-collect c.self.inside.journal.round))))
+is_past-requires-after_bounds g c κs within = (search rules, (ap (λ (w : LoggedView g.row.D.Denot). w.failed) (sym c.self.view_is) ∙ c.in_default.is, subst (λ n. n ≤ image_need g.row.SLOTS) (sym c.bytes_to_collect-needed.ensures) (few-needed g.row.SLOTS _ c.self.invariant.size (few-to-collect c.self.inside.journal.round))))
 
 pub mark_full-requires-after_bounds : goal.mark_full-requires-after_bounds
-mark_full-requires-after_bounds g c κs within = (search rules, (ap (λ (w : LoggedView g.row.D.Denot). w.failed) (sym c.self.view_is) ∙ c.in_default.is, (c.bytes_to_collect.result, subst (λ n. n ≤ image_need g.row.SLOTS) (sym c.bytes_to_collect.ensures) (few-needed g.row.SLOTS _ c.self.invariant.size (few-to-collect c.self.inside.journal.round)), c.is_past.ensures.past.0 c.if-is_past.true)))
+mark_full-requires-after_bounds g c κs within = (search rules, (ap (λ (w : LoggedView g.row.D.Denot). w.failed) (sym c.self.view_is) ∙ c.in_default.is, (c.bytes_to_collect-needed.result, subst (λ n. n ≤ image_need g.row.SLOTS) (sym c.bytes_to_collect-needed.ensures) (few-needed g.row.SLOTS _ c.self.invariant.size (few-to-collect c.self.inside.journal.round)), c.is_past.ensures.past.0 c.if-is_past.true)))
 
 pub returns-then-is_past-clause-log_full : goal.returns-then-is_past-clause-log_full
 returns-then-is_past-clause-log_full g c =
@@ -39,7 +39,7 @@ returns-then-is_past-clause-log_full g c =
         running = ap (λ (w : LoggedView g.row.D.Denot). w.failed) (sym c.self.view_is) ∙ c.in_default.is;
         room = subst (λ (w : LoggedView g.row.D.Denot). is_past_limit w.journal 1 ≡ false) c.self.view_is (collects-room c.self.inside.journal c.collects.result c.collects.ensures.1 c.if-not-collects.false);
         some = subst (λ (w : LoggedView g.row.D.Denot). (w.journal.queue ≡ []) × (w.journal.round ≡ Closed) → ⊥) c.self.view_is (collects-some c.self.inside.journal c.collects.result c.collects.ensures.1 c.if-not-collects.false);
-        past = subst (λ n. IsPast c.args.self.now n) (c.bytes_to_collect.ensures ∙ same) (c.is_past.ensures.past.0 c.if-is_past.true);
+        past = subst (λ n. IsPast c.args.self.now n) (c.bytes_to_collect-needed.ensures ∙ same) (c.is_past.ensures.past.0 c.if-is_past.true);
       }),
       (λ _. refl),
     )
@@ -66,7 +66,7 @@ log_step-requires-after_bounds g c κs within =
                 subst (λ (w : LoggedView g.row.D.Denot). is_past_limit w.journal 1 ≡ false) c.self.view_is (collects-room c.self.inside.journal c.collects.result c.collects.ensures.1 c.if-not-collects.false),
                 (
                   subst (λ (w : LoggedView g.row.D.Denot). (w.journal.queue ≡ []) × (w.journal.round ≡ Closed) → ⊥) c.self.view_is (collects-some c.self.inside.journal c.collects.result c.collects.ensures.1 c.if-not-collects.false),
-                  ((λ past. let e = sym c.if-is_past.false ∙ c.is_past.ensures.past.1 (subst (λ n. IsPast c.args.self.now n) (sym (c.bytes_to_collect.ensures ∙ same)) past) in cc (e)), c.is_past.ensures.limits),
+                  ((λ past. let e = sym c.if-is_past.false ∙ c.is_past.ensures.past.1 (subst (λ n. IsPast c.args.self.now n) (sym (c.bytes_to_collect-needed.ensures ∙ same)) past) in cc (e)), (c.is_past.ensures.limits, c.bytes_to_collect-needed.ensures ∙ same)),
                 ),
               ),
             ),

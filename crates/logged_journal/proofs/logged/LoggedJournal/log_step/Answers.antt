@@ -31,7 +31,7 @@ before g c =
 
 -- the room in the log behind the reservation
 abbrev room : (g : Over) (c : In_default g) → ℕ
-room g c = if is_ok c.reserve.result then max c.self.inside.log.room (c.bytes_owed.result + c.bytes_to_collect.result) else c.self.inside.log.room
+room g c = if is_ok c.reserve.result then max c.self.inside.log.room (c.bytes_owed.result + c.args.needed) else c.self.inside.log.room
 
 does : (g : Over) (c : In_default g) → DoesCollect g.row.SLOTS c.self.inside.journal c.collect_step.new.self c.collect_step.result
 does g c =
@@ -58,9 +58,9 @@ event_is g c =
 room_taken : (g : Over) (c : In_default g) → bytes_owed (end_of c.self.inside.journal.history) + bytes_to_collect c.self.inside.journal.round ≤ room g c
 room_taken g c =
     let taken : is_ok c.reserve.result ≡ true = search rules in
-    let enough = room-enough (is_ok c.reserve.result) c.self.inside.log.room (c.bytes_owed.result + c.bytes_to_collect.result) taken in
+    let enough = room-enough (is_ok c.reserve.result) c.self.inside.log.room (c.bytes_owed.result + c.args.needed) taken in
     let owed = c.bytes_owed.ensures.value in
-    let next = c.bytes_to_collect.ensures in
+    let next = c.requires.needed ∙ sym (ap (λ (v : LoggedView g.row.D.Denot). bytes_to_collect v.journal.round) c.self.view_is) in
     omega (arith, enough, owed, next)
 
 collected_is : (g : Over) (c : In_default g) (marks : List PageMark) → AreMarkedAfter g.row.SLOTS (last_logged c.collect_step.new.self.notes) c.self.inside.marks marks
@@ -95,14 +95,14 @@ pub invariant_of-self : goal.invariant_of-self
 invariant_of-self g c =
     let s = c.self.inside in
     let v : LoggedView g.row.D.Denot = view_of s in
-    let room = if is_ok c.reserve.result then max s.log.room (c.bytes_owed.result + c.bytes_to_collect.result) else s.log.room in
+    let room = if is_ok c.reserve.result then max s.log.room (c.bytes_owed.result + c.args.needed) else s.log.room in
     record {
       size = c.self.invariant.size;
       own = c.self.invariant.own;
       spelling = c.self.invariant.spelling;
       counted = c.self.invariant.counted;
       kept = subst (λ (log : LogState). IsKept g.D.Disk.may_leave (record v { log = log })) (sym c.reserve.ensures.log)
-          (kept-same g.D.Disk.may_leave v s.journal s.journal.round s.journal.marks room refl (room-more (is_ok c.reserve.result) s.log.room (c.bytes_owed.result + c.bytes_to_collect.result)) c.self.invariant.kept);
+          (kept-same g.D.Disk.may_leave v s.journal s.journal.round s.journal.marks room refl (room-more (is_ok c.reserve.result) s.log.room (c.bytes_owed.result + c.args.needed)) c.self.invariant.kept);
     }
 
 pub returns-then-is_err-clause-frames : goal.returns-then-is_err-clause-frames
@@ -115,7 +115,7 @@ pub invariant_of-self-in-Memory : goal.invariant_of-self-in-Memory
 invariant_of-self-in-Memory g c =
     let s = c.self.inside in
     let v : LoggedView g.row.D.Denot = view_of s in
-    let room = if is_ok c.reserve.result then max s.log.room (c.bytes_owed.result + c.bytes_to_collect.result) else s.log.room in
+    let room = if is_ok c.reserve.result then max s.log.room (c.bytes_owed.result + c.args.needed) else s.log.room in
     let same = (c.collect_step.ensures.memory c.in-Memory.is).0 in
     record {
       size = c.self.invariant.size;
@@ -123,7 +123,7 @@ invariant_of-self-in-Memory g c =
       spelling = c.self.invariant.spelling;
       counted = c.self.invariant.counted;
       kept = subst (λ (log : LogState). IsKept g.D.Disk.may_leave (record v { journal = c.collect_step.new.self; log = log })) (sym c.reserve.ensures.log)
-          (kept-same g.D.Disk.may_leave v c.collect_step.new.self s.journal.round s.journal.marks room same (room-more (is_ok c.reserve.result) s.log.room (c.bytes_owed.result + c.bytes_to_collect.result)) c.self.invariant.kept);
+          (kept-same g.D.Disk.may_leave v c.collect_step.new.self s.journal.round s.journal.marks room same (room-more (is_ok c.reserve.result) s.log.room (c.bytes_owed.result + c.args.needed)) c.self.invariant.kept);
     }
 
 pub append_last-requires : goal.append_last-requires
