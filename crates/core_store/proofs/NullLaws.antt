@@ -1,29 +1,25 @@
 -- The collector goes on over null slots.
-use Rattle.std.proofs.Common.{◌≡◌, ◌≢◌, ℕ, ◌+◌, ◌<◌, List, [], ◌∷◌, length, drop, Bool, true, false, not, Option, Some, None, refl, sym, ap, ◌∙◌, subst, arith}
+use Rattle.std.proofs.Common.{◌≡◌, ℕ, ◌+◌, ◌<◌, List, [], ◌∷◌, length, drop, Bool, true, false, not, Option, Some, None, refl, sym, ap, ◌∙◌, subst, arith}
 use Rattle.std.specs.Prelude.{◌==◌, ◌&&◌, if◌then◌else◌, slice_index_or}
 use Rattle.std.proofs.lemmas.Bool.{ne_eqb}
-use Rattle.cell_model.specs.Cells.{Cell, cell_at, pointer_at, is_live}
+use Rattle.cell_model.specs.Cells.{Cell, cell_at, pointer_at}
 use Rattle.cell_model.proofs.EditLaws.{live-there}
 use Rattle.store_model.specs.Core.{Core}
-use Rattle.red_walk.specs.declared.red_at.RedAt.{RedAt}
 use Rattle.red_walk.specs.declared.red_at.RedAt.TheVariants as red
 use Rattle.red_walk.specs.Walk.{Walk, first_of, moved, next}
-use Rattle.green_walk.specs.declared.sweep.SweepAt.TheVariants as sweep
 use Rattle.green_walk.specs.declared.sweep.Found.TheVariants.{Nothing}
 use Rattle.green_walk.specs.declared.green_at.GreenAt.{GreenAt}
 use Rattle.green_walk.specs.declared.green_at.GreenAt.TheVariants as green
 use Rattle.green_walk.specs.declared.green_at.Test.{Test}
 use Rattle.green_walk.specs.declared.copied_slots.CopiedSlot.{CopiedSlot}
-use Rattle.green_walk.specs.Sweeping.{SweepState as Sweep, next as next_of_sweep}
-use Rattle.green_walk.specs.Greening.{GreenStage, AtSeed, AtInto, AtOut, Greening, IsGreening, IsAnswer, IsTestable, waits, first_seed, first_with, look_into, may_lead_to, asked_at, settled, found_in, next as next_of_green, found, tested}
+use Rattle.green_walk.specs.Greening.{GreenStage, AtSeed, AtInto, AtOut, Greening, IsAnswer, IsTestable, waits, first_seed, first_with, look_into, may_lead_to, asked_at, settled, found_in, next as next_of_green, found, tested}
 use Rattle.green_walk.proofs.GreenAnswers.{found-law, tested-law, test-law, next-settled, settles}
 use Rattle.green_walk.proofs.GreenSteps.{IsThere as IsGreenThere, stays, there}
 use Rattle.core_store.specs.declared.round_at.RoundAt.{RoundAt}
 use Rattle.core_store.specs.declared.round_at.RoundAt.TheVariants as at
-use Rattle.core_store.specs.Frames.{Agree}
 use Rattle.core_store.specs.declared.three.HeldFrame.{HeldFrame}
 use Rattle.core_store.specs.Changes.{has_no_strong, is_counted_strong}
-use Rattle.core_store.specs.RoundView.{RoundView, Closed, Walking, Sweeping, asked, asked_by_walk, asked_by_sweep, asked_by_green, is_event, is_white, looked_past, next_slot, IsInStep, IsSweeping, Passes, none, more}
+use Rattle.core_store.specs.RoundView.{RoundView, Sweeping, asked, asked_by_walk, asked_by_sweep, asked_by_green, is_event, is_white, looked_past, next_slot, IsInStep, IsSweeping, Passes, none, more}
 use Rattle.core_store.specs.Tables.{TablesView}
 use Rattle.core_store.specs.Stands.{Stands}
 use Rattle.core_store.specs.Nulls.{slot_at, at_slot, IsNullAt}

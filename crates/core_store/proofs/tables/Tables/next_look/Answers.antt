@@ -1,4 +1,4 @@
-use Rattle.std.proofs.Common.{rules, ◌≡◌, ◌<◌, ◌≤◌, Some, sym, arith}
+use Rattle.std.proofs.Common.{rules, ◌≡◌, ◌<◌, Some, sym, arith}
 use Rattle.core_store.specs.Nulls.{slot_at}
 use Rattle.core_store.specs.RoundView.{none}
 use Rattle.core_store.proofs.NullLaws.{null-there}

@@ -1,5 +1,4 @@
-use Rattle.std.proofs.Common.{rules, ◌≡◌, ◌<◌, ◌≤◌, ◌+◌, ℕ, get_or, sym, ap, ◌∙◌, subst, arith, ⊎_elim}
-use Rattle.cell_model.specs.Cells.{pointer_at}
+use Rattle.std.proofs.Common.{rules, ◌≤◌, sym, ap, ◌∙◌, subst, arith, ⊎_elim}
 use Rattle.store_model.specs.Core.{Core}
 use Rattle.core_store.specs.Frames.{Agree}
 use Rattle.core_store.specs.Nulls.{at_slot, IsNullAt}
@@ -11,7 +10,6 @@ use Rattle.core_store.specs.Views.{view_of}
 use Rattle.core_store.proofs.NullLaws.{null-there, null-here, null-idle, null-next, same-slot}
 use Rattle.core_store.proofs.PassLaws.{passed-none, passed-more}
 use Rattle.core_store.proofs.SlotStart.{old-of}
-use Rattle.core_store.proofs.tables.Tables.pass_nulls.Given.{Over}
 use Rattle.core_store.proofs.tables.Tables.pass_nulls.Goals as goal
 
 pub cell-requires : goal.cell-requires
