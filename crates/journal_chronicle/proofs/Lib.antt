@@ -1,0 +1,9 @@
+pub mod PageCells
+pub mod Machine
+pub mod Uncrashed
+pub mod Notes
+pub mod Goings
+pub mod Calls
+pub mod CollectorSteps
+pub mod Upkeeps
+pub mod Tables

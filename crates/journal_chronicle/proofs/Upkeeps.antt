@@ -1,0 +1,120 @@
+-- What upkeep and the looks of the collector make of a chronicle: no page changes.
+use Rattle.std.proofs.Common.{◌≡◌, ℕ, List, true, Option, Some, None, refl, sym, ap, subst, ◌∙◌}
+use Rattle.std.specs.Prelude.{is_some, IfSome, IsSome}
+use Rattle.plain_model.specs.declared.calls.Entry.{Entry}
+use Rattle.plain_model.specs.declared.calls.Entry.TheVariants.{Hidden, TurnBusy}
+use Rattle.cell_model.specs.Cells.{Cell}
+use Rattle.cell_page.specs.Stored.{page_of}
+use Rattle.core_store.specs.declared.act.Act.TheVariants.{Other}
+use Rattle.core_store.specs.declared.note.Note.{Note}
+use Rattle.core_store.specs.JournalView.{JournalView, cells_of}
+use Rattle.core_store.specs.RoundView.{left_of}
+use Rattle.core_store.specs.Steppings.{OnlyLooks}
+use Rattle.core_store.specs.Upkeep.{with_upkeep}
+use Rattle.logged_journal.specs.declared.failed.FailedCall.{FailedCall}
+use Rattle.logged_journal.specs.declared.upkeep.Upkeep.{Upkeep}
+use Rattle.logged_journal.specs.declared.upkeep.Upkeep.TheVariants as upkeep
+use Rattle.logged_journal.specs.View.{LoggedView, OnlyTakesRoom, failed_commit}
+use Rattle.logged_journal.specs.Upkeep.{DoesUpkeep, FailsUpkeep}
+use Rattle.latch_table.specs.Account.{Marks}
+use Rattle.latch_table.specs.Views.{no_marks, joined_marks}
+use Rattle.journal_chronicle.specs.Steps.{disk_mark, trace_mark, log_mark, entered_by_upkeep, marked_by_upkeep, no_page, GoesOnWith}
+use Rattle.journal_chronicle.specs.View.{marks_of}
+use Rattle.journal_chronicle.specs.Inside.{ArePages, IsChronicle}
+use Rattle.journal_chronicle.proofs.Notes.{cells-unlogged}
+use Rattle.journal_chronicle.proofs.Goings.{Stays, Joins, stays-by, stays-same, stays-goes_on, stays-chronicle, some-same, marks-same, marks-disk, marks-trace, marks-log, joins-goes_on, joins-chronicle}
+
+-- the call goes on with the chronicle, no page changes its frame, and each can still stand in one
+pub record Kept {D : Type 0} (slots : ℕ) (old new : LoggedView D) (entered : Option Entry) (marked : Marks) : Type 0 where
+  pub goes : GoesOnWith slots no_page old new entered marked
+  pub chronicle : IsChronicle slots new
+
+kept-still : {D : Type 0} (slots : ℕ) (old new : LoggedView D) (marked : Marks) → IsChronicle slots old → Stays old new → marks_of new ≡ joined_marks (marks_of old) marked → Kept slots old new None marked
+kept-still slots old new marked before stays marks = record { goes = stays-goes_on slots old new no_page marked stays marks; chronicle = stays-chronicle slots old new stays before }
+
+-- ---- the collector looks on
+
+pub looked : {D : Type 0} (slots : ℕ) (old new : LoggedView D) → IsChronicle slots old → new ≡ record old { journal = new.journal } → OnlyLooks slots old.journal new.journal → Kept slots old new None no_marks
+looked {D} slots old new before is looks =
+    let round = new.journal.round in
+    kept-still slots old new no_marks before
+    (stays-by old new (record old.journal { round = new.journal.round }) looks.same refl refl refl refl (ap (λ (v : LoggedView D). v.opened) is) (ap (λ (v : LoggedView D). failed_commit v) is))
+    (marks-same old new (ap (λ (v : LoggedView D). is_some v.failed) is) (ap (λ (j : JournalView). j.marks.trace) looks.same) (ap (λ (v : LoggedView D). v.log_full) is))
+
+-- ---- upkeep
+
+-- what a call says that cleans a page or turns the log
+pub record Kept_up {D : Type 0} (faults : D → ℕ) (slots : ℕ) (old new : LoggedView D) (r : Upkeep) : Type 0 where
+  pub own : old.journal.history.slots ≡ slots
+  pub owned : new.journal.history.slots ≡ slots
+  pub before : IsChronicle slots old
+  pub stopped : IfSome old.failed (λ f. (r ≡ upkeep.Stopped f.faults) × (new ≡ old))
+  pub only_stopped : (n : ℕ) → r ≡ upkeep.Stopped n → IsSome old.failed
+  pub marked : r ≡ upkeep.TraceFull → new ≡ record old { journal = record old.journal { marks = record old.journal.marks { trace = true } } }
+  pub log_marked : r ≡ upkeep.LogFull → OnlyTakesRoom (record old { log_full = true }) new
+  pub memory : r ≡ upkeep.Memory → OnlyTakesRoom old new
+  pub done : r ≡ upkeep.Done → DoesUpkeep slots old new
+  pub told : (pass : ℕ) → r ≡ upkeep.Busy pass → new ≡ record old { journal = with_upkeep slots old.journal (TurnBusy pass) }
+  pub fault : r ≡ upkeep.DiskFault → FailsUpkeep faults old new
+
+module _ {D : Type 0} (faults : D → ℕ) (slots : ℕ) (old new : LoggedView D) where
+  -- an entry joined that logs nothing
+  entered : (e : Entry) → old.journal.history.slots ≡ slots → new.journal.history.slots ≡ slots → IsChronicle slots old → new.journal ≡ with_upkeep slots old.journal e → old.failed ≡ None → new.failed ≡ None → new.opened ≡ old.opened → new.log_full ≡ old.log_full
+      → Kept slots old new (Some e) no_marks
+  entered e own owned before is failed running opened log_full =
+      let n : Note = record { entry = e; logged = None; left = left_of slots old.journal.round; act = Other } in
+      let cells : cells_of new.journal ≡ cells_of old.journal = ap cells_of is ∙ cells-unlogged old.journal.history.slots old.journal.opening old.journal.notes n refl in
+      let j : Joins old new n = record {
+        history = ap (λ (x : JournalView). x.history) is;
+        notes = ap (λ (x : JournalView). x.notes) is;
+        opening = ap (λ (x : JournalView). x.opening) is;
+        limits = ap (λ (x : JournalView). x.limits) is;
+        opened = opened;
+        before = failed;
+        running = running;
+      } in
+      record {
+        goes = joins-goes_on slots old new own owned no_page no_marks n j (λ page other. ap (λ (cs : List Cell). page_of cs page) cells)
+            (marks-same old new (some-same old new failed running) (ap (λ (x : JournalView). x.marks.trace) is) log_full);
+        chronicle = joins-chronicle slots old new n j (subst (ArePages slots old.journal.history.ids) (sym cells) before.pages);
+      }
+
+  running : (r : Upkeep) → Kept_up faults slots old new r → old.failed ≡ None → Kept slots old new (entered_by_upkeep r) (marked_by_upkeep r)
+  running upkeep.Done a before =
+      let d = a.done refl in
+      entered Hidden a.own a.owned a.before d.journal before d.running d.opened d.log_full
+  running (upkeep.Busy pass) a before =
+      let is = a.told pass refl in
+      entered (TurnBusy pass) a.own a.owned a.before (ap (λ (v : LoggedView D). v.journal) is) before (ap (λ (v : LoggedView D). v.failed) is ∙ before) (ap (λ (v : LoggedView D). v.opened) is) (ap (λ (v : LoggedView D). v.log_full) is)
+  running (upkeep.Stopped n) a before = absurd (let s = subst IsSome before (a.only_stopped n refl) in cc)
+  running upkeep.TraceFull a before =
+      let is = a.marked refl in
+      kept-still slots old new trace_mark a.before
+      (stays-by old new (record old.journal { marks = record old.journal.marks { trace = true } }) (ap (λ (v : LoggedView D). v.journal) is) refl refl refl refl (ap (λ (v : LoggedView D). v.opened) is) (ap (λ (v : LoggedView D). failed_commit v) is))
+      (marks-trace old new (ap (λ (v : LoggedView D). is_some v.failed) is) (ap (λ (v : LoggedView D). v.journal.marks.trace) is) (ap (λ (v : LoggedView D). v.log_full) is))
+  running upkeep.LogFull a before =
+      let is = a.log_marked refl in
+      kept-still slots old new log_mark a.before
+      (stays-by old new (record old.journal { reserved = new.journal.reserved }) (ap (λ (v : LoggedView D). v.journal) is) refl refl refl refl (ap (λ (v : LoggedView D). v.opened) is) (ap (λ (v : LoggedView D). failed_commit v) is))
+      (marks-log old new (ap (λ (v : LoggedView D). is_some v.failed) is) (ap (λ (v : LoggedView D). v.journal.marks.trace) is) (ap (λ (v : LoggedView D). v.log_full) is))
+  running upkeep.Memory a before =
+      let is = a.memory refl in
+      kept-still slots old new no_marks a.before
+      (stays-by old new (record old.journal { reserved = new.journal.reserved }) (ap (λ (v : LoggedView D). v.journal) is) refl refl refl refl (ap (λ (v : LoggedView D). v.opened) is) (ap (λ (v : LoggedView D). failed_commit v) is))
+      (marks-same old new (ap (λ (v : LoggedView D). is_some v.failed) is) (ap (λ (v : LoggedView D). v.journal.marks.trace) is) (ap (λ (v : LoggedView D). v.log_full) is))
+  running upkeep.DiskFault a before =
+      let f = a.fault refl in
+      let commit : failed_commit new ≡ failed_commit old = rw (f.told, before) refl in
+      kept-still slots old new disk_mark a.before
+      (stays-by old new (record old.journal { reserved = new.journal.reserved }) f.journal refl refl refl refl f.opened commit)
+      (marks-disk old new (ap is_some f.told) (ap (λ (j : JournalView). j.marks.trace) f.journal) f.log_full)
+
+  pub kept_up : (r : Upkeep) → Kept_up faults slots old new r → Kept slots old new (entered_by_upkeep r) (marked_by_upkeep r)
+  kept_up r a = by old.failed refl a.stopped
+    where
+      by : (o : Option FailedCall) → old.failed ≡ o → IfSome o (λ f. (r ≡ upkeep.Stopped f.faults) × (new ≡ old)) → Kept slots old new (entered_by_upkeep r) (marked_by_upkeep r)
+      by None e stopped = running r a e
+      by (Some f) e stopped =
+          subst (λ (x : Upkeep). Kept slots old new (entered_by_upkeep x) (marked_by_upkeep x)) (sym stopped.0)
+          (kept-still slots old new disk_mark a.before (stays-same old new stopped.1)
+          (marks-disk old new (ap (λ (v : LoggedView D). is_some v.failed) stopped.1 ∙ ap is_some e) (ap (λ (v : LoggedView D). v.journal.marks.trace) stopped.1) (ap (λ (v : LoggedView D). v.log_full) stopped.1)))

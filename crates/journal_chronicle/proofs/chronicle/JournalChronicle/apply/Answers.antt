@@ -1,0 +1,51 @@
+use Rattle.std.proofs.Common.{◌≤◌, subst, rules}
+use Rattle.logged_journal.specs.View.{LoggedView}
+use Rattle.core_store.specs.Frames.{is_held}
+use Rattle.journal_chronicle.specs.Steps.{entered_by_call, marked_by_call, GoesOnWith}
+use Rattle.journal_chronicle.proofs.Goings.{Came, slots-few}
+use Rattle.journal_chronicle.proofs.Calls.{called}
+use Rattle.journal_chronicle.proofs.chronicle.JournalChronicle.apply.Given.{Over}
+use Rattle.journal_chronicle.proofs.chronicle.JournalChronicle.apply.Goals as goal
+
+came : (g : Over) (c : goal.After-self-1 g)
+    → Came g.row.SLOTS c.self.inside.logged c.apply-reply.new.self c.args.held.now c.apply-reply.new.held (entered_by_call c.args.pass c.args.call.now c.apply-reply.result) (marked_by_call c.apply-reply.result)
+came g c =
+    let e = c.apply-reply.ensures in
+    called g.D.Disk.faults g.row.SLOTS c.self.inside.logged c.apply-reply.new.self c.args.held.now c.apply-reply.new.held c.args.pass c.args.call.now c.apply-reply.result
+    (record {
+      client = c.requires.client;
+      own = c.journal.ensures.slots;
+      owned = c.journal-2.ensures.slots;
+      before = c.self.invariant.kept;
+      stopped = e.stopped;
+      only_stopped = e.only_stopped;
+      log_marked = e.log_marked;
+      does = e.does;
+      goes_on = e.goes_on;
+      frames = e.frames;
+      same = e.same;
+      fault = e.fault;
+    })
+
+pub apply-reply-requires-after_bounds : goal.apply-reply-requires-after_bounds
+apply-reply-requires-after_bounds g c κs within =
+    let small : g.row.SLOTS ≤ 14 = slots-few g.row.SLOTS c.self.invariant.size in
+    rw c.self.view_is
+    (search rules, (search rules, (c.requires.client, (c.requires.in_range, (c.requires.no_abort, (c.requires.agree, c.requires.ready))))))
+
+pub invariant_of-self : goal.invariant_of-self
+invariant_of-self g c = let all = came g c in record { size = c.self.invariant.size; kept = all.chronicle; counted = c.count_notes-self-inside.ensures }
+
+pub returns-clause-chronicle : goal.returns-clause-chronicle
+returns-clause-chronicle g c =
+    let all = came g c in
+    subst (λ (v : LoggedView g.row.D.Denot). GoesOnWith g.row.SLOTS (is_held c.args.held.now) v c.apply-reply.new.self (entered_by_call c.args.pass c.args.call.now c.apply-reply.result) (marked_by_call c.apply-reply.result)) c.self.view_is all.goes
+
+pub returns-clause-rest : goal.returns-clause-rest
+returns-clause-rest g c = let all = came g c in all.rest
+
+pub returns-clause-goes_on : goal.returns-clause-goes_on
+returns-clause-goes_on g c = rw (← c.self.view_is) c.apply-reply.ensures.goes_on
+
+pub returns-clause-untouched : goal.returns-clause-untouched
+returns-clause-untouched g c = rw (← c.self.view_is) c.apply-reply.ensures.untouched

@@ -1,0 +1,32 @@
+use Rattle.std.proofs.Common.{subst}
+use Rattle.logged_journal.specs.View.{LoggedView}
+use Rattle.journal_chronicle.specs.Steps.{entered_by_upkeep, marked_by_upkeep, no_page, GoesOnWith}
+use Rattle.journal_chronicle.proofs.Upkeeps.{Kept, kept_up}
+use Rattle.journal_chronicle.proofs.chronicle.JournalChronicle.clean.Given.{Over}
+use Rattle.journal_chronicle.proofs.chronicle.JournalChronicle.clean.Goals as goal
+
+kept : (g : Over) (c : goal.After-self-1 g) → Kept g.row.SLOTS c.self.inside.logged c.clean-answer.new.self (entered_by_upkeep c.clean-answer.result) (marked_by_upkeep c.clean-answer.result)
+kept g c =
+    let e = c.clean-answer.ensures in
+    kept_up g.D.Disk.faults g.row.SLOTS c.self.inside.logged c.clean-answer.new.self c.clean-answer.result
+    (record {
+      own = c.journal.ensures.slots;
+      owned = c.journal-2.ensures.slots;
+      before = c.self.invariant.kept;
+      stopped = e.stopped;
+      only_stopped = e.only_stopped;
+      marked = e.marked;
+      log_marked = e.log_marked;
+      memory = e.memory;
+      done = λ is. let d = e.done is in d.does;
+      told = λ pass is. absurd (e.never_busy pass is);
+      fault = e.fault;
+    })
+
+pub invariant_of-self : goal.invariant_of-self
+invariant_of-self g c = let all = kept g c in record { size = c.self.invariant.size; kept = all.chronicle; counted = c.count_notes-self-inside.ensures }
+
+pub returns-clause-chronicle : goal.returns-clause-chronicle
+returns-clause-chronicle g c =
+    let all = kept g c in
+    subst (λ (v : LoggedView g.row.D.Denot). GoesOnWith g.row.SLOTS no_page v c.clean-answer.new.self (entered_by_upkeep c.clean-answer.result) (marked_by_upkeep c.clean-answer.result)) c.self.view_is all.goes
