@@ -1,5 +1,5 @@
 -- What a call of a client makes of a chronicle.
-use Rattle.std.proofs.Common.{◌≡◌, ◌⊎◌, ℕ, List, true, Option, Some, None, refl, sym, ap, subst, ◌∙◌, inl, inr}
+use Rattle.std.proofs.Common.{◌≡◌, ◌≢◌, ◌⊎◌, ℕ, List, true, false, Option, Some, None, refl, sym, ap, subst, ◌∙◌, inl, inr}
 use Rattle.std.specs.Prelude.{is_some, IfSome, IsSome}
 use Rattle.plain_model.specs.declared.calls.Call.{Call as TransactionCall}
 use Rattle.plain_model.specs.declared.calls.Call.TheVariants as call
@@ -90,10 +90,16 @@ module _ {D : Type 0} (faults : D → ℕ) (slots : ℕ) (old new : LoggedView D
         };
       }
 
+  -- no call of a journal is answered that somebody else has a word
+  pub never-again : (r : Reply) → Applied faults slots old new held held_new pass c r → (word seat : ℕ) → r ≢ reply.Again word seat
+  never-again r a word seat is =
+      let does = a.does (subst IsOfJournal (sym is) tt) in
+      let plain : is_plain r ≡ true = ap is_plain (does.machine ((λ e. absurd (let f = sym is ∙ e in cc), λ e. absurd (let f = sym is ∙ e in cc)))) ∙ step-plain (end_of old.journal.history).state pass c in
+      let not : is_plain r ≡ false = ap is_plain is in
+      absurd (let e = sym plain ∙ not in cc)
+
   running : (r : Reply) → Applied faults slots old new held held_new pass c r → old.failed ≡ None → Came slots old new held held_new (entered_by_call pass c r) (marked_by_call r)
-  running (reply.Again word seat) a before =
-      let does = a.does tt in
-      absurd (let e = sym (step-plain (end_of old.journal.history).state pass c) ∙ sym (ap is_plain (does.machine (λ e. absurd (cc), λ e. absurd (cc)))) in cc)
+  running (reply.Again word seat) a before = absurd (never-again (reply.Again word seat) a word seat refl)
   running (reply.Stopped n) a before = absurd (let s = subst IsSome before (a.only_stopped n refl) in cc)
   running reply.TraceFull a before = full a before
   running reply.Memory a before = starved a before

@@ -44,7 +44,7 @@ looked {D} slots old new before is looks =
 -- ---- upkeep
 
 -- what a call says that cleans a page or turns the log
-pub record Kept_up {D : Type 0} (faults : D → ℕ) (slots : ℕ) (old new : LoggedView D) (r : Upkeep) : Type 0 where
+pub record Upkept {D : Type 0} (faults : D → ℕ) (slots : ℕ) (old new : LoggedView D) (r : Upkeep) : Type 0 where
   pub own : old.journal.history.slots ≡ slots
   pub owned : new.journal.history.slots ≡ slots
   pub before : IsChronicle slots old
@@ -79,7 +79,7 @@ module _ {D : Type 0} (faults : D → ℕ) (slots : ℕ) (old new : LoggedView D
         chronicle = joins-chronicle slots old new n j (subst (ArePages slots old.journal.history.ids) (sym cells) before.pages);
       }
 
-  running : (r : Upkeep) → Kept_up faults slots old new r → old.failed ≡ None → Kept slots old new (entered_by_upkeep r) (marked_by_upkeep r)
+  running : (r : Upkeep) → Upkept faults slots old new r → old.failed ≡ None → Kept slots old new (entered_by_upkeep r) (marked_by_upkeep r)
   running upkeep.Done a before =
       let d = a.done refl in
       entered Hidden a.own a.owned a.before d.journal before d.running d.opened d.log_full
@@ -109,8 +109,8 @@ module _ {D : Type 0} (faults : D → ℕ) (slots : ℕ) (old new : LoggedView D
       (stays-by old new (record old.journal { reserved = new.journal.reserved }) f.journal refl refl refl refl f.opened commit)
       (marks-disk old new (ap is_some f.told) (ap (λ (j : JournalView). j.marks.trace) f.journal) f.log_full)
 
-  pub kept_up : (r : Upkeep) → Kept_up faults slots old new r → Kept slots old new (entered_by_upkeep r) (marked_by_upkeep r)
-  kept_up r a = by old.failed refl a.stopped
+  pub upkept : (r : Upkeep) → Upkept faults slots old new r → Kept slots old new (entered_by_upkeep r) (marked_by_upkeep r)
+  upkept r a = by old.failed refl a.stopped
     where
       by : (o : Option FailedCall) → old.failed ≡ o → IfSome o (λ f. (r ≡ upkeep.Stopped f.faults) × (new ≡ old)) → Kept slots old new (entered_by_upkeep r) (marked_by_upkeep r)
       by None e stopped = running r a e

@@ -154,6 +154,7 @@ impl<const SLOTS: usize, D: Disk> JournalChronicle<SLOTS, D> {
         // the held ones. Any other one leaves the notes, and the held frames.
         ensures chronicle { GoesOnWith SLOTS (is_held held.old) self.old self.new (entered_by_call pass call.now result) (marked_by_call result) }
         ensures rest { entered_by_call pass call.now result ≡ None → held.new ≡ held.old }
+        ensures never_again { (word seat : ℕ) → result ≢ Reply.Again word seat }
         ensures stopped { IfSome self.old.failed (λ f. (result ≡ Reply.Stopped f.faults) × (self.new ≡ self.old) × (held.new ≡ held.old)) }
         ensures only_stopped { (faults : ℕ) → result ≡ Reply.Stopped faults → IsSome self.old.failed }
         ensures log_full { (result ≡ Reply.LogFull) ↔ IsPastLog self.old pass call.now }

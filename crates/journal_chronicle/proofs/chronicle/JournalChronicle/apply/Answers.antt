@@ -3,16 +3,15 @@ use Rattle.logged_journal.specs.View.{LoggedView}
 use Rattle.core_store.specs.Frames.{is_held}
 use Rattle.journal_chronicle.specs.Steps.{entered_by_call, marked_by_call, GoesOnWith}
 use Rattle.journal_chronicle.proofs.Goings.{Came, slots-few}
-use Rattle.journal_chronicle.proofs.Calls.{called}
+use Rattle.journal_chronicle.proofs.Calls.{Applied, called, never-again}
 use Rattle.journal_chronicle.proofs.chronicle.JournalChronicle.apply.Given.{Over}
 use Rattle.journal_chronicle.proofs.chronicle.JournalChronicle.apply.Goals as goal
 
-came : (g : Over) (c : goal.After-self-1 g)
-    → Came g.row.SLOTS c.self.inside.logged c.apply-reply.new.self c.args.held.now c.apply-reply.new.held (entered_by_call c.args.pass c.args.call.now c.apply-reply.result) (marked_by_call c.apply-reply.result)
-came g c =
+applied : (g : Over) (c : goal.After-self-1 g)
+    → Applied g.D.Disk.faults g.row.SLOTS c.self.inside.logged c.apply-reply.new.self c.args.held.now c.apply-reply.new.held c.args.pass c.args.call.now c.apply-reply.result
+applied g c =
     let e = c.apply-reply.ensures in
-    called g.D.Disk.faults g.row.SLOTS c.self.inside.logged c.apply-reply.new.self c.args.held.now c.apply-reply.new.held c.args.pass c.args.call.now c.apply-reply.result
-    (record {
+    record {
       client = c.requires.client;
       own = c.journal.ensures.slots;
       owned = c.journal-2.ensures.slots;
@@ -25,7 +24,12 @@ came g c =
       frames = e.frames;
       same = e.same;
       fault = e.fault;
-    })
+    }
+
+came : (g : Over) (c : goal.After-self-1 g)
+    → Came g.row.SLOTS c.self.inside.logged c.apply-reply.new.self c.args.held.now c.apply-reply.new.held (entered_by_call c.args.pass c.args.call.now c.apply-reply.result) (marked_by_call c.apply-reply.result)
+came g c =
+    called g.D.Disk.faults g.row.SLOTS c.self.inside.logged c.apply-reply.new.self c.args.held.now c.apply-reply.new.held c.args.pass c.args.call.now c.apply-reply.result (applied g c)
 
 pub apply-reply-requires-after_bounds : goal.apply-reply-requires-after_bounds
 apply-reply-requires-after_bounds g c κs within =
@@ -49,3 +53,7 @@ returns-clause-goes_on g c = rw (← c.self.view_is) c.apply-reply.ensures.goes_
 
 pub returns-clause-untouched : goal.returns-clause-untouched
 returns-clause-untouched g c = rw (← c.self.view_is) c.apply-reply.ensures.untouched
+
+pub returns-clause-never_again : goal.returns-clause-never_again
+returns-clause-never_again g c =
+    never-again g.D.Disk.faults g.row.SLOTS c.self.inside.logged c.apply-reply.new.self c.args.held.now c.apply-reply.new.held c.args.pass c.args.call.now c.apply-reply.result (applied g c)

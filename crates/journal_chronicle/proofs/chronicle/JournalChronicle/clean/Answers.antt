@@ -1,14 +1,14 @@
 use Rattle.std.proofs.Common.{subst}
 use Rattle.logged_journal.specs.View.{LoggedView}
 use Rattle.journal_chronicle.specs.Steps.{entered_by_upkeep, marked_by_upkeep, no_page, GoesOnWith}
-use Rattle.journal_chronicle.proofs.Upkeeps.{Kept, kept_up}
+use Rattle.journal_chronicle.proofs.Upkeeps.{Kept, upkept}
 use Rattle.journal_chronicle.proofs.chronicle.JournalChronicle.clean.Given.{Over}
 use Rattle.journal_chronicle.proofs.chronicle.JournalChronicle.clean.Goals as goal
 
 kept : (g : Over) (c : goal.After-self-1 g) → Kept g.row.SLOTS c.self.inside.logged c.clean-answer.new.self (entered_by_upkeep c.clean-answer.result) (marked_by_upkeep c.clean-answer.result)
 kept g c =
     let e = c.clean-answer.ensures in
-    kept_up g.D.Disk.faults g.row.SLOTS c.self.inside.logged c.clean-answer.new.self c.clean-answer.result
+    upkept g.D.Disk.faults g.row.SLOTS c.self.inside.logged c.clean-answer.new.self c.clean-answer.result
     (record {
       own = c.journal.ensures.slots;
       owned = c.journal-2.ensures.slots;

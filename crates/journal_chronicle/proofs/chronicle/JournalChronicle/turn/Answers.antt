@@ -2,14 +2,14 @@ use Rattle.std.proofs.Common.{◌≤◌, subst, rules}
 use Rattle.logged_journal.specs.View.{LoggedView}
 use Rattle.journal_chronicle.specs.Steps.{entered_by_upkeep, marked_by_upkeep, no_page, GoesOnWith}
 use Rattle.journal_chronicle.proofs.Goings.{slots-few}
-use Rattle.journal_chronicle.proofs.Upkeeps.{Kept, kept_up}
+use Rattle.journal_chronicle.proofs.Upkeeps.{Kept, upkept}
 use Rattle.journal_chronicle.proofs.chronicle.JournalChronicle.turn.Given.{Over}
 use Rattle.journal_chronicle.proofs.chronicle.JournalChronicle.turn.Goals as goal
 
 kept : (g : Over) (c : goal.After-self-1 g) → Kept g.row.SLOTS c.self.inside.logged c.turn-answer.new.self (entered_by_upkeep c.turn-answer.result) (marked_by_upkeep c.turn-answer.result)
 kept g c =
     let e = c.turn-answer.ensures in
-    kept_up g.D.Disk.faults g.row.SLOTS c.self.inside.logged c.turn-answer.new.self c.turn-answer.result
+    upkept g.D.Disk.faults g.row.SLOTS c.self.inside.logged c.turn-answer.new.self c.turn-answer.result
     (record {
       own = c.journal.ensures.slots;
       owned = c.journal-2.ensures.slots;
