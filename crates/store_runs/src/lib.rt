@@ -8,6 +8,10 @@ mod audits;
 #[cfg(test)]
 mod cleaned;
 #[cfg(test)]
+mod damaged;
+#[cfg(test)]
+mod failing;
+#[cfg(test)]
 mod logged;
 #[cfg(test)]
 mod opened;

@@ -50,7 +50,7 @@ fn words_of(alloc: Global, words: &str) -> Result<Words, Memory> {
 }
 
 /// The list of this call, or of none.
-fn calls(alloc: Global, call: Option<u64>) -> Result<Vec<u64>, Memory> {
+pub(crate) fn calls(alloc: Global, call: Option<u64>) -> Result<Vec<u64>, Memory> {
     let mut calls = Vec::new(alloc);
     if let Some(call) = call {
         calls.push(call)?;

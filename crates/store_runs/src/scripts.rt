@@ -113,3 +113,31 @@ fn a_line_that_fills_the_buffer(rt: HostRuntime) -> Result<(), Fail> {
     expect_each(&rt, rt.alloc(), &[refused])?;
     Ok(())
 }
+
+/// A script whose second line is refused.
+fn second_line(script: &str) -> Run<'_> {
+    replay(script, 3, "1 begin: ok\nrefused: line 2\n")
+}
+
+#[test]
+fn lines_past_a_limit(rt: HostRuntime) -> Result<(), Fail> {
+    let runs = [
+        // 129 bytes, which would be a comment.
+        second_line(
+            "1 begin\n#################################################################################################################################\n",
+        ),
+        second_line("1 begin\n0 begin\n"),
+        second_line("1 begin\n65 begin\n"),
+        second_line("1 begin\n1 set 0 18446744073709551616\n"),
+        second_line("1 begin\n1 set 0 000000000000000000007\n"),
+        second_line("1 begin\ncrash 4294967296\n"),
+        second_line("1 begin\n1 begin 1\n"),
+        replay(
+            "1 begin\n1 set 0 00000000000000000007\n",
+            0,
+            "1 begin: ok\n1 set: ok\nstored 1\n",
+        ),
+    ];
+    expect_each(&rt, rt.alloc(), &runs)?;
+    Ok(())
+}
