@@ -1,5 +1,5 @@
 -- What a turn leaves, and that the turns end.
-use Rattle.std.proofs.Common.{◌≡◌, ℕ, zero, suc, ◌+◌, ◌-◌, ◌*◌, ◌<◌, ◌≤◌, Bool, true, false, List, [], ◌∷◌, length, map, get_or, set, Option, Some, None, refl, sym, ap, subst, ◌∙◌, arith, rules}
+use Rattle.std.proofs.Common.{◌≡◌, ℕ, zero, suc, ◌+◌, ◌-◌, ◌*◌, ◌<◌, ◌≤◌, Bool, true, false, List, [], ◌∷◌, length, map, get_or, set, replicate, Option, Some, None, refl, sym, ap, subst, ◌∙◌, arith, rules}
 use Rattle.std.specs.Prelude.{sum, nat_le, nat_lt, if◌then◌else◌}
 use Rattle.std.specs.List.{AllByRecursion}
 use Rattle.std.proofs.lemmas.Bool.{ltb-true, leb-true, ltb-false, leb-false}
@@ -8,7 +8,7 @@ use Rattle.plain_model.specs.declared.calls.Call.{Call}
 use Rattle.call_generator.specs.declared.client.Client.{Client}
 use Rattle.call_generator.specs.declared.turns.Turn.{Turn}
 use Rattle.call_generator.specs.Draws.{next_number, drawn}
-use Rattle.call_generator.specs.Generator.{Generating, new_client, has_left, waiting, chosen, client_of, call_of_client, drawn_call, ends, after_call, asked, next_turn, after_turn, Generates, done, turn, IsWithin, IsGenerating, turns_of, turns_left}
+use Rattle.call_generator.specs.Generator.{Generating, generator, new_client, has_left, waiting, chosen, client_of, call_of_client, drawn_call, ends, after_call, asked, next_turn, after_turn, Generates, done, turn, IsWithin, IsGenerating, turns_of, turns_left}
 use Rattle.call_generator.proofs.WaitingLaws.{IsWaiting, waiting-each}
 
 -- ---- a client
@@ -119,3 +119,16 @@ one-list g xs ys (done _ e) (done _ f) = refl
 one-list g xs ys (done _ e) (turn _ ts some more) = absurd (some e)
 one-list g xs ys (turn _ ts some more) (done _ e) = absurd (some e)
 one-list g xs ys (turn _ ts some more) (turn _ us other less) = ap (λ (zs : List Turn). next_turn g ∷ zs) (one-list (after_turn g) ts us more less)
+
+-- ---- a new generator
+
+pub generator-inside : (seed clients transactions : ℕ) → clients ≤ 64 → IsGenerating (generator seed clients transactions)
+generator-inside seed clients transactions few = record { few = (let l = size clients in omega (arith, l, few)); each = each clients }
+  where
+    size : (n : ℕ) → length (replicate n (new_client transactions)) ≡ n
+    size zero = refl
+    size (suc n) = ap suc (size n)
+
+    each : (n : ℕ) → AllByRecursion IsWithin (replicate n (new_client transactions))
+    each zero = tt
+    each (suc n) = (tt, each n)

@@ -39,6 +39,18 @@ pick_of field = number_within 0 (2 ^ 32) field
 abbrev pub pages_of : List ℕ → Option ℕ
 pages_of word = number_within 1 1025 word
 
+-- a seed: below 2^64
+abbrev pub seed_of : List ℕ → Option ℕ
+seed_of word = number_within 0 (2 ^ 64) word
+
+-- a number of clients: 1 to 64
+abbrev pub clients_of : List ℕ → Option ℕ
+clients_of word = number_within 1 65 word
+
+-- a number of transactions: 0 to 1,000
+abbrev pub transactions_of : List ℕ → Option ℕ
+transactions_of word = number_within 0 1001 word
+
 -- a payload: below 2^64
 abbrev pub payload_of : List ℕ → Option ℕ
 payload_of field = number_within 0 (2 ^ 64) field

@@ -30,6 +30,12 @@ audit_line pages live zeros differences =
     codes "audit: pages " ++ decimal pages ++ codes " live " ++ decimal live ++ codes " zero " ++ decimal zeros
     ++ codes " differences " ++ decimal differences ++ newline ∷ []
 
+-- the line of generated calls: commits and aborts that were done, replies `busy`, deletions, and stored objects
+abbrev pub generated_line : (commits aborts busy deleted stored : ℕ) → List ℕ
+generated_line commits aborts busy deleted stored =
+    codes "gen: commits " ++ decimal commits ++ codes " aborts " ++ decimal aborts ++ codes " busy " ++ decimal busy
+    ++ codes " deleted " ++ decimal deleted ++ codes " stored " ++ decimal stored ++ newline ∷ []
+
 -- the line of a crash, behind which these ids are stored
 abbrev pub crash_line : List ℕ → List ℕ
 crash_line ids = codes "crash: stored" ++ numbers ids ++ newline ∷ []

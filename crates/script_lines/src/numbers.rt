@@ -1,7 +1,7 @@
 //! What a field spells.
 ghost use Rattle.std.specs.Prelude.{◌≡◌, ◌<◌, ◌≤◌, ◌^◌, ◌+◌, ◌*◌, IsTrue, SomeIff, IfSome};
 ghost use Rattle.std.specs.Char.{is_ascii_digit, digit_value};
-ghost use Rattle.script_lines.specs.Numbers.{number_within, client_of, register_of, slot_of, page_of, pick_of, pages_of, payload_of, source_of};
+ghost use Rattle.script_lines.specs.Numbers.{number_within, client_of, register_of, slot_of, page_of, pick_of, pages_of, seed_of, clients_of, transactions_of, payload_of, source_of};
 ghost use Rattle.script_lines.specs.Grammar.{IsClient};
 
 /// The most digits that a number may have.
@@ -94,6 +94,29 @@ pub fn pages_of(word: &[u8]) -> Option<u16>
     ensures within { IfSome result (λ n. (1 ≤ n) × (n ≤ 1024)) }
 {
     Some(number_within(1, 1025, word)? as u16)
+}
+
+/// The seed that a word names: below 2^64.
+pub fn seed_of(word: &[u8]) -> Option<u64>
+    ensures { result ≡ seed_of word.now }
+{
+    payload_of(word)
+}
+
+/// The number of clients that a word names: 1 to 64.
+pub fn clients_of(word: &[u8]) -> Option<u8>
+    ensures value { result ≡ clients_of word.now }
+    ensures within { IfSome result (λ n. (1 ≤ n) × (n ≤ 64)) }
+{
+    Some(number_within(1, 65, word)? as u8)
+}
+
+/// The number of transactions that a word names: 0 to 1,000.
+pub fn transactions_of(word: &[u8]) -> Option<u16>
+    ensures value { result ≡ transactions_of word.now }
+    ensures within { IfSome result (λ n. n ≤ 1000) }
+{
+    Some(number_within(0, 1001, word)? as u16)
 }
 
 /// What a slot is to hold: the id in a register, or nothing for `-`.

@@ -4,7 +4,7 @@ ghost use Rattle.std.specs.Io.KnownBytes.{Appends};
 ghost use Rattle.arrayvec.specs.ArrayString.{array_string_len};
 ghost use Rattle.plain_model.specs.Text.{line_of, stored_line, numbers, newline, verb, reply_text};
 ghost use Rattle.disk_model.specs.Causes.{HasCause};
-ghost use Rattle.script_lines.specs.Output.{AppendsFront, EndsWith, refused_line, pages_line, audit_line, damage_text, open_refusal_text, open_refusal_line, crash_line};
+ghost use Rattle.script_lines.specs.Output.{AppendsFront, EndsWith, refused_line, pages_line, audit_line, generated_line, damage_text, open_refusal_text, open_refusal_line, crash_line};
 
 use arrayvec::ArrayString;
 use itoa::Buffer;
@@ -14,7 +14,7 @@ use std::alloc::Global;
 use store_opening::{OpenRefusal, Place};
 
 /// The bytes that the longest printed line takes but for those with ids.
-pub const LINE_ROOM: usize = 128;
+pub const LINE_ROOM: usize = 160;
 
 fn verb_of(call: &Call) -> &'static str
     ensures text { result.now ≡ verb call.now }
@@ -34,7 +34,7 @@ fn verb_of(call: &Call) -> &'static str
 
 #[inline(always)]
 fn push_number(line: &mut ArrayString<LINE_ROOM>, number: u64)
-    requires { array_string_len line.old + 20 ≤ 128 }
+    requires { array_string_len line.old + 20 ≤ 160 }
     ensures text { line.new.bytes ≡ line.old.bytes ++ decimal number }
     ensures short { array_string_len line.new ≤ array_string_len line.old + 20 }
 {
@@ -44,7 +44,7 @@ fn push_number(line: &mut ArrayString<LINE_ROOM>, number: u64)
 
 #[inline(always)]
 fn push_reply(line: &mut ArrayString<LINE_ROOM>, reply: &Reply)
-    requires { array_string_len line.old + 26 ≤ 128 }
+    requires { array_string_len line.old + 26 ≤ 160 }
     ensures text { line.new.bytes ≡ line.old.bytes ++ reply_text reply.now }
     ensures short { array_string_len line.new ≤ array_string_len line.old + 26 }
 {
@@ -144,9 +144,35 @@ pub fn audit_line(pages: u64, live: u64, zero: u64, differences: u64) -> ArraySt
     line
 }
 
+/// The line of generated calls: how many commits and aborts were done, how many replies were `busy`, how many objects were
+/// deleted, and how many are stored. It takes no memory.
+pub fn generated_line(
+    commits: u64,
+    aborts: u64,
+    busy: u64,
+    deleted: u64,
+    stored: u64,
+) -> ArrayString<LINE_ROOM>
+    ensures { result.bytes ≡ generated_line commits aborts busy deleted stored }
+{
+    let mut line = ArrayString::new();
+    line.push_str("gen: commits ");
+    push_number(&mut line, commits);
+    line.push_str(" aborts ");
+    push_number(&mut line, aborts);
+    line.push_str(" busy ");
+    push_number(&mut line, busy);
+    line.push_str(" deleted ");
+    push_number(&mut line, deleted);
+    line.push_str(" stored ");
+    push_number(&mut line, stored);
+    line.push_str("\n");
+    line
+}
+
 /// Appends what is damaged, and where.
 fn push_damage(line: &mut ArrayString<LINE_ROOM>, place: Place, at: u64)
-    requires { array_string_len line.old + 50 ≤ 128 }
+    requires { array_string_len line.old + 50 ≤ 160 }
     ensures text { line.new.bytes ≡ line.old.bytes ++ damage_text place at }
     ensures short { array_string_len line.new ≤ array_string_len line.old + 50 }
 {
@@ -164,7 +190,7 @@ fn push_damage(line: &mut ArrayString<LINE_ROOM>, place: Place, at: u64)
 
 /// Appends why a store isn't opened.
 fn push_open_refusal(line: &mut ArrayString<LINE_ROOM>, refusal: &OpenRefusal)
-    requires { array_string_len line.old + 60 ≤ 128 }
+    requires { array_string_len line.old + 60 ≤ 160 }
     ensures text { line.new.bytes ≡ line.old.bytes ++ open_refusal_text refusal.now }
     ensures short { array_string_len line.new ≤ array_string_len line.old + 60 }
 {
