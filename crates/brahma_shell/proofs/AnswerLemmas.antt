@@ -9,13 +9,16 @@ use Rattle.disk_model.proofs.Moments.{no_call}
 use Rattle.store_opening.specs.Looks.{IsLookedAt}
 use Rattle.script_lines.specs.Numbers.{number_of, pages_of}
 use Rattle.brahma_shell.specs.declared.command.Command.{Command}
-use Rattle.brahma_shell.specs.declared.command.Command.TheVariants.{Init, Replay, Audit}
+use Rattle.brahma_shell.specs.declared.command.Command.TheVariants.{Init, Replay, Gen, Audit}
+use Rattle.brahma_shell.specs.declared.gen_words.Asked.{Asked}
 use Rattle.brahma_shell.specs.declared.ended.Ended.{Ended}
-use Rattle.brahma_shell.specs.declared.ended.Ended.TheVariants.{Shut}
+use Rattle.brahma_shell.specs.declared.ended.Ended.TheVariants.{Shut, Kept}
+use Rattle.logged_journal.specs.View.{LoggedView}
+use Rattle.brahma_shell.specs.GenWords.{asked_of}
 use Rattle.brahma_shell.specs.Commands.{command_of}
 use Rattle.brahma_shell.specs.Ended.{disk_in}
-use Rattle.brahma_shell.specs.Top.{IsStatusOfReplay, GoesLater, Outside, Ends, AlwaysOpens, CanBeDone, Unopened, Replayed, Audited, Made, Answered}
-use Rattle.brahma_shell.proofs.CompleteLemmas.{made-open, unopened-open, unopened-closed, unopened-memory, replayed-open, replayed-done, audited-open, audited-done}
+use Rattle.brahma_shell.specs.Top.{IsStatusOfReplay, GoesLater, Outside, Ends, AlwaysOpens, CanBeDone, Unopened, Replayed, Audited, Generated, Made, Answered}
+use Rattle.brahma_shell.proofs.CompleteLemmas.{made-open, unopened-open, unopened-closed, unopened-memory, replayed-open, replayed-done, audited-open, audited-done, generated-open, generated-done}
 
 none-some : (o : Option Command) (c : Command) → o ≡ None → o ≡ Some c → ⊥
 none-some None c e f = cc (f)
@@ -33,6 +36,19 @@ init-audit o p e f = let h : Some (Init p) ≡ Some Audit = sym e ∙ f in absur
 
 replay-audit : (o : Option Command) → o ≡ Some Replay → o ≡ Some Audit → ⊥
 replay-audit o e f = let h : Some Replay ≡ Some Audit = sym e ∙ f in absurd (cc (h))
+
+-- a command is asked that is none of these
+init-gen : (o : Option Command) (p : ℕ) (a : Asked) → o ≡ Some (Init p) → o ≡ Some (Gen a) → ⊥
+init-gen o p a e f = let h : Some (Init p) ≡ Some (Gen a) = sym e ∙ f in absurd (cc (h))
+
+replay-gen : (o : Option Command) (a : Asked) → o ≡ Some Replay → o ≡ Some (Gen a) → ⊥
+replay-gen o a e f = let h : Some Replay ≡ Some (Gen a) = sym e ∙ f in absurd (cc (h))
+
+audit-gen : (o : Option Command) (a : Asked) → o ≡ Some Audit → o ≡ Some (Gen a) → ⊥
+audit-gen o a e f = let h : Some Audit ≡ Some (Gen a) = sym e ∙ f in absurd (cc (h))
+
+same-asked : (o : Option Command) (a b : Asked) → o ≡ Some (Gen a) → o ≡ Some (Gen b) → a ≡ b
+same-asked o a b e f = let h : Some (Gen a) ≡ Some (Gen b) = sym e ∙ f in cc (h)
 
 -- the usage is no status of a replay
 not-usage : (status : ℕ) → IsStatusOfReplay status → status ≡ 2 → ⊥
@@ -56,15 +72,25 @@ of-audit status is =
     (λ is. ⊎_elim (λ h. inr (inr (inr (inr (inl h)))))
     (λ is. ⊎_elim (λ h. inr (inr (inr (inr (inr (inl h)))))) (λ h. inr (inr (inr (inr (inr (inr (inl h))))))) is) is) is) is
 
+of-gen : (status : ℕ) → (status ≡ 0) ⊎ ((status ≡ 5) ⊎ ((status ≡ 6) ⊎ ((status ≡ 7) ⊎ ((status ≡ 8) ⊎ (status ≡ 9))))) → IsStatusOfReplay status
+of-gen status is = ⊎_elim (λ h. inl h) (λ is. inr (inr (inr is))) is
+
 same-command : (o : Option Command) (c d : Command) → o ≡ Some c → o ≡ Some d → c ≡ d
 same-command o c d e f = let h : Some c ≡ Some d = sym e ∙ f in cc (h)
 
--- neither a store that was made nor one that was audited is refused
+-- a store that was made is not refused, nor one that was opened
 not-refused : (status : ℕ) → (status ≡ 0) ⊎ ((status ≡ 5) ⊎ (status ≡ 6)) → status ≡ 7 → ⊥
 not-refused status is e = ⊎_elim (λ h. omega (arith, h, e)) (λ is. ⊎_elim (λ h. omega (arith, h, e)) (λ h. omega (arith, h, e)) is) is
 
 audit-opened : (status : ℕ) → (status ≡ 0) ⊎ ((status ≡ 5) ⊎ (status ≡ 8)) → status ≡ 7 → ⊥
 audit-opened status is e = ⊎_elim (λ h. omega (arith, h, e)) (λ is. ⊎_elim (λ h. omega (arith, h, e)) (λ h. omega (arith, h, e)) is) is
+
+gen-opened : (status : ℕ) → (status ≡ 0) ⊎ ((status ≡ 5) ⊎ ((status ≡ 6) ⊎ ((status ≡ 8) ⊎ (status ≡ 9)))) → status ≡ 7 → ⊥
+gen-opened status is e =
+    ⊎_elim (λ h. omega (arith, h, e))
+    (λ is. ⊎_elim (λ h. omega (arith, h, e))
+    (λ is. ⊎_elim (λ h. omega (arith, h, e))
+    (λ is. ⊎_elim (λ h. omega (arith, h, e)) (λ h. omega (arith, h, e)) is) is) is) is
 
 -- ---- a number of pages
 
@@ -99,12 +125,17 @@ two-words : (a : Bool) (o : Option ℕ) (p : ℕ) → (if a then option_map Init
 two-words true o p e = mapped o p e
 two-words false o p e = absurd (cc (e))
 
+more-words : (a : Bool) (o : Option Asked) (p : ℕ) → (if a then option_map Gen o else None) ≡ Some (Init p) → ⊥
+more-words true None p e = absurd (cc (e))
+more-words true (Some x) p e = absurd (cc (e))
+more-words false o p e = absurd (cc (e))
+
 -- `init` is asked with a number of pages from 1 to 1,024
 pub pages-within : (words : List (List ℕ)) (p : ℕ) → Some (Init p) ≡ command_of words → (1 ≤ p) × (p ≤ 1024)
 pages-within [] p e = absurd (cc (e))
 pages-within (word ∷ []) p e = absurd (one-word (bytes_eq word (codes "replay")) (bytes_eq word (codes "audit")) p (sym e))
 pages-within (word ∷ number ∷ []) p e = within (number_of number) p (two-words (bytes_eq word (codes "init")) (pages_of number) p (sym e))
-pages-within (word ∷ number ∷ other ∷ words) p e = absurd (cc (e))
+pages-within (word ∷ number ∷ other ∷ words) p e = absurd (more-words (bytes_eq word (codes "gen")) (asked_of (number ∷ other ∷ words)) p (sym e))
 
 module _ {S D : Type 0} (content : D → Area → Option (List ℕ)) (may_leave : D → Area → List ℕ → Type 0) (moment : D → ℕ) (left_since : D → ℕ → Bytes → Type 0)
     (words : List (List ℕ)) (script later : S) (disk : D) (before after : Outside) (status : ℕ) (ended : Ended D) (goes : GoesLater before after)
@@ -124,10 +155,11 @@ module _ {S D : Type 0} (content : D → Area → Option (List ℕ)) (may_leave 
     made = λ pages e. absurd (none-some (command_of words) (Init pages) none e);
     replayed = λ e. absurd (none-some (command_of words) Replay none e);
     audited = λ e. absurd (none-some (command_of words) Audit none e);
+    generated = λ a e. absurd (none-some (command_of words) (Gen a) none e);
     makes_open = λ pages e. absurd (none-some (command_of words) (Init pages) none e);
     stays_open = λ tell ids opens other. subst (λ (e : Ended D). AlwaysOpens may_leave ids (disk_in e)) (sym back) opens;
     complete = λ tell command e. absurd (none-some (command_of words) command none e);
-    refuses = λ image reads closed ask. absurd (⊎_elim (none-some (command_of words) Replay none) (none-some (command_of words) Audit none) ask);
+    refuses = λ image reads closed ask. absurd (⊎_elim (none-some (command_of words) Replay none) (λ h. ⊎_elim (none-some (command_of words) Audit none) (λ g. none-some (command_of words) (Gen g.0) none g.1) h) ask);
     only_refused = λ tell seven. absurd (omega (arith, two, seven));
   }
 
@@ -143,10 +175,11 @@ module _ {S D : Type 0} (content : D → Area → Option (List ℕ)) (may_leave 
         made = λ other e. (same, subst (λ (n : ℕ). Made may_leave moment left_since disk n before after status ended) (same-pages (command_of words) pages other asked e) made);
         replayed = λ e. absurd (init-replay (command_of words) pages asked e);
         audited = λ e. absurd (init-audit (command_of words) pages asked e);
+        generated = λ a e. absurd (init-gen (command_of words) pages a asked e);
         makes_open = λ other e not_six. subst (λ (n : ℕ). AlwaysOpens may_leave (8 * n) (disk_in ended)) (same-pages (command_of words) pages other asked e) (made-open may_leave (disk_in ended) pages (pages-within words pages (sym asked)).0 (made.opens not_six));
         stays_open = λ tell ids opens other. absurd (other pages asked);
         complete = λ tell command e can reads writes faults. ⊎_elim (λ zero. inl zero) (λ h. ⊎_elim (λ five. absurd (writes (made.write five).0)) (λ six. absurd (faults (made.failed six).0)) h) made.statuses;
-        refuses = λ image reads closed ask. absurd (⊎_elim (init-replay (command_of words) pages asked) (init-audit (command_of words) pages asked) ask);
+        refuses = λ image reads closed ask. absurd (⊎_elim (init-replay (command_of words) pages asked) (λ h. ⊎_elim (init-audit (command_of words) pages asked) (λ g. init-gen (command_of words) pages g.0 asked g.1) h) ask);
         only_refused = λ tell seven. absurd (not-refused status made.statuses seven);
       }
 
@@ -161,6 +194,7 @@ module _ {S D : Type 0} (content : D → Area → Option (List ℕ)) (may_leave 
     made = λ pages e. absurd (init-replay (command_of words) pages e asked);
     replayed = λ _. replayed;
     audited = λ e. absurd (replay-audit (command_of words) asked e);
+    generated = λ a e. absurd (replay-gen (command_of words) a asked e);
     makes_open = λ pages e. absurd (init-replay (command_of words) pages e asked);
     stays_open = λ tell ids opens other. ⊎_elim (λ u. unopened-open content may_leave moment left_since disk before after status ended u.1 stay counts tell ids opens) (λ r. replayed-open content may_leave script later disk before after status ended r stay tell ids opens) replayed;
     complete = λ tell command e can reads writes faults.
@@ -183,6 +217,7 @@ module _ {S D : Type 0} (content : D → Area → Option (List ℕ)) (may_leave 
         made = λ pages e. absurd (init-audit (command_of words) pages e asked);
         replayed = λ e. absurd (replay-audit (command_of words) e asked);
         audited = λ _. (same, audited);
+        generated = λ a e. absurd (audit-gen (command_of words) a asked e);
         makes_open = λ pages e. absurd (init-audit (command_of words) pages e asked);
         stays_open = λ tell ids opens other. ⊎_elim (λ u. unopened-open content may_leave moment left_since disk before after status ended u stay counts tell ids opens) (λ a. audited-open content may_leave disk before after status ended a stay tell ids opens) audited;
         complete = λ tell command e can reads writes faults.
@@ -190,6 +225,30 @@ module _ {S D : Type 0} (content : D → Area → Option (List ℕ)) (may_leave 
             ⊎_elim (λ u. unopened-memory content may_leave moment left_since disk before after status ended u stay tell c.0 c.1 faults) (λ a. audited-done content may_leave disk before after status ended a writes) audited;
         refuses = λ image reads closed ask. ⊎_elim (λ u. u) (λ a. absurd (closed a.cells (a.opened image reads))) audited;
         only_refused = λ tell seven image reads. ⊎_elim (λ u. unopened-closed content may_leave moment left_since disk before after status ended u seven image reads) (λ a. absurd (audit-opened status a.statuses seven)) audited;
+      }
+
+  pub asks-gen : (a : Asked) → command_of words ≡ Some (Gen a) → (status ≡ 0) ⊎ ((status ≡ 5) ⊎ ((status ≡ 6) ⊎ ((status ≡ 7) ⊎ ((status ≡ 8) ⊎ (status ≡ 9))))) → later ≡ script
+      → Unopened content may_leave moment left_since disk before after status ended ⊎ ((v : LoggedView D) × (ended ≡ Kept v) × Generated content may_leave a disk before after status v)
+      → Answered content may_leave moment left_since words script later disk before after status ended
+  asks-gen a asked statuses same generated =
+      let is = of-gen status statuses in
+      record {
+        usage = (λ two. absurd (not-usage status is two), λ none. absurd (none-some (command_of words) (Gen a) none asked));
+        statuses = inr is;
+        goes_later = goes;
+        only_looks = λ other image reads closed. ⊎_elim (λ u. u.refused.only_looks image reads closed) (λ g. absurd (closed g.0.journal.opening (g.2.opened image reads))) generated;
+        unread = λ two. absurd (not-usage status is two);
+        made = λ pages e. absurd (init-gen (command_of words) pages a e asked);
+        replayed = λ e. absurd (replay-gen (command_of words) a e asked);
+        audited = λ e. absurd (audit-gen (command_of words) a e asked);
+        generated = λ b e. (same, subst (λ (x : Asked). Unopened content may_leave moment left_since disk before after status ended ⊎ ((v : LoggedView D) × (ended ≡ Kept v) × Generated content may_leave x disk before after status v)) (same-asked (command_of words) a b asked e) generated);
+        makes_open = λ pages e. absurd (init-gen (command_of words) pages a e asked);
+        stays_open = λ tell ids opens other. ⊎_elim (λ u. unopened-open content may_leave moment left_since disk before after status ended u stay counts tell ids opens) (λ g. generated-open content may_leave a disk before after status g.0 g.2 ended g.1 stay tell ids opens) generated;
+        complete = λ tell command e can reads writes faults.
+            let c = subst (CanBeDone may_leave disk before.left) (same-command (command_of words) command (Gen a) e asked) can in
+            ⊎_elim (λ u. unopened-memory content may_leave moment left_since disk before after status ended u stay tell c.0 c.1 faults) (λ g. generated-done content may_leave a disk before after status g.0 g.2 writes faults) generated;
+        refuses = λ image reads closed ask. ⊎_elim (λ u. u) (λ g. absurd (closed g.0.journal.opening (g.2.opened image reads))) generated;
+        only_refused = λ tell seven image reads. ⊎_elim (λ u. unopened-closed content may_leave moment left_since disk before after status ended u seven image reads) (λ g. absurd (gen-opened status g.2.statuses seven)) generated;
       }
 
 -- ---- the command that was read

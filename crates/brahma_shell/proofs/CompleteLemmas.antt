@@ -18,11 +18,14 @@ use Rattle.store_opening.specs.declared.open_refusal.Place.TheVariants as place
 use Rattle.store_opening.specs.Store.{Reads, Refuses}
 use Rattle.journal_opening.specs.Openings.{ReadsAs}
 use Rattle.journal_opening.specs.Making.{OpensToRoot}
+use Rattle.logged_journal.specs.View.{LoggedView}
 use Rattle.brahma_shell.specs.declared.ended.Ended.{Ended}
+use Rattle.brahma_shell.specs.declared.ended.Ended.TheVariants.{Kept}
+use Rattle.brahma_shell.specs.declared.gen_words.Asked.{Asked}
 use Rattle.brahma_shell.specs.Ended.{disk_in}
-use Rattle.brahma_shell.specs.Top.{Tell, AlwaysOpens, HasOnlyLines, IsDoneOrFull, Outside, Unopened, Replayed, Audited, status_of_refusal}
+use Rattle.brahma_shell.specs.Top.{Tell, AlwaysOpens, HasOnlyLines, IsDoneOrFull, Outside, Unopened, Replayed, Audited, Generated, status_of_refusal}
 use Rattle.brahma_shell.proofs.CrashLemmas.{read-image}
-use Rattle.brahma_shell.proofs.RunLemmas.{run-ids}
+use Rattle.brahma_shell.proofs.RunLemmas.{run-ids, history-size}
 
 same-cells : (a b : List Cell) → OpensTo a ≡ OpensTo b → a ≡ b
 same-cells a b e = cc (e)
@@ -145,3 +148,16 @@ module _ {D : Type 0} (content : D → Area → Option (List ℕ)) (may_leave : 
 
   pub audited-done : ¬ Rose before.write_faults after.write_faults → IsDoneOrFull status
   audited-done writes = ⊎_elim (λ zero. inl zero) (λ h. ⊎_elim (λ five. absurd (writes (a.write five).0)) (λ eight. inr (inl eight)) h) a.statuses
+
+-- ---- generated calls
+
+module _ {D : Type 0} (content : D → Area → Option (List ℕ)) (may_leave : D → Area → List ℕ → Type 0) (asked : Asked) (disk : D) (before after : Outside) (status : ℕ) (v : LoggedView D)
+    (g : Generated content may_leave asked disk before after status v) where
+  pub generated-open : (ended : Ended D) → ended ≡ Kept v → ((d : D) (area : Area) → IfSome (content d area) (may_leave d area)) → Tell content → (ids : ℕ) → AlwaysOpens may_leave ids disk → AlwaysOpens may_leave ids (disk_in ended)
+  generated-open ended kept stay tell ids opens image is =
+      let o = g.journal.opens image (subst (λ (e : Ended D). IsImage may_leave (disk_in e) image) kept is) in
+      let many = cells-read content may_leave stay ids disk opens tell v.journal.opening g.opened in
+      (o.cells, o.opened, omega (arith, o.size, history-size v, g.size, many))
+
+  pub generated-done : ¬ Rose before.write_faults after.write_faults → ¬ Rose before.disk_faults after.disk_faults → IsDoneOrFull status
+  generated-done writes faults = g.complete writes faults

@@ -27,7 +27,7 @@ after_notes-append p xs ys = fold-append after_note p xs ys
 
 -- ---- part by part
 
-moment-after : (p : Point) (ns : List Note) → (after_notes p ns).moment ≡ moment_after p.moment (entries_in ns)
+pub moment-after : (p : Point) (ns : List Note) → (after_notes p ns).moment ≡ moment_after p.moment (entries_in ns)
 moment-after p [] = refl
 moment-after p (n ∷ ns) = moment-after (after_note p n) ns
 

@@ -1,8 +1,9 @@
 -- What the words behind the program's name ask.
 use Rattle.std.specs.Prelude.{ℕ, if◌then◌else◌, List, [], ◌∷◌, Option, Some, None, bytes_eq, codes, option_map}
 use Rattle.script_lines.specs.Numbers.{pages_of}
+use Rattle.brahma_shell.specs.GenWords.{asked_of}
 use Rattle.brahma_shell.specs.declared.command.Command.{Command}
-use Rattle.brahma_shell.specs.declared.command.Command.TheVariants.{Init, Replay, Audit}
+use Rattle.brahma_shell.specs.declared.command.Command.TheVariants.{Init, Replay, Gen, Audit}
 
 -- the command that one word names
 abbrev pub command_of_word : List ℕ → Option Command
@@ -15,9 +16,13 @@ command_of_word word =
 abbrev pub command_of_two : List ℕ → List ℕ → Option Command
 command_of_two word number = if bytes_eq word (codes "init") then option_map Init (pages_of number) else None
 
+-- the command that one word names with more than one behind it
+abbrev pub command_of_more : List ℕ → List (List ℕ) → Option Command
+command_of_more word words = if bytes_eq word (codes "gen") then option_map Gen (asked_of words) else None
+
 -- what the words ask, where they have a reading
 abbrev pub command_of : List (List ℕ) → Option Command
 command_of [] = None
 command_of (word ∷ []) = command_of_word word
 command_of (word ∷ number ∷ []) = command_of_two word number
-command_of (word ∷ number ∷ other ∷ words) = None
+command_of (word ∷ number ∷ other ∷ words) = command_of_more word (number ∷ other ∷ words)

@@ -1,7 +1,8 @@
 //! What the words ask the program to do.
-ghost use Rattle.std.specs.Prelude.{◌≡◌, Option};
-ghost use Rattle.brahma_shell.specs.Commands.{command_of, command_of_word, command_of_two};
+ghost use Rattle.std.specs.Prelude.{◌≡◌, Option, map, string_bytes};
+ghost use Rattle.brahma_shell.specs.Commands.{command_of, command_of_word, command_of_two, command_of_more};
 
+use crate::gen_words::{Asked, asked_of};
 use crate::words::Words;
 use script_lines::pages_of;
 
@@ -12,6 +13,8 @@ pub enum Command {
     Init { pages: u16 },
     /// `replay`: does a script, line by line, and prints what it answers.
     Replay,
+    /// `gen --seed S --clients C --txns T`: does calls that are drawn from a seed, collects, and prints what happened.
+    Gen(Asked),
     /// `audit`: counts all pointers of the store again, and prints what it found.
     Audit,
 }
@@ -39,6 +42,16 @@ fn command_of_two(word: &[u8], number: &[u8]) -> Option<Command>
     }
 }
 
+/// The command that a word names with more than one word behind it.
+fn command_of_more(word: &[u8], words: &[String]) -> Option<Command>
+    ensures { result ≡ command_of_more word.now (map string_bytes words.now) }
+{
+    match word {
+        b"gen" => Some(Command::Gen(asked_of(words)?)),
+        _ => None,
+    }
+}
+
 impl Command {
     /// What the words ask, where they have a reading.
     pub fn of(words: &Words) -> Option<Command>
@@ -47,7 +60,8 @@ impl Command {
         match words.items() {
             [word] => command_of_word(word.as_bytes()),
             [word, number] => command_of_two(word.as_bytes(), number.as_bytes()),
-            _ => None,
+            [word, words @ ..] => command_of_more(word.as_bytes(), words),
+            [] => None,
         }
     }
 }

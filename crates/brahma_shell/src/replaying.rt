@@ -64,7 +64,7 @@ fn end<W: Sink, D: Disk>(alloc: Global, store: &Store<D>, out: &mut W) -> u8
 }
 
 /// Writes the last line of a replay that stopped, and answers the status. Where the sink had failed nothing is written.
-fn end_stopped<W: Sink>(out: &mut W, stop: Stop) -> u8
+pub(crate) fn end_stopped<W: Sink>(out: &mut W, stop: Stop) -> u8
     ensures status { result ≡ status_of stop }
     ensures last { EndsWith (W.written out.old) (W.written out.new)
         (W.faults out.old) (W.faults out.new) [] (last_line stop) }

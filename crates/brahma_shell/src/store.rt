@@ -73,6 +73,7 @@ impl<D: Disk> Store<D> {
 
     /// What happened so far, and what each of its events logged.
     pub(crate) fn history(&self) -> &[Note]
+        ensures notes { result.now ≡ self.now.journal.notes }
         ensures legal { IsLegal self.now.journal.history }
         ensures running { is_stopped (end_of self.now.journal.history) ≡ false }
         ensures serializable { IsSerializable self.now.journal.history }

@@ -1,8 +1,9 @@
 use Rattle.std.proofs.Common.{refl, sym, ◌∙◌, arith}
 use mir.Syntax.{of_param}
-use Rattle.brahma_shell.specs.declared.command.Command.TheVariants.{Init, Replay, Audit}
+use Rattle.brahma_shell.specs.declared.command.Command.TheVariants.{Init, Replay, Gen, Audit}
 use Rattle.brahma_shell.specs.Commands.{command_of}
-use Rattle.brahma_shell.proofs.AnswerLemmas.{asks-nothing, asks-init, asks-replay, asks-audit, pages-within, named}
+use Rattle.brahma_shell.proofs.AnswerLemmas.{asks-nothing, asks-init, asks-replay, asks-gen, asks-audit, pages-within, named}
+use Rattle.brahma_shell.proofs.FewLemmas.{gen-few}
 use Rattle.brahma_shell.proofs.top.brahma.Goals as goal
 
 pub make_store-requires : goal.make_store-requires
@@ -25,6 +26,20 @@ returns-in-Some-Replay g c =
     let asked = named c.of.result (command_of c.args.words.now) at.field-0 Replay c.of.ensures at.is at.field-0-is in
     let r = c.replay_script.ensures in
     asks-replay g.D.Disk.content g.D.Disk.may_leave g.D.Disk.moment g.D.Disk.left_since _ _ _ _ _ _ _ _ r.later g.D.Disk.reads_may_stay g.D.Disk.counts_now asked r.statuses r.replayed
+
+pub generate_calls-requires : goal.generate_calls-requires
+generate_calls-requires g c =
+    let at = c.in-Some-Gen in
+    let send = c.type_bounds.send-D in
+    (record { owned = send.owned; leaving = λ k. send.leaving (λ _. k (of_param 1)) }, gen-few c.args.words.now at.asked (named c.of.result (command_of c.args.words.now) at.field-0 (Gen at.asked) c.of.ensures at.is at.field-0-is))
+
+pub returns-in-Some-Gen : goal.returns-in-Some-Gen
+returns-in-Some-Gen g c =
+    let at = c.in-Some-Gen in
+    let asked = named c.of.result (command_of c.args.words.now) at.field-0 (Gen at.asked) c.of.ensures at.is at.field-0-is in
+    let r = c.generate_calls.ensures in
+    asks-gen g.D.Disk.content g.D.Disk.may_leave g.D.Disk.moment g.D.Disk.left_since _ _ _ _ _ _ _ _ (record { reads = omega arith; writes = r.out_later; disk = r.disk_later }) g.D.Disk.reads_may_stay g.D.Disk.counts_now at.asked asked r.statuses refl
+    (r.generated (g.R.Source.left c.args.script.now) (g.R.Source.faults c.args.script.now))
 
 pub returns-in-Some-Audit : goal.returns-in-Some-Audit
 returns-in-Some-Audit g c =
