@@ -4,10 +4,11 @@
     bench/allocations.py [--program PATH]
 
 A library that is loaded before the C library's own lets the program's Nth allocation fail, for N from 1 on until none
-fails any more: while a store is made, while a script is replayed that has every line, while it is replayed on a store
-whose last transaction had not ended, and while an audit is made. Each such run has to answer as without a failure, or
-with status 8, the same lines up to some place, and `refused: memory`. The store then has to open, to just what was
-acknowledged: the objects that are reachable have what they have where only the script's first lines are replayed.
+fails any more: while a store is made, while a script is replayed that has every line, while generated calls are done,
+while a store is opened whose last transaction had not ended, and while an audit is made. Each such run has to answer as
+without a failure, or with status 8, the same lines up to some place, and `refused: memory`. The store then has to open,
+to just what was acknowledged: the objects that are reachable have what they have where only the script's first lines
+are replayed. (Behind generated calls it has to open with counts that are right.)
 Behind `init` there has to be no store, as before: the program takes memory for its words and its files first.
 What else comes is printed with its N, and the status is then 1.
 """
@@ -74,6 +75,11 @@ turn
 1 abort
 gc all
 """
+
+# Calls of some clients.
+GENERATED = ["gen", "--seed", "5", "--clients", "3", "--txns", "6"]
+
+SOUND = re.compile(rb"audit: pages [0-9]+ live [0-9]+ zero [0-9]+ differences 0\n")
 
 # What the transaction wrote that had not ended is undone by the next opening.
 UNENDED = b"1 begin\n1 set 0 4\n1 make 1\n1 store 0 2 1\n2 begin\n2 commit\n"
@@ -173,6 +179,11 @@ class Bench:
                 found.append(self.seen_behind(areas, front))
         return found
 
+    def fault_of_audit(self):
+        """What is wrong of a store behind generated calls, if anything: any first commits may be there, with counts that are right."""
+        status, output = self.run(["audit"], b"")
+        return None if status == 0 and SOUND.fullmatch(output) else "audit: status %d with %r" % (status, output)
+
     def fault_of(self, areas, words, script, wanted, fails):
         """What is wrong where this allocation fails, if anything, and whether one failed."""
         self.lay(areas)
@@ -181,6 +192,8 @@ class Bench:
             return None, False
         if status != 8 or not output.endswith(REFUSED) or not wanted[1].startswith(output[: -len(REFUSED)]):
             return "status %d with %r" % (status, output), True
+        if words[0] == "gen":
+            return self.fault_of_audit(), True
         now = self.seen()
         if now not in self.behind(areas, words, script, output):
             return "opens to %r" % (now,), True
@@ -216,6 +229,7 @@ def main():
         bench.run(["init", "2"], b"")
         fresh = bench.held()
         wrong += bench.refuse_each(fresh, ["replay"], SCRIPT)
+        wrong += bench.refuse_each(fresh, GENERATED, b"")
         bench.lay(fresh)
         bench.run(["replay"], SCRIPT + UNENDED)
         unended = bench.held()
