@@ -89,11 +89,18 @@ impl GateLog {
     /// The body of the next batch, or nothing where the next commit byte is closed. After that the log
     /// can be appended to.
     ///
+    /// The body takes the memory of the spare one, which is the body of an earlier batch or empty: what that
+    /// holds doesn't matter.
+    ///
     /// Of an area that is told, [`LogRefusal::Damaged`] comes exactly where the area is damaged at this
     /// commit byte, and tells the place. [`LogRefusal::Disk`] comes only where the disk's count of faults
     /// rose in this call. After either the log has to be read anew. [`LogRefusal::Memory`] leaves it as it
     /// was.
-    pub fn next_batch<D: Disk>(&mut self, disk: &mut D) -> Result<Option<Vec<u8>>, LogRefusal>
+    pub fn next_batch<D: Disk>(
+        &mut self,
+        disk: &mut D,
+        spare: &mut Vec<u8>,
+    ) -> Result<Option<Vec<u8>>, LogRefusal>
         requires reading { self.old.stage ≡ Reading }
         ensures log { self.new ≡ after_next self.old result }
         ensures batch { (batches : List (List ℕ)) → IsRead D.content D.may_leave self.old disk.old batches
@@ -107,7 +114,7 @@ impl GateLog {
         ensures moments { LeavesOnlyImages D.moment D.left_since disk.old disk.new (IsImage D.may_leave disk.old) }
         ensures cause { IsCaused (D.faults disk.old) (D.faults disk.new) result }
     {
-        match read_batch(self.alloc, disk, self.area, self.durable) {
+        match read_batch(self.alloc, disk, self.area, self.durable, spare) {
             Ok(Some(body)) => {
                 self.durable += 5 + body.len() as u64;
                 Ok(Some(body))

@@ -44,7 +44,7 @@ fn standing_log(alloc: Global, disk: &mut MemoryDisk) -> Result<GateLog, LogRefu
 {
     let mut log = GateLog::start(alloc, Area::LogA);
     'read: for _ in 0..u64::MAX {
-        if log.next_batch(disk)?.is_none() {
+        if log.next_batch(disk, &mut Vec::new(alloc))?.is_none() {
             return Ok(log);
         }
     }
@@ -57,7 +57,7 @@ fn batches(alloc: Global, disk: &mut MemoryDisk, area: Area) -> Result<u64, LogR
 {
     let mut log = GateLog::start(alloc, area);
     'count: for count in 0..u64::MAX {
-        if log.next_batch(disk)?.is_none() {
+        if log.next_batch(disk, &mut Vec::new(alloc))?.is_none() {
             return Ok(count);
         }
     }

@@ -44,7 +44,7 @@ of_all pages v (r ∷ rs) is = of_all pages (after_taking r v) rs (of_after page
 
 fits_one : {slots : ℕ} (pages : ℕ) (v : Replaying) (r : Record slots) → IsOf pages v → CanTake v r → FitsLog pages v.unended r
 fits_one pages v (OfCells r) is can = (subst (λ (n : ℕ). IsWithin (8 * n) r) is.long can.0, can.1)
-fits_one pages v (Image page cells) is can = subst (λ (n : ℕ). page < n) is.long can
+fits_one pages v (Image page cells) is can = subst (λ (n : ℕ). page < n) is.long can.0
 fits_one pages v (Turn version count) is can = can
 
 same_unended : {slots : ℕ} (v : Replaying) (r : Record slots) → (after_taking r v).unended ≡ unended_by v.unended r
@@ -75,7 +75,7 @@ awaits_all {slots} v (Image other cells ∷ rs) page can =
       | inl same ↦
           let one : one_if (other == page) ≡ 1 = rw (eq-eqb other page same) refl in
           let left : slice_index (slice_set v.skips other (slice_index v.skips other - 1)) page ≡ slice_index v.skips page - 1 =
-          subst (λ (p : ℕ). slice_index (slice_set v.skips other (slice_index v.skips other - 1)) p ≡ slice_index v.skips p - 1) same (get_or-set_same v.skips other (slice_index v.skips other - 1) 0 can.0) in
+          subst (λ (p : ℕ). slice_index (slice_set v.skips other (slice_index v.skips other - 1)) p ≡ slice_index v.skips p - 1) same (get_or-set_same v.skips other (slice_index v.skips other - 1) 0 can.0.0) in
           omega (arith, later, left, one)
       | inr apart ↦
           let none : one_if (other == page) ≡ 0 = rw (ne_eqb other page apart) refl in
@@ -128,7 +128,7 @@ takes_fitting pages w is awaits (OfCells r) fits = (
 
     awaited : (n : ℕ) → 1 ≤ n → not (n == 0) ≡ false → ⊥
     awaited n some none = absurd (cc (none, ne_eqb n 0 (λ zero. omega (arith, zero, some))))
-takes_fitting pages w is awaits (Image page cells) fits = subst (λ (n : ℕ). page < n) (sym is.long) fits
+takes_fitting pages w is awaits (Image page cells) fits = (subst (λ (n : ℕ). page < n) (sym is.long) fits, awaits page fits)
 takes_fitting pages w is awaits (Turn version count) fits = fits
 
 -- ---- from its beginning

@@ -6,3 +6,4 @@ pub mod FoundLaws
 pub mod PageLaws
 pub mod StoreLaws
 pub mod ReplayLaws
+pub mod OnceLaws

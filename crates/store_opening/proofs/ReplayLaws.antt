@@ -175,7 +175,7 @@ step_image {slots} count area before later w q held is inside =
 step : {slots : ℕ} (count : ℕ) (area : List ℕ) (before later : List (Record slots)) (w : Replaying) (r : Record slots) → Matches count area before (r ∷ later) w → CanTake w r
     → Matches count area (before ++ r ∷ []) later (after_taking r w)
 step count area before later w (OfCells r) is can = step_of_cells count area before later w r is
-step count area before later w (Image q held) is can = step_image count area before later w q held is (subst (λ (n : ℕ). q < n) is.long can)
+step count area before later w (Image q held) is can = step_image count area before later w q held is (subst (λ (n : ℕ). q < n) is.long can.0)
 step count area before later w (Turn version pages) is can = absurd can
 
 -- ---- what it takes fits the cells
@@ -302,7 +302,9 @@ unfits count area before after u (OfCells r) is fits denied cells =
           let none = none_back x after above zero in
           subst (λ (c : Cell). FitsAt (record_of r) x c) (sym (is.cells x above inside none)) (cells x above inside none),
     )
-unfits count area before after u (Image q held) is fits denied cells = denied (subst (λ (n : ℕ). q < n) (sym is.long) fits)
+unfits count area before after u (Image q held) is fits denied cells =
+    let one : one_if (q == q) ≡ 1 = rw (eq-eqb q q refl) refl in
+    denied (subst (λ (n : ℕ). q < n) (sym is.long) fits, omega (arith, is.awaits q fits, one))
 unfits count area before after u (Turn version pages) is fits denied cells = fits
 
 fit_at : {slots : ℕ} (pages : ℕ) (us : List (ℕ × Unended)) (before : List (Record slots)) (r : Record slots) (after : List (Record slots)) → AllFitLog pages us (before ++ r ∷ after) → FitsLog pages (unended_by_all us before) r
@@ -323,7 +325,7 @@ count_same {slots} known count other area batches more log rules starts =
     (same_records known (first_records slots other) (first_records slots count) (turn_spelled slots other rules.1 rules.2) (turn_spelled slots count log.batches_are.some log.batches_are.few) same.0)
 
 -- the batches that a replay over so many pages took are those of a log
-are_those : {slots : ℕ} (count : ℕ) (v w : Replaying) (batches : List (List (Record slots))) → 1 ≤ count → count ≤ 1024 → IsOf count v → v.unended ≡ [] → Takes (all_of batches) v w → AreBodies (bodies_of batches)
+pub are_those : {slots : ℕ} (count : ℕ) (v w : Replaying) (batches : List (List (Record slots))) → 1 ≤ count → count ≤ 1024 → IsOf count v → v.unended ≡ [] → Takes (all_of batches) v w → AreBodies (bodies_of batches)
     → AreBatches count batches
 are_those count v w batches some few is none takes bodies =
     record {
@@ -334,7 +336,7 @@ are_those count v w batches some few is none takes bodies =
       fit = subst (λ (us : List (ℕ × Unended)). AllFitLog count us (all_of batches)) none (fits_log count v (all_of batches) is takes.fit);
     }
 
-of_match : {slots : ℕ} (count : ℕ) (area : List ℕ) (before later : List (Record slots)) (v : Replaying) → Matches count area before later v → IsOf count v
+pub of_match : {slots : ℕ} (count : ℕ) (area : List ℕ) (before later : List (Record slots)) (v : Replaying) → Matches count area before later v → IsOf count v
 of_match count area before later v is = record { sized = is.sized; long = is.long }
 
 -- the record behind these can't be taken, so it doesn't fit the cells

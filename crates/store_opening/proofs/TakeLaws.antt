@@ -1,5 +1,6 @@
 -- Records that a replay takes one after another.
 use Rattle.std.proofs.Common.{◌≡◌, ℕ, ◌+◌, ◌<◌, ◌≤◌, List, [], ◌∷◌, ◌++◌, length, drop, refl, sym, ap, subst, ◌∙◌, arith, append_assoc, length-append}
+use Rattle.std.specs.Prelude.{slice_index}
 use Rattle.std.proofs.lemmas.List.{append-nil, drop_at, drop_all, length-drop}
 use Rattle.std.proofs.lemmas.Grind.{flat_map-append}
 use Rattle.log_record.specs.declared.record.Record.{Record}
@@ -7,12 +8,12 @@ use Rattle.log_record.specs.declared.record.Record.TheVariants.{OfCells, Image, 
 use Rattle.log_record.specs.Spelling.{record_bytes, BeginsWith}
 use Rattle.log_record.proofs.ReadLaws.{some_bytes}
 use Rattle.log_record.proofs.Apart.{one_record}
+use Rattle.cell_page.specs.declared.cell.Cell.{Cell}
 use Rattle.cell_page.specs.Format.{IsSlotCount}
 use Rattle.log_replay.specs.Replays.{Replaying, FitsReplay, after_taking}
 use Rattle.opened_images.specs.LogRecords.{body_of, HaveSpellings}
 use Rattle.opened_images.proofs.Bodies.{begins}
 use Rattle.page_marks.specs.declared.marks.PageMark.{PageMark}
-use Rattle.page_marks.specs.Marks.{AreMarkedBy}
 use Rattle.page_marks.proofs.MarkLaws.{no-marks, one-record, both-marks}
 use Rattle.store_opening.specs.Walks.{CanTake, CanTakeAll, taken_all, Takes, TakesFirst, TakesNone, TakesFront, TakesBody, StopsInBody}
 
@@ -57,8 +58,12 @@ first_within bytes r len b =
 -- what doesn't fit the replay can't be taken
 pub refused : {slots : ℕ} (v : Replaying) (r : Record slots) → (FitsReplay v r → ⊥) → CanTake v r → ⊥
 refused v (OfCells r) denied can = denied can
-refused v (Image page cells) denied can = denied can
+refused v (Image page cells) denied can = denied can.0
 refused v (Turn version pages) denied can = can
+
+-- an image that isn't awaited can't be taken
+pub unawaited : {slots : ℕ} (v : Replaying) (r : Record slots) (page : ℕ) (cells : List (Cell slots)) → r ≡ Image page cells → ((page < length v.skips) × (1 ≤ slice_index v.skips page) → ⊥) → CanTake v r → ⊥
+unawaited v r page cells is denied can = denied (subst (λ s. CanTake v s) is can)
 
 pub turn_refused : {slots : ℕ} (v : Replaying) (r : Record slots) (version pages : ℕ) → r ≡ Turn version pages → CanTake v r → ⊥
 turn_refused v r version pages is can = subst (λ s. CanTake v s) is can

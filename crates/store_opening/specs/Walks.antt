@@ -1,5 +1,5 @@
 -- The records of a log, taken one after another by a replay, and where that stops.
-use Rattle.std.specs.Prelude.{◌≡◌, ℕ, ◌+◌, ◌-◌, ◌*◌, ◌^◌, ◌≤◌, ◌==◌, Bool, true, false, List, [], ◌∷◌, ◌++◌, length, drop, replicate, ⊤}
+use Rattle.std.specs.Prelude.{◌≡◌, ℕ, ◌+◌, ◌-◌, ◌*◌, ◌^◌, ◌≤◌, ◌==◌, Bool, true, false, List, [], ◌∷◌, ◌++◌, length, drop, replicate, slice_index, ⊤}
 use Rattle.log_record.specs.declared.record.Record.{Record}
 use Rattle.log_record.specs.declared.record.Record.TheVariants.{OfCells, Image, Turn}
 use Rattle.log_record.specs.Spelling.{BeginsWith}
@@ -8,10 +8,10 @@ use Rattle.opened_images.specs.LogRecords.{body_of, HaveSpellings}
 use Rattle.page_marks.specs.declared.marks.PageMark.{PageMark}
 use Rattle.page_marks.specs.Marks.{AreMarkedBy, AreMarkedByAll}
 
--- the record may stand behind a log's first one, and it fits what the replay has
+-- the record may stand behind a log's first one, and it fits what the replay has, which awaits it where it is an image
 abbrev pub CanTake : {slots : ℕ} → Replaying → Record slots → Type 0
 CanTake {slots} v (OfCells r) = FitsReplay {slots = slots} v (OfCells r)
-CanTake {slots} v (Image page cells) = FitsReplay {slots = slots} v (Image page cells)
+CanTake {slots} v (Image page cells) = FitsReplay {slots = slots} v (Image page cells) × (1 ≤ slice_index v.skips page)
 CanTake v (Turn version pages) = ⊥
 
 -- so do all of these, one after another

@@ -8,14 +8,52 @@ ghost use Rattle.gate_log.specs.declared.stage.Stage.TheVariants.{Standing};
 ghost use Rattle.store_opening.specs.Looks.{IsLookedAt};
 ghost use Rattle.store_opening.specs.Store.{Reads, Refuses, AreCellsFound, HasOpenCause};
 
+use crate::at_once::cells_at_once;
 use crate::open_refusal::OpenRefusal;
 use crate::replayed::{ReplayedLog, replay_log};
 use crate::store::{FoundStore, read_store, refusal_of_log};
 use disk_model::Disk;
 use std::alloc::Global;
 
+/// Reads the store that the disk holds, test after test in their order, and does the records of its log to its pages, as
+/// [`read_cells`] tells. The bodies of the log's batches take the memory of the spare one.
+fn read_in_order<D: Disk, const SLOTS: usize>(
+    alloc: Global,
+    disk: &mut D,
+    spare: &mut Vec<u8>,
+) -> Result<ReplayedLog<SLOTS>, OpenRefusal>
+    requires count { IsSlotCount SLOTS }
+    ensures read { IfOk result (λ found. (image : Bytes) → Reads D.content disk.old image
+        → AreCellsFound D.may_leave SLOTS image found.replay found.marks found.log disk.new) }
+    ensures on { IfOk result (λ found. (batches : List (List ℕ)) × IsOn D.may_leave found.log disk.new batches) }
+    ensures as_many { IfOk result (λ found. length found.marks ≡ length found.replay.skips) }
+    ensures refused { (image : Bytes) → Reads D.content disk.old image → IfErr result (Refuses SLOTS image) }
+    ensures stands { IfOk result (λ found. (found.log.stage ≡ Standing) × (found.log.tail ≡ [])) }
+    ensures settled { OnOk result ((area : _) → IsSettled D.content D.may_leave disk.new area) }
+    ensures looks { IsLookedAt D.content D.may_leave D.moment D.left_since disk.old disk.new }
+    ensures cause { HasOpenCause (D.faults disk.old) (D.faults disk.new) result }
+{
+    let store = match read_store::<D, SLOTS>(alloc, disk, spare) {
+        Ok(store) => store,
+        Err(refusal) => return Err(refusal),
+    };
+    let FoundStore {
+        area,
+        pages,
+        images,
+        ..
+    } = store;
+    match replay_log(alloc, disk, area, pages, images, spare) {
+        Ok(done) => Ok(done),
+        Err(refusal) => Err(refusal_of_log(area, refusal)),
+    }
+}
+
 /// Reads the store that the disk holds, and does the records of its log to its pages. What has not ended is not undone yet,
 /// and no store rule is tested.
+///
+/// One walk over the log is tried first, which is enough where the log has no image of a page and nothing is refused. All
+/// refusals come from reading in the order of the tests.
 ///
 /// Of a disk that is told, each refusal but [`OpenRefusal::Disk`] and [`OpenRefusal::Memory`] is what the four areas open
 /// to. [`OpenRefusal::Disk`] comes only where the disk's count of faults rose in this call. Nothing is written.
@@ -34,18 +72,13 @@ pub fn read_cells<D: Disk, const SLOTS: usize>(
     ensures looks { IsLookedAt D.content D.may_leave D.moment D.left_since disk.old disk.new }
     ensures cause { HasOpenCause (D.faults disk.old) (D.faults disk.new) result }
 {
-    let store = match read_store::<D, SLOTS>(alloc, disk) {
-        Ok(store) => store,
-        Err(refusal) => return Err(refusal),
-    };
-    let FoundStore {
-        area,
-        pages,
-        images,
-        ..
-    } = store;
-    match replay_log(alloc, disk, area, pages, images) {
-        Ok(done) => Ok(done),
-        Err(refusal) => Err(refusal_of_log(area, refusal)),
+    let mut spare = Vec::new(alloc);
+    match cells_at_once(alloc, disk, &mut spare) {
+        Ok(Some(found)) => Ok(found),
+        Ok(None) => match read_in_order(alloc, disk, &mut spare) {
+            Ok(found) => Ok(found),
+            Err(refusal) => Err(refusal),
+        },
+        Err(refusal) => Err(refusal),
     }
 }

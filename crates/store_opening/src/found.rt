@@ -34,10 +34,11 @@ pub struct FoundLog {
     pub log: GateLog,
 }
 
-/// Reads the first batch of a log, and answers how many pages the store has.
+/// Reads the first batch of a log, and answers how many pages the store has. Its body takes the memory of the spare one.
 pub(crate) fn read_first<D: Disk, const SLOTS: usize>(
     log: &mut GateLog,
     disk: &mut D,
+    spare: &mut Vec<u8>,
 ) -> Result<u16, ReadRefusal>
     requires count { IsSlotCount SLOTS }
     requires reading { log.old.stage ≡ Reading }
@@ -51,7 +52,7 @@ pub(crate) fn read_first<D: Disk, const SLOTS: usize>(
     ensures looks { IsLookedAt D.content D.may_leave D.moment D.left_since disk.old disk.new }
     ensures cause { IsCaused (D.faults disk.old) (D.faults disk.new) result }
 {
-    match log.next_batch(disk) {
+    match log.next_batch(disk, spare) {
         Ok(Some(body)) => first_pages::<SLOTS>(&body),
         Ok(None) => Err(ReadRefusal::Damaged { at: 0 }),
         Err(refusal) => Err(told(refusal)),
@@ -101,7 +102,8 @@ fn images_found(alloc: Global, awaited: &[u32]) -> Result<Vec<u32>, AllocError>
     awaited.iter().map(|left| u32::MAX - *left).collect(alloc)
 }
 
-/// Reads the log of a store in this area, before any of its records is done to a page.
+/// Reads the log of a store in this area, before any of its records is done to a page. The bodies of its batches take the
+/// memory of the spare one.
 ///
 /// At `Ok` the area is a log whose records fit one another, and the log stands on the disk with its batches. Of an area
 /// that is told, [`ReadRefusal::UnknownVersion`] and [`ReadRefusal::Damaged`] come exactly where it has a version that
@@ -111,6 +113,7 @@ pub fn read_log<D: Disk, const SLOTS: usize>(
     alloc: Global,
     disk: &mut D,
     area: Area,
+    spare: &mut Vec<u8>,
 ) -> Result<FoundLog, ReadRefusal>
     requires count { IsSlotCount SLOTS }
     requires first { IsRead D.content D.may_leave (log_at area) disk.old [] }
@@ -122,9 +125,9 @@ pub fn read_log<D: Disk, const SLOTS: usize>(
     ensures cause { IsCaused (D.faults disk.old) (D.faults disk.new) result }
 {
     let mut log = GateLog::start(alloc, area);
-    let pages = read_first::<D, SLOTS>(&mut log, disk)?;
+    let pages = read_first::<D, SLOTS>(&mut log, disk, spare)?;
     let mut walk = waiting::<SLOTS>(alloc, pages)?;
-    if let Err(refusal) = walk_log(&mut log, disk, &mut walk) {
+    if let Err(refusal) = walk_log(&mut log, disk, &mut walk, spare) {
         return Err(refusal);
     }
     let images = images_found(alloc, &walk.awaited)?;

@@ -36,7 +36,8 @@ pub struct ReplayedLog<const SLOTS: usize> {
     pub marks: PageMarks,
 }
 
-/// Does the records of the log in this area to the pages, one after another. Of each page the log has so many images.
+/// Does the records of the log in this area to the pages, one after another. Of each page the log has so many images. The
+/// bodies of its batches take the memory of the spare one.
 ///
 /// Of an area that is told, [`ReadRefusal::Damaged`] tells where the first record stands that doesn't fit what came before
 /// it, its cells too, or where the area stops to be a log, whichever comes first. [`ReadRefusal::Disk`] comes only where the
@@ -47,6 +48,7 @@ pub fn replay_log<D: Disk, const SLOTS: usize>(
     area: Area,
     pages: Vec<Page<SLOTS>>,
     images: Vec<u32>,
+    spare: &mut Vec<u8>,
 ) -> Result<ReplayedLog<SLOTS>, ReadRefusal>
     requires count { IsSlotCount SLOTS }
     requires pages { AreStorePages pages.items }
@@ -71,7 +73,7 @@ pub fn replay_log<D: Disk, const SLOTS: usize>(
     let awaited = Vec::from_slice(alloc, &images)?;
     let marks = PageMarks::new(alloc, pages.len() as u16)?;
     let mut log = GateLog::start(alloc, area);
-    if let Err(refusal) = read_first::<D, SLOTS>(&mut log, disk) {
+    if let Err(refusal) = read_first::<D, SLOTS>(&mut log, disk, spare) {
         return Err(refusal);
     }
     let mut walk = Walk {
@@ -79,7 +81,7 @@ pub fn replay_log<D: Disk, const SLOTS: usize>(
         awaited,
         marks,
     };
-    if let Err(refusal) = walk_log(&mut log, disk, &mut walk) {
+    if let Err(refusal) = walk_log(&mut log, disk, &mut walk, spare) {
         return Err(refusal);
     }
     Ok(ReplayedLog {

@@ -68,7 +68,8 @@ fn refusal_of_pages(refusal: PagesRefusal) -> OpenRefusal
     }
 }
 
-/// Reads the log and the pages of the store that the disk holds, and does none of the log's records to the pages.
+/// Reads the log and the pages of the store that the disk holds, and does none of the log's records to the pages. The bodies
+/// of the log's batches take the memory of the spare one.
 ///
 /// Of a disk that is told, each refusal but [`OpenRefusal::Disk`] and [`OpenRefusal::Memory`] is what the four areas open
 /// to, and comes before any record of the log is tested on cells. [`OpenRefusal::Disk`] comes only where the disk's count
@@ -76,6 +77,7 @@ fn refusal_of_pages(refusal: PagesRefusal) -> OpenRefusal
 pub fn read_store<D: Disk, const SLOTS: usize>(
     alloc: Global,
     disk: &mut D,
+    spare: &mut Vec<u8>,
 ) -> Result<FoundStore<SLOTS>, OpenRefusal>
     requires count { IsSlotCount SLOTS }
     ensures read { IfOk result (λ store. (image : Bytes) → Reads D.content disk.old image
@@ -96,7 +98,7 @@ pub fn read_store<D: Disk, const SLOTS: usize>(
         Ok(None) => return Err(OpenRefusal::NoStore),
         Err(_) => return Err(OpenRefusal::Disk),
     };
-    let found = match read_log::<D, SLOTS>(alloc, disk, area) {
+    let found = match read_log::<D, SLOTS>(alloc, disk, area, spare) {
         Ok(found) => found,
         Err(refusal) => return Err(refusal_of_log(area, refusal)),
     };

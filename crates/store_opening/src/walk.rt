@@ -1,5 +1,5 @@
 //! The walk over the batches of a log, record by record.
-ghost use Rattle.std.specs.Prelude.{◌≡◌, ◌⊎◌, ◌+◌, ◌-◌, ◌<◌, ◌≤◌, ◌^◌, ℕ, List, length, slice_index, slice_set, false, IsTrue, MatchBool, IfOk, IfErr, IfSome, OnOk, IsErrOf};
+ghost use Rattle.std.specs.Prelude.{◌≡◌, ◌↔◌, ◌⊎◌, ◌+◌, ◌-◌, ◌<◌, ◌≤◌, ◌^◌, ℕ, List, length, slice_index, slice_set, true, false, IsTrue, MatchBool, IfOk, IfErr, IfSome, OnOk, IsErrOf};
 ghost use Rattle.cell_page.specs.Format.{IsSlotCount};
 ghost use Rattle.gate_log.specs.declared.stage.Stage.TheVariants.{Reading, Standing};
 ghost use Rattle.log_record.specs.declared.cell_record.CellRecord.{CellRecord};
@@ -28,6 +28,13 @@ pub(crate) struct Walk<const SLOTS: usize> {
     pub(crate) awaited: Vec<u32>,
     /// For each page, what the records so far tell of it.
     pub(crate) marks: PageMarks,
+}
+
+/// Whether an image of the page is awaited.
+fn is_awaited(awaited: &[u32], page: u16) -> bool
+    ensures { (result ≡ true) ↔ ((page < length awaited.now) × (1 ≤ slice_index awaited.now page)) }
+{
+    (page as usize) < awaited.len() && awaited[page as usize] > 0
 }
 
 /// Counts the image of a page that the replay took.
@@ -66,6 +73,7 @@ fn take_of_cells<const SLOTS: usize>(
 }
 
 /// Takes the image that the bytes begin with, where no record of single cells begins them, and answers how many bytes it has.
+/// One that isn't awaited doesn't fit.
 fn take_image<const SLOTS: usize>(
     walk: &mut Walk<SLOTS>,
     bytes: &[u8],
@@ -84,14 +92,19 @@ fn take_image<const SLOTS: usize>(
         return Err(TakeRefusal::Unfit);
     };
     match rec {
-        Record::Image { page, .. } => match walk.replay.take(&rec) {
-            Ok(()) => {
-                count_image(&mut walk.awaited, page);
-                walk.marks.image(page);
-                Ok(len)
+        Record::Image { page, .. } => {
+            if !is_awaited(&walk.awaited, page) {
+                return Err(TakeRefusal::Unfit);
             }
-            Err(refusal) => Err(refusal),
-        },
+            match walk.replay.take(&rec) {
+                Ok(()) => {
+                    count_image(&mut walk.awaited, page);
+                    walk.marks.image(page);
+                    Ok(len)
+                }
+                Err(refusal) => Err(refusal),
+            }
+        }
         Record::OfCells(_) => Err(TakeRefusal::Unfit),
         Record::Turn { .. } => Err(TakeRefusal::Unfit),
     }
@@ -150,11 +163,13 @@ fn take_records<const SLOTS: usize>(
     Ok(())
 }
 
-/// Reads the next batch and takes its records. Whether there was one.
+/// Reads the next batch and takes its records. Whether there was one. Its body takes the memory of the spare one, and is
+/// the spare one then.
 fn walk_batch<D: Disk, const SLOTS: usize>(
     log: &mut GateLog,
     disk: &mut D,
     walk: &mut Walk<SLOTS>,
+    spare: &mut Vec<u8>,
 ) -> Result<bool, ReadRefusal>
     requires count { IsSlotCount SLOTS }
     requires reading { log.old.stage ≡ Reading }
@@ -175,11 +190,14 @@ fn walk_batch<D: Disk, const SLOTS: usize>(
     ensures looks { IsLookedAt D.content D.may_leave D.moment D.left_since disk.old disk.new }
     ensures cause { IsCaused (D.faults disk.old) (D.faults disk.new) result }
 {
-    match log.next_batch(disk) {
+    match log.next_batch(disk, spare) {
         Ok(Some(body)) => {
             let end = log.durable();
             match take_records(walk, &body, end) {
-                Ok(()) => Ok(true),
+                Ok(()) => {
+                    *spare = body;
+                    Ok(true)
+                }
                 Err(refusal) => Err(refusal),
             }
         }
@@ -188,7 +206,8 @@ fn walk_batch<D: Disk, const SLOTS: usize>(
     }
 }
 
-/// Reads the batches that are left of a log, up to its end, and takes their records.
+/// Reads the batches that are left of a log, up to its end, and takes their records. The bodies take the memory of the spare
+/// one.
 ///
 /// [`ReadRefusal::Damaged`] tells where the first record stands that doesn't fit, or the first commit byte behind which no
 /// batch stands, whichever comes first. [`ReadRefusal::Disk`] comes only where the disk's count of faults rose in this
@@ -197,6 +216,7 @@ pub(crate) fn walk_log<D: Disk, const SLOTS: usize>(
     log: &mut GateLog,
     disk: &mut D,
     walk: &mut Walk<SLOTS>,
+    spare: &mut Vec<u8>,
 ) -> Result<(), ReadRefusal>
     requires count { IsSlotCount SLOTS }
     requires reading { log.old.stage ≡ Reading }
@@ -216,7 +236,7 @@ pub(crate) fn walk_log<D: Disk, const SLOTS: usize>(
     ensures cause { IsCaused (D.faults disk.old) (D.faults disk.new) result }
 {
     'batches: loop {
-        if !walk_batch(log, disk, walk)? {
+        if !walk_batch(log, disk, walk, spare)? {
             return Ok(());
         }
     }

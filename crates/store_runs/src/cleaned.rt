@@ -72,9 +72,9 @@ fn opened_again(alloc: Global, stop_after: u64) -> Result<(bool, bool, bool), Fa
 fn an_opening_of_a_cleaned_page_that_stops_leaves_what_was_there(
     rt: HostRuntime,
 ) -> Result<(), Fail> {
-    // Making the store takes 19 calls, opening it 21, and cleaning the page 6.
+    // Making the store takes 19 calls, opening it 15, and cleaning the page 6.
     let mut last_stop = 0;
-    for stop_after in 46..83 {
+    for stop_after in 40..93 {
         let (is_done, is_stopped, is_there) = opened_again(rt.alloc(), stop_after)?;
         assert!(rt; is_done && is_there);
         if is_stopped {
@@ -82,6 +82,6 @@ fn an_opening_of_a_cleaned_page_that_stops_leaves_what_was_there(
         }
     }
     // It asks its disk for more than four syncs, and is not stopped in the end.
-    assert!(rt; 50 <= last_stop && last_stop < 82);
+    assert!(rt; 44 <= last_stop && last_stop < 92);
     Ok(())
 }

@@ -56,7 +56,7 @@ fn expect_stopped(rt: &impl Abort, alloc: Global, call: u64) -> Result<(), Fail>
 #[test]
 fn a_store_is_stopped_by_a_failed_commit(rt: HostRuntime) -> Result<(), Fail> {
     // The commit's four calls of the disk.
-    for call in [41, 42, 43, 44] {
+    for call in [35, 36, 37, 38] {
         expect_stopped(&rt, rt.alloc(), call)?;
     }
     Ok(())

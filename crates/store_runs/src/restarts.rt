@@ -49,13 +49,13 @@ fn how_often_named(alloc: Global, disk: &MemoryDisk) -> Result<u32, Fail> {
 
 #[test]
 fn what_was_committed_is_there(rt: HostRuntime) -> Result<(), Fail> {
-    // Making the store takes 19 calls, opening it 21, and the commit 4. It may be there as soon as its batch's commit byte
+    // Making the store takes 19 calls, opening it 15, and the commit 4. It may be there as soon as its batch's commit byte
     // is written.
-    for stop_after in 40..45 {
+    for stop_after in 34..39 {
         let (is_done, disk) = committed(rt.alloc(), stop_after)?;
         let named = how_often_named(rt.alloc(), &disk)?;
-        assert!(rt; is_done == (stop_after == 44));
-        assert!(rt; (named > 0) == (43 <= stop_after) && (named == 10) == is_done);
+        assert!(rt; is_done == (stop_after == 38));
+        assert!(rt; (named > 0) == (37 <= stop_after) && (named == 10) == is_done);
     }
     Ok(())
 }
@@ -71,7 +71,7 @@ fn opened_again(alloc: Global, stop_after: u64) -> Result<(bool, bool), Fail> {
 #[test]
 fn an_opening_that_stops_leaves_what_was_there(rt: HostRuntime) -> Result<(), Fail> {
     let mut last_stop = 0;
-    for stop_after in 44..81 {
+    for stop_after in 38..75 {
         let (is_stopped, is_there) = opened_again(rt.alloc(), stop_after)?;
         assert!(rt; is_there);
         if is_stopped {
@@ -79,6 +79,6 @@ fn an_opening_that_stops_leaves_what_was_there(rt: HostRuntime) -> Result<(), Fa
         }
     }
     // It asks its disk for more than four syncs.
-    assert!(rt; 48 <= last_stop && last_stop < 80);
+    assert!(rt; 42 <= last_stop && last_stop < 74);
     Ok(())
 }

@@ -77,13 +77,13 @@ fn a_commit_that_the_disk_fails(rt: HostRuntime) -> Result<(), Fail> {
     expect_all(
         &rt,
         rt.alloc(),
-        Some(42),
+        Some(36),
         &[failed, replay("", 0, "stored 1\n")],
     )?;
     expect_all(
         &rt,
         rt.alloc(),
-        Some(44),
+        Some(38),
         &[failed, replay("", 0, "stored 1 2\n")],
     )?;
     Ok(())

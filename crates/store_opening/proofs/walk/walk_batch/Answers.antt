@@ -18,8 +18,8 @@ returns-in-Ok-clause-step g c v read walked =
     c.in-Ok-Some.body.items walked reads
     (subst (λ (l : List ℕ). TakesBody g.row.SLOTS l c.args.walk.now.replay c.take_records.new.walk.replay c.args.walk.now.marks c.take_records.new.walk.marks) c.deref.ensures.value c.in-Ok.ensures.took)
 
-pub returns-in-Ok-Some-clause-damaged : goal.returns-in-Ok-Some-clause-damaged
-returns-in-Ok-Some-clause-damaged g c v read walked at is =
+pub returns-in-Err-take_records-clause-damaged : goal.returns-in-Err-take_records-clause-damaged
+returns-in-Err-take_records-clause-damaged g c v read walked at is =
     let reads : (batches : List (List ℕ)) → IsRead g.D.Disk.content g.D.Disk.may_leave c.args.log.now c.args.disk.now batches
     → IsRead g.D.Disk.content g.D.Disk.may_leave c.next_batch.new.self c.next_batch.new.disk (batches ++ c.in-Ok-Some.body.items ∷ []) =
     λ batches is. subst (λ (o : Option (Vec ℕ Global)). IfSome o (λ body. IsRead g.D.Disk.content g.D.Disk.may_leave c.next_batch.new.self c.next_batch.new.disk (batches ++ body.items ∷ [])))
@@ -47,8 +47,8 @@ returns-in-Ok-None-clause-step g c v read walked =
     (ap (λ (a : Area). g.D.Disk.content c.next_batch.new.disk a) area_is ∙ (c.next_batch.ensures.keeps c.args.log.now.area).same)
     (g.D.Disk.reads_may_stay c.next_batch.new.disk c.next_batch.new.self.area)
 
-pub returns-clause-damaged : goal.returns-clause-damaged
-returns-clause-damaged g c v read walked at is =
+pub returns-in-Err-clause-damaged : goal.returns-in-Err-clause-damaged
+returns-in-Err-clause-damaged g c v read walked at is =
     let was : c.told.result ≡ Damaged at = cc is in
     walked_cut g.D.Disk.content g.D.Disk.may_leave g.row.SLOTS read v c.args.walk.now.replay c.args.walk.now.marks c.args.log.now c.args.disk.now at walked
     (c.in-Err.ensures.damaged at (ap Err (told_damaged c.in-Err.refusal c.told.result at c.told.ensures was)))
