@@ -17,7 +17,7 @@ ghost use Rattle.core_store.specs.RoundView.{Closed};
 ghost use Rattle.core_store.specs.Limited.{AreLimits, is_past_limit};
 ghost use Rattle.core_store.specs.JournalView.{cells_of};
 ghost use Rattle.core_store.specs.Opening.{ArePages, stored_in, opened_history};
-ghost use Rattle.logged_journal.specs.View.{OnlyTakesRoom, bytes_counted, history_of};
+ghost use Rattle.logged_journal.specs.View.{KeepsLog, OnlyTakesRoom, bytes_counted, history_of};
 ghost use Rattle.logged_journal.specs.Records.{MayHave, MayHaveAll};
 ghost use Rattle.logged_journal.specs.Opens.{OpensAfter, OpensDuring};
 ghost use Rattle.logged_journal.specs.Upkeep.{IsPastLogToClean, IsTurned, Turns, TellsBusy, FailsUpkeep};
@@ -130,6 +130,7 @@ impl<const SLOTS: usize, D: Disk> FramedJournal<SLOTS, D> {
         requires no_abort { call.now ≡ Call.Abort → transaction_of (end_of self.old.journal.history).state client ≡ None }
         ensures stopped { IfSome self.old.failed (λ f. (result ≡ Reply.Stopped f.faults) × (self.new ≡ self.old)) }
         ensures only_stopped { (faults : ℕ) → result ≡ Reply.Stopped faults → IsSome self.old.failed }
+        ensures kept { (result ≡ Reply.TraceFull) ⊎ (result ≡ Reply.Memory) → KeepsLog self.old self.new }
         ensures log_full { (result ≡ Reply.LogFull) ↔ IsPastLog self.old client call.now }
         ensures log_marked { result ≡ Reply.LogFull → self.new ≡ record self.old { log_full = true } }
         ensures does { IsOfJournal result → DoesCall SLOTS self.old.journal self.new.journal client call.now result }

@@ -24,7 +24,7 @@ use Rattle.logged_journal.specs.Kept.{CanCommit}
 use Rattle.logged_journal.specs.Calls.{IsOfJournal, DoesCall, GoesOn, KeepsFrames, FailsCommit}
 use Rattle.latch_table.specs.Views.{no_marks}
 use Rattle.journal_chronicle.specs.Steps.{disk_mark, trace_mark, entered_by_call, marked_by_call, GoesOnWith}
-use Rattle.journal_chronicle.specs.Inside.{ArePages, IsChronicle}
+use Rattle.journal_chronicle.specs.Inside.{FitFrames, IsChronicle}
 use Rattle.journal_chronicle.proofs.Notes.{no-commit}
 use Rattle.journal_chronicle.proofs.Goings.{Came, stays-by, commit-same, some-same, marks-same, marks-disk, marks-trace, came-still, came-stopped, came-full, came-joined, fails-goes_on}
 
@@ -84,7 +84,7 @@ module _ {D : Type 0} (faults : D → ℕ) (slots : ℕ) (old new : LoggedView D
             (marks-disk old new (ap is_some f.told) (ap (λ (j : JournalView). j.marks.trace) f.journal) f.marks.0));
         rest = λ e. absurd (cc);
         chronicle = record {
-          pages = subst (λ (j : JournalView). ArePages slots j.history.ids (cells_of j)) (sym f.journal) (let b = a.before in b.pages);
+          pages = subst (λ (j : JournalView). FitFrames slots j.history.ids (cells_of j)) (sym f.journal) (let b = a.before in b.pages);
           granted = subst (λ (o : Option ℕ). IfSome o (CanCommit new.journal)) (sym told)
               (record { client = a.client; granted = subst (λ (j : JournalView). refusal_of (end_of j.history).state pass call.Commit ≡ None) (sym f.journal) (let g = f.granted in g.granted) });
         };

@@ -26,7 +26,7 @@ use Rattle.latch_table.specs.Views.{no_marks, joined_marks}
 use Rattle.journal_chronicle.specs.Pages.{page_in}
 use Rattle.journal_chronicle.specs.View.{Origin, origin_of, notes_of, marks_of, failed_note, frame_after}
 use Rattle.journal_chronicle.specs.Steps.{disk_mark, trace_mark, log_mark, GoesOnWith}
-use Rattle.journal_chronicle.specs.Inside.{ArePages, IsChronicle}
+use Rattle.journal_chronicle.specs.Inside.{FitFrames, IsChronicle}
 use Rattle.journal_chronicle.proofs.Notes.{no-commit, notes-running, notes-failed, frame-is}
 use Rattle.journal_chronicle.proofs.PageCells.{page-same, holds-same, holds-exact}
 
@@ -171,16 +171,16 @@ page-found {slots} cells (h ∷ hs) page agree there = by (λ t. page-found cell
     by later true is t = subst (λ (p : ℕ). HoldsPage cells p (page_in slots cells p)) (eqb-true h.page page is) (holds-exact cells h.page h.frame.page agree.0)
     by later false is t = later t
 
-pub pages-kept : {slots : ℕ} (ids : ℕ) (before after : List Cell) (held held_new : List (HeldFrame slots)) → ArePages slots ids before → pages_held held_new ≡ pages_held held → Agree after held_new → IsSameElsewhere before after held → ArePages slots ids after
+pub pages-kept : {slots : ℕ} (ids : ℕ) (before after : List Cell) (held held_new : List (HeldFrame slots)) → FitFrames slots ids before → pages_held held_new ≡ pages_held held → Agree after held_new → IsSameElsewhere before after held → FitFrames slots ids after
 pages-kept {slots} ids before after held held_new pages same agree elsewhere = λ page there. by page there (is_held held page) refl
   where
     by : (page : ℕ) → 8 * page < ids → (b : Bool) → is_held held page ≡ b → HoldsPage after page (page_in slots after page)
     by page there true e = page-found after held_new page agree (is_held-pages held_new held page same ∙ e)
     by page there false e = holds-same slots before after page (elsewhere page e) (pages page there)
 
-pub joins-chronicle : {D : Type 0} (slots : ℕ) (old new : LoggedView D) (n : Note) → Joins old new n → ArePages slots old.journal.history.ids (cells_of new.journal) → IsChronicle slots new
+pub joins-chronicle : {D : Type 0} (slots : ℕ) (old new : LoggedView D) (n : Note) → Joins old new n → FitFrames slots old.journal.history.ids (cells_of new.journal) → IsChronicle slots new
 joins-chronicle slots old new n j pages = record {
-  pages = subst (λ (h : History). ArePages slots h.ids (cells_of new.journal)) (sym j.history) pages;
+  pages = subst (λ (h : History). FitFrames slots h.ids (cells_of new.journal)) (sym j.history) pages;
   granted = subst (λ (o : Option ℕ). IfSome o (CanCommit new.journal)) (sym (no-commit new j.running)) tt;
 }
 

@@ -25,10 +25,10 @@ use Rattle.core_store.specs.Frames.{Agree, AllAgree}
 use Rattle.core_store.specs.JournalView.{JournalView, cells_of, cells_after_notes, logged_in}
 use Rattle.logged_journal.specs.View.{LoggedView, history_of, failed_commit}
 use Rattle.logged_journal.specs.Kept.{CanCommit}
-use Rattle.journal_chronicle.specs.Pages.{frame_in, AreHeld, AreOfStore}
+use Rattle.journal_chronicle.specs.Pages.{frame_in, AreShownBy, AreOfStore}
 use Rattle.journal_chronicle.specs.Clients.{has_by}
 use Rattle.journal_chronicle.specs.View.{origin_of, notes_of, failed_note, history_after, frame_after, has_transaction}
-use Rattle.journal_chronicle.specs.Inside.{ArePages}
+use Rattle.journal_chronicle.specs.Inside.{FitFrames}
 use Rattle.journal_chronicle.proofs.Machine.{history-clients, commit-done}
 use Rattle.journal_chronicle.proofs.PageCells.{page-exact}
 
@@ -66,7 +66,7 @@ module _ {D : Type 0} (slots : ℕ) (v : LoggedView D) (own : v.journal.history.
   pub frame-is : (page : ℕ) → frame_after slots (origin_of v) (notes_of v) page ≡ frame_in slots (cells_of v.journal) page
   frame-is page = ap (λ (cells : List Cell). frame_in slots cells page) cells-are
 
-  module _ (pages : ArePages slots v.journal.history.ids (cells_of v.journal)) where
+  module _ (pages : FitFrames slots v.journal.history.ids (cells_of v.journal)) where
     -- and a frame is that page of the journal exactly where it is the one that the chronicle tells
     pub frame-exact : (page : ℕ) (frame : Frame slots) → 8 * page < v.journal.history.ids → HoldsPage (cells_of v.journal) page frame.page ↔ (frame ≡ frame_after slots (origin_of v) (notes_of v) page)
     frame-exact page frame there = (
@@ -77,7 +77,7 @@ module _ {D : Type 0} (slots : ℕ) (v : LoggedView D) (own : v.journal.history.
         exact : HoldsPage (cells_of v.journal) page frame.page → frame ≡ frame_in slots (cells_of v.journal) page
         exact holds = ap (λ p. record { page = p }) (page-exact (cells_of v.journal) page frame.page holds)
 
-    pub held-exact : (held : List (HeldFrame slots)) → AreOfStore v.journal.history.ids held → Agree (cells_of v.journal) held ↔ AreHeld (frame_after slots (origin_of v) (notes_of v)) held
+    pub held-exact : (held : List (HeldFrame slots)) → AreOfStore v.journal.history.ids held → Agree (cells_of v.journal) held ↔ AreShownBy (frame_after slots (origin_of v) (notes_of v)) held
     held-exact [] there = (λ a. tt, λ a. tt)
     held-exact (h ∷ hs) there =
         let one = frame-exact h.page h.frame there.0 in

@@ -8,7 +8,7 @@ use Rattle.logged_journal.specs.View.{LoggedView}
 use Rattle.latch_table.specs.declared.view.Story.{Story}
 use Rattle.latch_table.specs.declared.view.View.{View}
 use Rattle.latch_table.specs.Account.{Marks}
-use Rattle.latch_table.specs.Views.{AreWithin, joined_marks, entries_in, frame_of, log_of}
+use Rattle.latch_table.specs.Views.{KeepMarks, joined_marks, entries_in, frame_of, log_of}
 use Rattle.latch_table.specs.Rule.{IsInHand}
 use Rattle.latch_table.specs.Steps.{IsNext}
 use Rattle.journal_chronicle.specs.Clients.{speaker_of}
@@ -20,12 +20,12 @@ or-left true b e = refl
 or-left false b e = absurd (cc)
 
 -- marks that were set are set with others
-within-joined : (a b m : Marks) → AreWithin a b → AreWithin a (joined_marks b m)
+within-joined : (a b m : Marks) → KeepMarks a b → KeepMarks a (joined_marks b m)
 within-joined a b m w = (λ e. or-left b.0 m.0 (w.0 e), λ e. or-left b.1 m.1 (w.1 e), λ e. or-left b.2 m.2 (w.2 e))
 
 module _ {D : Type 0} (slots : ℕ) (v : View Note Origin (Frame slots)) (old new : LoggedView D) (test : ℕ → Bool) (marked : Marks) (hand : IsInHand (account D slots) v old) where
-  within-after : marks_of new ≡ joined_marks (marks_of old) marked → (st : Story Note) → AreWithin st.marks (marks_of old) → AreWithin st.marks (marks_of new)
-  within-after e st w = subst (AreWithin st.marks) (sym e) (within-joined st.marks (marks_of old) marked w)
+  within-after : marks_of new ≡ joined_marks (marks_of old) marked → (st : Story Note) → KeepMarks st.marks (marks_of old) → KeepMarks st.marks (marks_of new)
+  within-after e st w = subst (KeepMarks st.marks) (sym e) (within-joined st.marks (marks_of old) marked w)
 
   -- Where a call entered nothing, the chronicle is still the one that the hold has: it may be given back.
   pub in-hand : GoesOnWith slots test old new None marked → IsInHand (account D slots) v new

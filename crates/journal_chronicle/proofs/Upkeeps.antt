@@ -1,5 +1,5 @@
 -- What upkeep and the looks of the collector make of a chronicle: no page changes.
-use Rattle.std.proofs.Common.{◌≡◌, ℕ, List, true, Option, Some, None, refl, sym, ap, subst, ◌∙◌}
+use Rattle.std.proofs.Common.{◌≡◌, ◌≢◌, ℕ, List, Bool, true, false, Option, Some, None, refl, sym, ap, subst, ◌∙◌}
 use Rattle.std.specs.Prelude.{is_some, IfSome, IsSome}
 use Rattle.plain_model.specs.declared.calls.Entry.{Entry}
 use Rattle.plain_model.specs.declared.calls.Entry.TheVariants.{Hidden, TurnBusy}
@@ -8,6 +8,7 @@ use Rattle.cell_page.specs.Stored.{page_of}
 use Rattle.core_store.specs.declared.act.Act.TheVariants.{Other}
 use Rattle.core_store.specs.declared.note.Note.{Note}
 use Rattle.core_store.specs.JournalView.{JournalView, cells_of}
+use Rattle.core_store.specs.Limited.{is_past_limit}
 use Rattle.core_store.specs.RoundView.{left_of}
 use Rattle.core_store.specs.Steppings.{OnlyLooks}
 use Rattle.core_store.specs.Upkeep.{with_upkeep}
@@ -18,9 +19,9 @@ use Rattle.logged_journal.specs.View.{LoggedView, OnlyTakesRoom, failed_commit}
 use Rattle.logged_journal.specs.Upkeep.{DoesUpkeep, FailsUpkeep}
 use Rattle.latch_table.specs.Account.{Marks}
 use Rattle.latch_table.specs.Views.{no_marks, joined_marks}
-use Rattle.journal_chronicle.specs.Steps.{disk_mark, trace_mark, log_mark, entered_by_upkeep, marked_by_upkeep, no_page, GoesOnWith}
+use Rattle.journal_chronicle.specs.Steps.{disk_mark, trace_mark, log_mark, entered_by_refusal, entered_by_upkeep, marked_by_refusal, marked_by_upkeep, no_page, GoesOnWith}
 use Rattle.journal_chronicle.specs.View.{marks_of}
-use Rattle.journal_chronicle.specs.Inside.{ArePages, IsChronicle}
+use Rattle.journal_chronicle.specs.Inside.{FitFrames, IsChronicle}
 use Rattle.journal_chronicle.proofs.Notes.{cells-unlogged}
 use Rattle.journal_chronicle.proofs.Goings.{Stays, Joins, stays-by, stays-same, stays-goes_on, stays-chronicle, some-same, marks-same, marks-disk, marks-trace, marks-log, joins-goes_on, joins-chronicle}
 
@@ -76,7 +77,7 @@ module _ {D : Type 0} (faults : D → ℕ) (slots : ℕ) (old new : LoggedView D
       record {
         goes = joins-goes_on slots old new own owned no_page no_marks n j (λ page other. ap (λ (cs : List Cell). page_of cs page) cells)
             (marks-same old new (some-same old new failed running) (ap (λ (x : JournalView). x.marks.trace) is) log_full);
-        chronicle = joins-chronicle slots old new n j (subst (ArePages slots old.journal.history.ids) (sym cells) before.pages);
+        chronicle = joins-chronicle slots old new n j (subst (FitFrames slots old.journal.history.ids) (sym cells) before.pages);
       }
 
   running : (r : Upkeep) → Upkept faults slots old new r → old.failed ≡ None → Kept slots old new (entered_by_upkeep r) (marked_by_upkeep r)
@@ -118,3 +119,73 @@ module _ {D : Type 0} (faults : D → ℕ) (slots : ℕ) (old new : LoggedView D
           subst (λ (x : Upkeep). Kept slots old new (entered_by_upkeep x) (marked_by_upkeep x)) (sym stopped.0)
           (kept-still slots old new disk_mark a.before (stays-same old new stopped.1)
           (marks-disk old new (ap (λ (v : LoggedView D). is_some v.failed) stopped.1 ∙ ap is_some e) (ap (λ (v : LoggedView D). v.journal.marks.trace) stopped.1) (ap (λ (v : LoggedView D). v.log_full) stopped.1)))
+
+-- ---- upkeep that is refused before it is tried
+
+-- what a call says that refuses upkeep, or finds that it may be tried
+pub record Refused {D : Type 0} (slots : ℕ) (old new : LoggedView D) (r : Option Upkeep) : Type 0 where
+  pub own : old.journal.history.slots ≡ slots
+  pub owned : new.journal.history.slots ≡ slots
+  pub before : IsChronicle slots old
+  pub stopped : IfSome old.failed (λ f. (r ≡ Some (upkeep.Stopped f.faults)) × (new ≡ old))
+  pub only_stopped : (n : ℕ) → r ≡ Some (upkeep.Stopped n) → IsSome old.failed
+  pub marked : r ≡ Some upkeep.TraceFull → new ≡ record old { journal = record old.journal { marks = record old.journal.marks { trace = true } } }
+  pub memory : r ≡ Some upkeep.Memory → new ≡ old
+  pub never : (r ≢ Some upkeep.Done) × (r ≢ Some upkeep.LogFull) × (r ≢ Some upkeep.DiskFault)
+  pub told : (pass : ℕ) → r ≡ Some (upkeep.Busy pass) → new ≡ record old { journal = with_upkeep slots old.journal (TurnBusy pass) }
+  pub free : r ≡ None → OnlyTakesRoom old new
+
+module _ {D : Type 0} (faults : D → ℕ) (slots : ℕ) (old new : LoggedView D) where
+  -- it took room at most
+  took-room : IsChronicle slots old → OnlyTakesRoom old new → Kept slots old new None no_marks
+  took-room before is =
+      kept-still slots old new no_marks before
+      (stays-by old new (record old.journal { reserved = new.journal.reserved }) (ap (λ (v : LoggedView D). v.journal) is) refl refl refl refl (ap (λ (v : LoggedView D). v.opened) is) (ap (λ (v : LoggedView D). failed_commit v) is))
+      (marks-same old new (ap (λ (v : LoggedView D). is_some v.failed) is) (ap (λ (v : LoggedView D). v.journal.marks.trace) is) (ap (λ (v : LoggedView D). v.log_full) is))
+
+  took-none : new ≡ old → OnlyTakesRoom old new
+  took-none is = rw is refl
+
+  stopped-so : (u : Upkeep) (o : Option FailedCall) → IfSome o (λ f. (Some u ≡ Some (upkeep.Stopped f.faults)) × (new ≡ old)) → IfSome o (λ f. (u ≡ upkeep.Stopped f.faults) × (new ≡ old))
+  stopped-so u None is = is
+  stopped-so u (Some f) is = (let e = is.0 in cc (e), is.1)
+
+  pub refused : (r : Option Upkeep) → Refused slots old new r → Kept slots old new (entered_by_refusal r) (marked_by_refusal r)
+  refused None a = took-room a.before (a.free refl)
+  refused (Some u) a =
+      upkept faults slots old new u
+      (record {
+        own = a.own;
+        owned = a.owned;
+        before = a.before;
+        stopped = stopped-so u old.failed a.stopped;
+        only_stopped = λ n is. a.only_stopped n (ap Some is);
+        marked = λ is. a.marked (ap Some is);
+        log_marked = λ is. absurd (a.never.1 (ap Some is));
+        memory = λ is. took-none (a.memory (ap Some is));
+        done = λ is. absurd (a.never.0 (ap Some is));
+        told = λ pass is. a.told pass (ap Some is);
+        fault = λ is. absurd (a.never.2 (ap Some is));
+      })
+
+  -- a page's cleaning is refused because the store is stopped or the history full, or may be tried
+  pub clean-refused : (r : Option Upkeep) → IsChronicle slots old → IfSome old.failed (λ f. (r ≡ Some (upkeep.Stopped f.faults)) × (new ≡ old))
+      → (old.failed ≡ None → is_past_limit old.journal 1 ≡ true → (r ≡ Some upkeep.TraceFull) × (new ≡ record old { journal = record old.journal { marks = record old.journal.marks { trace = true } } }))
+      → (old.failed ≡ None → is_past_limit old.journal 1 ≡ false → (r ≡ None) × OnlyTakesRoom old new)
+      → Kept slots old new None (marked_by_refusal r)
+  clean-refused r before stopped full free = by old.failed refl stopped (is_past_limit old.journal 1) refl
+    where
+      by : (o : Option FailedCall) → old.failed ≡ o → IfSome o (λ f. (r ≡ Some (upkeep.Stopped f.faults)) × (new ≡ old)) → (past : Bool) → is_past_limit old.journal 1 ≡ past → Kept slots old new None (marked_by_refusal r)
+      by (Some f) e is past p =
+          subst (λ (x : Option Upkeep). Kept slots old new None (marked_by_refusal x)) (sym is.0)
+          (kept-still slots old new disk_mark before (stays-same old new is.1)
+          (marks-disk old new (ap (λ (v : LoggedView D). is_some v.failed) is.1 ∙ ap is_some e) (ap (λ (v : LoggedView D). v.journal.marks.trace) is.1) (ap (λ (v : LoggedView D). v.log_full) is.1)))
+      by None e is true p =
+          let so = full e p in
+          subst (λ (x : Option Upkeep). Kept slots old new None (marked_by_refusal x)) (sym so.0)
+          (kept-still slots old new trace_mark before
+          (stays-by old new (record old.journal { marks = record old.journal.marks { trace = true } }) (ap (λ (v : LoggedView D). v.journal) so.1) refl refl refl refl (ap (λ (v : LoggedView D). v.opened) so.1) (ap (λ (v : LoggedView D). failed_commit v) so.1))
+          (marks-trace old new (ap (λ (v : LoggedView D). is_some v.failed) so.1) (ap (λ (v : LoggedView D). v.journal.marks.trace) so.1) (ap (λ (v : LoggedView D). v.log_full) so.1)))
+      by None e is false p =
+          let so = free e p in
+          subst (λ (x : Option Upkeep). Kept slots old new None (marked_by_refusal x)) (sym so.0) (took-room before so.1)

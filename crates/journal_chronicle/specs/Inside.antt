@@ -10,11 +10,11 @@ use Rattle.journal_chronicle.specs.Pages.{page_in}
 use Rattle.journal_chronicle.specs.View.{notes_of}
 
 -- each page of a store with so many ids and these cells can stand in a frame
-abbrev pub ArePages : (slots ids : ℕ) → List Cell → Type 0
-ArePages slots ids cells = (page : ℕ) → 8 * page < ids → HoldsPage cells page (page_in slots cells page)
+abbrev pub FitFrames : (slots ids : ℕ) → List Cell → Type 0
+FitFrames slots ids cells = (page : ℕ) → 8 * page < ids → HoldsPage cells page (page_in slots cells page)
 
 pub record IsChronicle {D : Type 0} (slots : ℕ) (v : LoggedView D) : Type 0 where
-  pub pages : ArePages slots v.journal.history.ids (cells_of v.journal)
+  pub pages : FitFrames slots v.journal.history.ids (cells_of v.journal)
   -- the disk failed no commit but one that was granted
   pub granted : IfSome (failed_commit v) (CanCommit v.journal)
 

@@ -38,8 +38,8 @@ abbrev pub frame_in : (slots : ℕ) → List StoredCell → ℕ → Frame slots
 frame_in slots cells page = record { page = page_in slots cells page }
 
 -- each held frame is the one that is told of its page
-abbrev pub AreHeld : {slots : ℕ} → (ℕ → Frame slots) → List (HeldFrame slots) → Type 0
-AreHeld frame held = AllByRecursion (λ h. h.frame ≡ frame h.page) held
+abbrev pub AreShownBy : {slots : ℕ} → (ℕ → Frame slots) → List (HeldFrame slots) → Type 0
+AreShownBy frame held = AllByRecursion (λ h. h.frame ≡ frame h.page) held
 
 -- each held page is one of a store with so many ids
 abbrev pub AreOfStore : {slots : ℕ} → ℕ → List (HeldFrame slots) → Type 0

@@ -81,6 +81,15 @@ marked_by_upkeep upkeep.TraceFull = trace_mark
 marked_by_upkeep upkeep.LogFull = log_mark
 marked_by_upkeep _ = no_marks
 
+-- the same where upkeep may be refused before it is tried
+abbrev pub entered_by_refusal : Option Upkeep → Option Entry
+entered_by_refusal None = None
+entered_by_refusal (Some u) = entered_by_upkeep u
+
+abbrev pub marked_by_refusal : Option Upkeep → Marks
+marked_by_refusal None = no_marks
+marked_by_refusal (Some u) = marked_by_upkeep u
+
 -- ---- what a call does to the chronicle
 
 -- one note more, of this entry; no page changes its frame but those of the test

@@ -1,5 +1,5 @@
 //! The journal with its log as a chronicle.
-ghost use Rattle.std.specs.Prelude.{◌≡◌, ◌≢◌, ◌↔◌, ℕ, ◌+◌, ◌*◌, ◌<◌, ◌≤◌, List, [], true, false, is_some, length, slice_get, IfOk, IfErr, IfSome, IsErrOf, IsSome, Some, None};
+ghost use Rattle.std.specs.Prelude.{◌≡◌, ◌≢◌, ◌⊎◌, ◌↔◌, ℕ, ◌+◌, ◌*◌, ◌<◌, ◌≤◌, List, [], true, false, is_some, length, slice_get, IfOk, IfErr, IfSome, IsErrOf, IsSome, Some, None};
 ghost use Rattle.plain_model.specs.Machine.{IsInRange, refusal_of, transaction_of};
 ghost use Rattle.plain_model.specs.History.{IsLegal, end_of};
 ghost use Rattle.disk_model.specs.Time.{LeavesOnlyImages};
@@ -11,11 +11,11 @@ ghost use Rattle.core_store.specs.JournalView.{cells_of};
 ghost use Rattle.core_store.specs.Limited.{pages_for_call};
 ghost use Rattle.core_store.specs.Logged.{pages_for_undo, want_of};
 ghost use Rattle.core_store.specs.Replaced.{next_to_restore};
-ghost use Rattle.logged_journal.specs.View.{history_of};
+ghost use Rattle.logged_journal.specs.View.{KeepsLog, history_of};
 ghost use Rattle.logged_journal.specs.Records.{MayHave};
 ghost use Rattle.logged_journal.specs.Opens.{OpensDuring};
 ghost use Rattle.logged_journal.specs.Calls.{IsOfJournal, IsGranted, IsPastLog, DoesCall, KeepsFrames, KeepsDisk, GoesOn, FailsCommit, DoesAbortStep};
-ghost use Rattle.journal_chronicle.specs.Pages.{AreHeld, AreOfStore};
+ghost use Rattle.journal_chronicle.specs.Pages.{AreShownBy, AreOfStore};
 ghost use Rattle.journal_chronicle.specs.View.{origin_of, notes_of, history_after, frame_after, has_transaction};
 ghost use Rattle.journal_chronicle.specs.Steps.{entered_by_call, marked_by_call, entered_by_abort_step, marked_by_abort_step, GoesOnWith};
 
@@ -118,7 +118,7 @@ impl<const SLOTS: usize, D: Disk> JournalChronicle<SLOTS, D> {
     /// Frames are the journal's pages exactly where they are those that the chronicle tells.
     pub fn know_frames(&self)
         ensures page { (page : ℕ) (frame : Frame SLOTS) → 8 * page < self.now.journal.history.ids → HoldsPage (cells_of self.now.journal) page frame.page ↔ (frame ≡ frame_after SLOTS (origin_of self.now) (notes_of self.now) page) }
-        ensures held { (held : List (HeldFrame SLOTS)) → AreOfStore self.now.journal.history.ids held → Agree (cells_of self.now.journal) held ↔ AreHeld (frame_after SLOTS (origin_of self.now) (notes_of self.now)) held }
+        ensures held { (held : List (HeldFrame SLOTS)) → AreOfStore self.now.journal.history.ids held → Agree (cells_of self.now.journal) held ↔ AreShownBy (frame_after SLOTS (origin_of self.now) (notes_of self.now)) held }
         ensures all { (frames : List (Frame SLOTS)) → 8 * length frames ≤ self.now.journal.history.ids → AllAgree (cells_of self.now.journal) frames ↔ ((page : ℕ) (frame : Frame SLOTS) → slice_get frames page ≡ Some frame → frame ≡ frame_after SLOTS (origin_of self.now) (notes_of self.now) page) }
     {
         let _ = self.logged.journal();
@@ -157,6 +157,7 @@ impl<const SLOTS: usize, D: Disk> JournalChronicle<SLOTS, D> {
         ensures never_again { (word seat : ℕ) → result ≢ Reply.Again word seat }
         ensures stopped { IfSome self.old.failed (λ f. (result ≡ Reply.Stopped f.faults) × (self.new ≡ self.old) × (held.new ≡ held.old)) }
         ensures only_stopped { (faults : ℕ) → result ≡ Reply.Stopped faults → IsSome self.old.failed }
+        ensures kept { (result ≡ Reply.TraceFull) ⊎ (result ≡ Reply.Memory) → KeepsLog self.old self.new }
         ensures log_full { (result ≡ Reply.LogFull) ↔ IsPastLog self.old pass call.now }
         ensures log_marked { result ≡ Reply.LogFull → (self.new ≡ record self.old { log_full = true }) × (held.new ≡ held.old) }
         ensures does { IsOfJournal result → DoesCall SLOTS self.old.journal self.new.journal pass call.now result }

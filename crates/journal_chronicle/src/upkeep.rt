@@ -9,10 +9,11 @@ ghost use Rattle.core_store.specs.Frames.{AllAgree};
 ghost use Rattle.core_store.specs.JournalView.{cells_of};
 ghost use Rattle.core_store.specs.Limited.{is_past_limit};
 ghost use Rattle.logged_journal.specs.View.{OnlyTakesRoom, bytes_counted, history_of};
+ghost use Rattle.logged_journal.specs.Calls.{KeepsDisk};
 ghost use Rattle.logged_journal.specs.Records.{MayHaveAll};
 ghost use Rattle.logged_journal.specs.Opens.{OpensAfter};
 ghost use Rattle.logged_journal.specs.Upkeep.{IsClean, IsPastLogToClean, IsTurned, Cleans, Turns, TellsBusy, FailsUpkeep};
-ghost use Rattle.journal_chronicle.specs.Steps.{entered_by_upkeep, marked_by_upkeep, no_page, GoesOnWith};
+ghost use Rattle.journal_chronicle.specs.Steps.{entered_by_refusal, entered_by_upkeep, marked_by_refusal, marked_by_upkeep, no_page, GoesOnWith};
 
 use crate::chronicle::{JournalChronicle, count_notes};
 use core_store::Frame;
@@ -20,6 +21,52 @@ use disk_model::Disk;
 use logged_journal::Upkeep;
 
 impl<const SLOTS: usize, D: Disk> JournalChronicle<SLOTS, D> {
+    /// What a page's cleaning is refused before the page is looked at, if it is: that the store is stopped, or that the history has
+    /// no room for one entry, and then nothing is done.
+    pub fn refuse_clean(&mut self) -> Option<Upkeep>
+        // No entry is entered, and no page changes its frame.
+        ensures chronicle { GoesOnWith SLOTS no_page self.old self.new None (marked_by_refusal result) }
+        ensures stopped { IfSome self.old.failed (λ f. (result ≡ Some (Upkeep.Stopped f.faults)) × (self.new ≡ self.old)) }
+        ensures full { self.old.failed ≡ None → is_past_limit self.old.journal 1 ≡ true
+            → (result ≡ Some Upkeep.TraceFull) × (self.new ≡ record self.old { journal = record self.old.journal { marks = record self.old.journal.marks { trace = true } } }) }
+        ensures free { self.old.failed ≡ None → is_past_limit self.old.journal 1 ≡ false → (result ≡ None) × OnlyTakesRoom self.old self.new }
+    {
+        let _ = self.logged.journal();
+        let answer = self.logged.refuse_clean();
+        let _ = self.logged.journal();
+        self.count = count_notes(&self.logged);
+        answer
+    }
+
+    /// What a turn is refused before a page is looked at, if it is.
+    ///
+    /// [`Upkeep::Stopped`] comes exactly where the disk failed a call before, [`Upkeep::TraceFull`] exactly where the history has
+    /// no room for one entry. [`Upkeep::Busy`] comes where a transaction is active, unless memory is out; it names the least such
+    /// client, and enters the history. The others, and [`Upkeep::Memory`], do nothing, and no other answer comes. Where it is not
+    /// refused, room for its entry is reserved.
+    pub fn refuse_turn(&mut self) -> Option<Upkeep>
+        // Where a client made it busy, it enters its entry. No page changes its frame.
+        ensures chronicle { GoesOnWith SLOTS no_page self.old self.new (entered_by_refusal result) (marked_by_refusal result) }
+        ensures stopped { IfSome self.old.failed (λ f. (result ≡ Some (Upkeep.Stopped f.faults)) × (self.new ≡ self.old)) }
+        ensures only_stopped { (faults : ℕ) → result ≡ Some (Upkeep.Stopped faults) → IsSome self.old.failed }
+        ensures full { (result ≡ Some Upkeep.TraceFull) ↔ (self.old.failed ≡ None) × (is_past_limit self.old.journal 1 ≡ true) }
+        ensures marked { result ≡ Some Upkeep.TraceFull → self.new ≡ record self.old { journal = record self.old.journal { marks = record self.old.journal.marks { trace = true } } } }
+        ensures busy { (pass : ℕ) → self.old.failed ≡ None → is_past_limit self.old.journal 1 ≡ false → least_active (end_of self.old.journal.history).state ≡ Some pass
+            → (result ≡ Some (Upkeep.Busy pass)) ⊎ (result ≡ Some Upkeep.Memory) }
+        ensures only_busy { (pass : ℕ) → result ≡ Some (Upkeep.Busy pass) → least_active (end_of self.old.journal.history).state ≡ Some pass }
+        ensures told { (pass : ℕ) → result ≡ Some (Upkeep.Busy pass) → TellsBusy SLOTS self.old self.new pass }
+        ensures memory { result ≡ Some Upkeep.Memory → self.new ≡ self.old }
+        ensures never { (result ≢ Some Upkeep.Done) × (result ≢ Some Upkeep.LogFull) × (result ≢ Some Upkeep.DiskFault) }
+        ensures free { result ≡ None → (self.old.failed ≡ None) × (least_active (end_of self.old.journal.history).state ≡ None) × (self.new ≡ record self.old { journal = record self.old.journal { reserved = true } }) }
+        ensures untouched { KeepsDisk self.old self.new }
+    {
+        let _ = self.logged.journal();
+        let answer = self.logged.refuse_turn();
+        let _ = self.logged.journal();
+        self.count = count_notes(&self.logged);
+        answer
+    }
+
     /// Cleans the page of this number, from 0, whose frame this is: an image of it joins the log where its last image isn't
     /// current, the log is forced, and the page is made to last in place. It changes no object, and enters an entry that says so.
     ///

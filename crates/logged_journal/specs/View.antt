@@ -62,3 +62,7 @@ image_need slots = image_bytes slots + 5
 -- nothing changed but how much room is taken: in the log for its bytes, and in the history for an entry of upkeep
 abbrev pub OnlyTakesRoom : {D : Type 0} → LoggedView D → LoggedView D → Type 0
 OnlyTakesRoom old new = new ≡ record old { journal = record old.journal { reserved = new.journal.reserved }; log = record old.log { room = new.log.room } }
+
+-- the log has the bytes that it had, and at most other room for more
+abbrev pub KeepsLog : {D : Type 0} → LoggedView D → LoggedView D → Type 0
+KeepsLog old new = new.log ≡ record old.log { room = new.log.room }

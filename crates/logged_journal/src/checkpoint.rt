@@ -29,7 +29,7 @@ use crate::placing::place_changed;
 use crate::typed::know_page;
 use crate::upkeep::Upkeep;
 use cell_page::Page;
-use core_store::{Frame, RoomRefusal};
+use core_store::Frame;
 use disk_model::{Disk, DiskFailed};
 use log_record::Record;
 use std::alloc::AllocError;
@@ -251,23 +251,6 @@ impl<const SLOTS: usize, D: Disk> LoggedJournal<SLOTS, D> {
         Upkeep::Done
     }
 
-    /// The least client with a transaction.
-    fn least_active(&self) -> Option<u8>
-        ensures { result ≡ least_active (end_of self.now.journal.history).state }
-    {
-        self.journal.least_active()
-    }
-
-    /// Enters that a turn was refused, since this client, the least active one, has a transaction, in the room that was reserved.
-    fn tell_busy(&mut self, pass: u8)
-        requires running { self.old.failed ≡ None }
-        requires reserved { self.old.journal.reserved ≡ true }
-        requires least { least_active (end_of self.old.journal.history).state ≡ Some pass }
-        ensures told { TellsBusy SLOTS self.old self.new pass }
-    {
-        self.journal.enter_turn_busy(pass);
-    }
-
     /// How many pages a turn writes, and of how many it appends an image.
     fn needs(&self, frames: &[Frame<SLOTS>]) -> TurnNeeds
         requires pages { 8 * length frames.now ≡ self.now.journal.history.ids }
@@ -372,20 +355,9 @@ impl<const SLOTS: usize, D: Disk> LoggedJournal<SLOTS, D> {
         ensures opens { LeavesOnlyImages D.moment D.left_since self.old.disk self.new.disk (OpensAfter SLOTS (history_of self.old)) }
     {
         self.know_images();
-        if let Some(failed) = self.failed() {
-            return Upkeep::Stopped {
-                faults: failed.faults,
-            };
+        match self.refuse_turn() {
+            Some(upkeep) => upkeep,
+            None => self.turn_idle(frames),
         }
-        match self.reserve_entry() {
-            Ok(()) => {}
-            Err(RoomRefusal::TraceFull) => return Upkeep::TraceFull,
-            Err(RoomRefusal::Memory) => return Upkeep::Memory,
-        }
-        if let Some(pass) = self.least_active() {
-            self.tell_busy(pass);
-            return Upkeep::Busy { pass };
-        }
-        self.turn_idle(frames)
     }
 }

@@ -4,6 +4,7 @@
 //! the log at the same event, in room that was taken before, and a commit is answered when all of it is there for good.
 #![tactic(auto)]
 
+mod applying;
 mod checkpoint;
 mod cleaning;
 mod collect;
@@ -12,6 +13,7 @@ mod failed;
 mod logged;
 mod needs;
 mod placing;
+mod refusing;
 mod spell;
 mod steps;
 mod typed;

@@ -45,6 +45,9 @@ invariant_of-self g c =
 pub returns-clause-stopped : goal.returns-clause-stopped
 returns-clause-stopped g c = rw (← c.self.view_is) (IfSome_then c.self.inside.logged.failed c.apply-reply.ensures.stopped (λ f h. (h.0, h.1)))
 
+pub returns-clause-kept : goal.returns-clause-kept
+returns-clause-kept g c = λ e. rw (← c.self.view_is) (c.apply-reply.ensures.kept e)
+
 pub returns-clause-log_full : goal.returns-clause-log_full
 returns-clause-log_full g c = rw (← c.self.view_is) c.apply-reply.ensures.log_full
 

@@ -6,7 +6,7 @@ use Rattle.core_store.specs.declared.three.HeldFrame.{HeldFrame}
 use Rattle.core_store.specs.Frames.{Agree, AllAgree}
 use Rattle.core_store.specs.JournalView.{cells_of}
 use Rattle.logged_journal.specs.View.{LoggedView}
-use Rattle.journal_chronicle.specs.Pages.{AreHeld, AreOfStore}
+use Rattle.journal_chronicle.specs.Pages.{AreShownBy, AreOfStore}
 use Rattle.journal_chronicle.specs.View.{origin_of, notes_of, frame_after}
 use Rattle.journal_chronicle.proofs.Notes.{frame-exact, held-exact, all-exact}
 use Rattle.journal_chronicle.proofs.chronicle.JournalChronicle.know_frames.Goals as goal
@@ -21,7 +21,7 @@ returns-clause-page g c =
 pub returns-clause-held : goal.returns-clause-held
 returns-clause-held g c =
     subst
-    (λ (v : LoggedView g.row.D.Denot). (held : List (HeldFrame g.row.SLOTS)) → AreOfStore v.journal.history.ids held → Agree (cells_of v.journal) held ↔ AreHeld (frame_after g.row.SLOTS (origin_of v) (notes_of v)) held)
+    (λ (v : LoggedView g.row.D.Denot). (held : List (HeldFrame g.row.SLOTS)) → AreOfStore v.journal.history.ids held → Agree (cells_of v.journal) held ↔ AreShownBy (frame_after g.row.SLOTS (origin_of v) (notes_of v)) held)
     c.self.view_is
     (let kept = c.self.invariant.kept in held-exact g.row.SLOTS c.self.inside.logged c.journal.ensures.slots kept.pages)
 

@@ -180,6 +180,7 @@ returns-then-is_within g c =
       goes_on = λ of. c.log_call.ensures.goes_on;
       frames = c.log_call.ensures.frames;
       same = c.log_call.ensures.same;
+      kept = c.log_call.ensures.kept;
       committed = λ is done. absurd (free.0 is);
       commit = λ is granted memory. free.0 is;
       untouched = λ never. c.log_call.ensures.disk;

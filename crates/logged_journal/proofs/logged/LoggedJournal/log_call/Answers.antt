@@ -249,6 +249,7 @@ returns-in_default g c =
       frames = subst (λ (v : LoggedView g.row.D.Denot). KeepsFrames v.journal c.apply.new.self c.args.held.now c.apply.new.held) c.self.view_is
           (record { pages = e.pages; agree = e.agree; elsewhere = e.elsewhere });
       same = λ is. ⊎_elim (λ full. (e.marked full).1) (λ memory. (e.memory memory).1) is;
+      kept = λ either. absurd (⊎_elim (λ full. is.entered.1 full) (λ memory. is.entered.0 memory) either);
       disk = record { disk = ap (λ (w : LoggedView g.row.D.Denot). w.disk) c.self.view_is; durable = ap (λ (w : LoggedView g.row.D.Denot). w.durable) c.self.view_is };
       goes_on = subst (λ (old : LoggedView g.row.D.Denot). GoesOn old w) c.self.view_is
           (record { running = running c.self.inside c.args.self.now c.self.view_is c.requires.running; log_full = refl; peak = peak-is g c; opened = refl; marks = goes-with g c (called-goes g.row.SLOTS v c.apply.new.self c.append_last.new.marks c.args.pass c.args.call.now c.apply.result c.self.invariant.own c.append_last.ensures.marks is) });
