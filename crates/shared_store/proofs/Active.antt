@@ -1,0 +1,18 @@
+-- By the notes of a journal that the disk failed no call a client has a transaction or not.
+use Rattle.std.proofs.Common.{◌≡◌, ℕ, true, false, Option, Some, None, refl, sym, ap, ◌∙◌}
+use Rattle.std.specs.Prelude.{is_some, IsSome}
+use Rattle.plain_model.specs.Machine.{transaction_of}
+use Rattle.plain_model.specs.History.{History, end_of}
+use Rattle.logged_journal.specs.View.{LoggedView, history_of}
+use Rattle.journal_chronicle.specs.View.{has_transaction, notes_of}
+
+none-is : {A : Type 0} (o : Option A) → is_some o ≡ false → o ≡ None
+none-is None e = refl
+none-is (Some x) e = absurd (cc)
+
+module _ {D : Type 0} (j : LoggedView D) (client : ℕ) (told : has_transaction (notes_of j) client ≡ is_some (transaction_of (end_of (history_of j)).state client)) (running : history_of j ≡ j.journal.history) where
+  pub none-active : has_transaction (notes_of j) client ≡ false → transaction_of (end_of j.journal.history).state client ≡ None
+  none-active none = none-is (transaction_of (end_of j.journal.history).state client) (ap (λ (h : History). is_some (transaction_of (end_of h).state client)) (sym running) ∙ (sym told ∙ none))
+
+  pub some-active : has_transaction (notes_of j) client ≡ true → IsSome (transaction_of (end_of j.journal.history).state client)
+  some-active some = ap (λ (h : History). is_some (transaction_of (end_of h).state client)) (sym running) ∙ (sym told ∙ some)

@@ -1,0 +1,137 @@
+-- Answers of steps of the collector: what they enter, name and count, and what the looks before a step come to.
+use Rattle.std.proofs.Common.{◌≡◌, ◌⊎◌, ℕ, Bool, true, false, List, Option, Some, None, Result, Ok, Err, refl, sym, ap, ◌∙◌, subst, inl}
+use Rattle.std.specs.Prelude.{is_some, IfOk, IfSome, IsErrOf}
+use Rattle.plain_model.specs.declared.calls.Entry.{Entry}
+use Rattle.plain_model.specs.declared.calls.Entry.TheVariants.{Hidden, Delete}
+use Rattle.plain_model.specs.History.{IsLegal}
+use Rattle.core_store.specs.declared.collect.Collect.{Collect}
+use Rattle.core_store.specs.declared.collect.Collect.TheVariants.{Idle, Did, Deleted, TraceFull, Memory}
+use Rattle.core_store.specs.declared.three.HeldFrame.{HeldFrame}
+use Rattle.core_store.specs.Frames.{AreOnce, is_held}
+use Rattle.core_store.specs.JournalView.{cells_of}
+use Rattle.core_store.specs.Limited.{is_past_limit}
+use Rattle.core_store.specs.RoundView.{asked, is_event}
+use Rattle.core_store.specs.Steppings.{OnlyLooks}
+use Rattle.framed_journal.specs.Holding.{AreHeldOf}
+use Rattle.framed_journal.proofs.CollectLaws.{collects-all, collects-next, fills-log, all_go_on-before, disk-before}
+use Rattle.logged_journal.specs.Calls.{KeepsDisk, GoesOn, IsPastLogToCollect, DoesCollect}
+use Rattle.logged_journal.specs.declared.collect.CollectRefusal.{CollectRefusal as Refusal}
+use Rattle.logged_journal.specs.declared.collect.CollectRefusal.TheVariants as refusal
+use Rattle.logged_journal.specs.declared.failed.FailedCall.{FailedCall}
+use Rattle.logged_journal.specs.View.{LoggedView, history_of}
+use Rattle.latch_table.specs.Account.{Marks}
+use Rattle.latch_table.specs.Views.{joined_marks, met, no_marks}
+use Rattle.latch_table.specs.Holds.{IsAnother}
+use Rattle.journal_chronicle.specs.Clients.{speaker_of}
+use Rattle.journal_chronicle.specs.Steps.{GoesOnWith, no_page}
+use Rattle.shared_store.specs.declared.answers.CollectRefusal.{CollectRefusal}
+use Rattle.shared_store.specs.declared.answers.CollectRefusal.TheVariants.{Again, Stopped, LogFull}
+use Rattle.shared_store.specs.declared.refused.Refused.{Refused}
+use Rattle.shared_store.specs.Passes.{Known, AreMarked}
+use Rattle.shared_store.specs.Acts.{Acts}
+use Rattle.shared_store.specs.Calls.{GoesOnAs, DoesCollectOn, entered_by_collecting, marked_by_collecting, refused_by_collecting}
+use Rattle.shared_store.specs.Holding.{pairs_of, with_pages}
+use Rattle.shared_store.proofs.Goings.{marked-joined, truth-some}
+use Rattle.shared_store.proofs.Looks.{goes-behind}
+use Rattle.shared_store.proofs.Replies.{marked-disk, marked-trace, marked-log}
+
+-- it speaks for nobody
+pub collect-speaks : (name : ℕ) (r : Result Collect CollectRefusal) → IfSome (entered_by_collecting r) (λ e. (speaker_of e ≡ None) ⊎ (speaker_of e ≡ Some name))
+collect-speaks name (Ok (Did popped left)) = inl refl
+collect-speaks name (Ok (Deleted id left)) = inl refl
+collect-speaks name (Ok TraceFull) = tt
+collect-speaks name (Ok Idle) = tt
+collect-speaks name (Ok Memory) = tt
+collect-speaks name (Err refusal) = tt
+
+-- the client has a transaction or not as before
+pub txn-collect : {slots : ℕ} (v z : Known slots) (r : Result Collect CollectRefusal) (found : Option (ℕ × ℕ)) (had : Bool) → had ≡ v.knowledge.truth → GoesOnAs v z (entered_by_collecting r) found → had ≡ z.knowledge.truth
+txn-collect v z (Ok (Did popped left)) found had was g = was ∙ sym (truth-some v z Hidden g.entries)
+txn-collect v z (Ok (Deleted id left)) found had was g = was ∙ sym (truth-some v z (Delete id) g.entries)
+txn-collect v z (Ok TraceFull) found had was g = let k = g.entries in was ∙ sym k.has
+txn-collect v z (Ok Idle) found had was g = let k = g.entries in was ∙ sym k.has
+txn-collect v z (Ok Memory) found had was g = let k = g.entries in was ∙ sym k.has
+txn-collect v z (Err refusal) found had was g = let k = g.entries in was ∙ sym k.has
+
+pub marked-collect : (x : Refused) (a m : Marks) → AreMarked x a → (r : Result Collect CollectRefusal) → AreMarked (refused_by_collecting r x) (joined_marks a (joined_marks m (marked_by_collecting r)))
+marked-collect x a m h (Ok (Did popped left)) = marked-joined x a (joined_marks m (marked_by_collecting (Ok (Did popped left)))) h
+marked-collect x a m h (Ok (Deleted id left)) = marked-joined x a (joined_marks m (marked_by_collecting (Ok (Deleted id left)))) h
+marked-collect x a m h (Ok TraceFull) = marked-trace x a m h (refused_by_collecting (Ok TraceFull) x).trace
+marked-collect x a m h (Ok Idle) = marked-joined x a (joined_marks m (marked_by_collecting (Ok Idle))) h
+marked-collect x a m h (Ok Memory) = marked-joined x a (joined_marks m (marked_by_collecting (Ok Memory))) h
+marked-collect x a m h (Err (Stopped faults)) = marked-disk x a m h (refused_by_collecting (Err (Stopped faults)) x).disk
+marked-collect x a m h (Err LogFull) = marked-log x a m h (refused_by_collecting (Err LogFull) x).log
+marked-collect x a m h (Err (Again word seat)) = marked-joined x a (joined_marks m (marked_by_collecting (Err (Again word seat)))) h
+
+-- the disk had failed a call
+pub collect-stopped : {D : Type 0} (slots : ℕ) (j : LoggedView D) (f : FailedCall) → j.failed ≡ Some f → IsLegal (history_of j) → DoesCollectOn slots j j (Err (Stopped f.faults))
+collect-stopped {D} slots j f failed legal = record {
+  legal = legal;
+  stopped = let r : Result Collect CollectRefusal = Err (Stopped f.faults) in subst (λ (o : Option FailedCall). IfSome o (λ x. (r ≡ Err (Stopped x.faults)) × (j ≡ j))) (sym failed) (refl, refl);
+  only_stopped = λ n e. ap is_some failed;
+  log_full = λ e. absurd (cc);
+  next = tt;
+  does = tt;
+  goes_on = tt;
+  untouched = record { disk = refl; durable = refl };
+}
+
+-- another hold had a word, when the collector had looked on
+pub acts-looked_found : {D : Type 0} (slots : ℕ) (v w : Known slots) (j k : LoggedView D) (held : List (HeldFrame slots)) (word seat : ℕ) → w ≡ met (with_pages v (pairs_of held)) word seat → IsAnother v seat → AreOnce held → AreHeldOf k.journal held
+    → GoesOnWith slots no_page j k None no_marks → Acts slots v w j k held None no_marks (Some (word, seat))
+acts-looked_found slots v w j k held word seat is other once frames look = record {
+  first = held;
+  view = is;
+  another = other;
+  pages = refl;
+  once = once;
+  frames = frames;
+  goes_on = record { origin = look.origin; notes = look.notes; marks = look.marks };
+  rest = λ e. refl;
+}
+
+-- and went on from what it had come to
+pub acts-behind : {D : Type 0} (slots : ℕ) (v w : Known slots) (i j k : LoggedView D) (held : List (HeldFrame slots)) (entered : Option Entry) (marked : Marks) (found : Option (ℕ × ℕ)) → GoesOnWith slots no_page i j None no_marks
+    → Acts slots v w j k held entered marked found → Acts slots v w i k held entered marked found
+acts-behind slots v w i j k held entered marked found look a = record {
+  first = a.first;
+  view = a.view;
+  another = a.another;
+  pages = a.pages;
+  once = a.once;
+  frames = a.frames;
+  goes_on = goes-behind slots (is_held a.first) i j k marked look entered a.goes_on;
+  rest = a.rest;
+}
+
+-- ---- a step of the journal behind looks
+
+module _ {D : Type 0} (slots : ℕ) (i j k : LoggedView D) (running : i.failed ≡ None) (same : j ≡ record i { journal = j.journal }) (looks : OnlyLooks slots i.journal j.journal) (legal : IsLegal (history_of k)) (kept : KeepsDisk j k) where
+  none-stopped : (r : Result Collect CollectRefusal) → IfSome i.failed (λ f. (r ≡ Err (Stopped f.faults)) × (k ≡ i))
+  none-stopped r = subst (λ (o : Option FailedCall). IfSome o (λ f. (r ≡ Err (Stopped f.faults)) × (k ≡ i))) (sym running) tt
+
+  -- it was made
+  pub collect-did : (step : Collect) → (let r : Result Collect Refusal = Ok step in (IsPastLogToCollect j → IsErrOf r refusal.LogFull) × IfOk r (λ s. DoesCollect slots j.journal k.journal s) × IfOk r (λ _. GoesOn j k)) → DoesCollectOn slots i k (Ok step)
+  collect-did step did = record {
+    legal = legal;
+    stopped = none-stopped (Ok step);
+    only_stopped = λ n e. absurd (cc);
+    log_full = λ e. absurd (cc);
+    next = collects-next slots i j k (Ok step) same looks did.0 did.1;
+    does = collects-all slots i.journal j.journal k.journal (Ok step) looks did.1;
+    goes_on = all_go_on-before slots i j k (Ok step) same looks did.2;
+    untouched = disk-before i j k same kept;
+  }
+
+  -- the log is full
+  pub collect-full : (is_past_limit j.journal 1 ≡ false → is_event (cells_of j.journal) (asked j.journal.round) ≡ true) → IsPastLogToCollect j → k ≡ record j { log_full = true } → DoesCollectOn slots i k (Err LogFull)
+  collect-full event past marked = record {
+    legal = legal;
+    stopped = none-stopped (Err LogFull);
+    only_stopped = λ n e. absurd (cc);
+    log_full = λ e. fills-log slots i j k same looks event past marked;
+    next = tt;
+    does = tt;
+    goes_on = tt;
+    untouched = disk-before i j k same kept;
+  }

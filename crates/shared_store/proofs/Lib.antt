@@ -1,0 +1,14 @@
+mod Pairs
+mod Acting
+mod Active
+mod Looks
+mod Finishes
+mod Goings
+mod Passing
+mod Joins
+mod Replies
+mod Steps
+mod Collects
+mod Upkeeps
+mod Rows
+mod Kept

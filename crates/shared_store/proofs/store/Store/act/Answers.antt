@@ -1,0 +1,115 @@
+use Rattle.std.proofs.Common.{◌≡◌, ◌≤◌, ℕ, List, Option, None, sym, ap, subst, ◌∙◌, rules}
+use Rattle.std.specs.Prelude.{IfSome, is_some}
+use Rattle.plain_model.specs.declared.calls.Reply.TheVariants as reply
+use Rattle.plain_model.specs.Machine.{transaction_of}
+use Rattle.plain_model.specs.History.{end_of}
+use Rattle.core_store.specs.declared.want.Want.TheVariants.{Ready}
+use Rattle.core_store.specs.Frames.{pages_held}
+use Rattle.core_store.specs.JournalView.{JournalView, cells_of}
+use Rattle.core_store.specs.Limited.{pages_for_call}
+use Rattle.core_store.specs.Logged.{want_of}
+use Rattle.core_store.specs.Work.{IsWorkIn, pages_of_work}
+use Rattle.framed_journal.proofs.HoldLaws.{slots-few}
+use Rattle.logged_journal.specs.declared.failed.FailedCall.{FailedCall}
+use Rattle.logged_journal.specs.View.{LoggedView}
+use Rattle.journal_chronicle.specs.Steps.{entered_by_call, marked_by_call}
+use Rattle.shared_store.specs.Calls.{found_by_call}
+use Rattle.shared_store.proofs.Active.{none-active}
+use Rattle.shared_store.proofs.Acting.{acts-stopped, acts-on}
+use Rattle.shared_store.proofs.Replies.{not-found, does-stopped, again-acts, again-found}
+use Rattle.shared_store.proofs.store.Store.act.Goals as goal
+
+pub returns-in-Some-clause-acts : goal.returns-in-Some-clause-acts
+returns-in-Some-clause-acts g c =
+    let failed = ap is_some (sym (ap (λ (v : LoggedView g.row.D.Denot). v.failed) c.logged.ensures.logged) ∙ (sym c.failed.ensures.failed ∙ c.in-Some.is)) in
+    acts-stopped g.row.SLOTS c.args.hold.now.view c.args.journal.now c.args.held.now c.requires.none.1 c.requires.journal.idle c.requires.none.0 failed
+
+pub returns-in-Some-clause-made : goal.returns-in-Some-clause-made
+returns-in-Some-clause-made g c = λ none.
+    does-stopped g.row.SLOTS g.D.Disk.faults c.args.journal.now c.args.client c.args.call.now c.in-Some.failed
+    (sym (ap (λ (v : LoggedView g.row.D.Denot). v.failed) c.logged.ensures.logged) ∙ (sym c.failed.ensures.failed ∙ c.in-Some.is)) c.know_history.ensures.legal
+
+pub work-work-requires : goal.work-work-requires
+work-work-requires g c =
+    let j = c.args.journal.now in
+    let same : c.journal.result.now ≡ c.args.journal.now.journal = c.journal.ensures.journal ∙ ap (λ (v : LoggedView g.row.D.Denot). v.journal) c.logged-2.ensures.logged in
+    let running : j.failed ≡ None = sym (ap (λ (v : LoggedView g.row.D.Denot). v.failed) c.logged.ensures.logged) ∙ (sym c.failed.ensures.failed ∙ c.in_default.is) in (
+      search rules,
+      (
+        c.requires.client,
+        (
+          c.requires.in_range,
+          λ e. subst (λ (x : JournalView). transaction_of (end_of x.history).state c.args.client ≡ None) (sym same) (none-active j c.args.client (c.know_history.ensures.clients c.args.client) (c.know_history.ensures.running running) (c.requires.no_abort e)),
+        ),
+      ),
+    )
+
+pub claim_for_work-requires-after_bounds : goal.claim_for_work-requires-after_bounds
+claim_for_work-requires-after_bounds g c κs within =
+    let small : g.row.SLOTS ≤ 14 = slots-few g.row.SLOTS c.self.invariant.size in
+    let same : c.journal.result.now ≡ c.args.journal.now.journal = c.journal.ensures.journal ∙ ap (λ (v : LoggedView g.row.D.Denot). v.journal) c.logged-2.ensures.logged in
+    (search rules, (search rules, (search rules, (search rules, (search rules, (c.requires.of, (c.requires.journal, (subst (λ (x : JournalView). IsWorkIn g.row.SLOTS x.history.ids (cells_of x) c.work-work.result) same c.work-work.ensures.works, c.requires.none))))))))
+
+pub returns-in-Err-clause-acts : goal.returns-in-Err-clause-acts
+returns-in-Err-clause-acts g c =
+    let met = c.in-Err.ensures.met in
+    again-acts c.args.client c.args.call.now c.again.result c.in-Err.found.word c.in-Err.found.seat c.again.ensures g.row.SLOTS c.args.hold.now.view c.claim_for_work.new.hold.view c.args.journal.now c.claim_for_work.new.held
+    met.1 met.0 c.in-Err.ensures.once c.in-Err.ensures.held
+
+pub returns-in-Err-clause-made : goal.returns-in-Err-clause-made
+returns-in-Err-clause-made g c = λ none. absurd (again-found c.args.client c.args.call.now c.again.result c.in-Err.found.word c.in-Err.found.seat c.again.ensures none)
+
+pub apply-reply-requires-after_bounds : goal.apply-reply-requires-after_bounds
+apply-reply-requires-after_bounds g c κs within =
+    let small : g.row.SLOTS ≤ 14 = slots-few g.row.SLOTS c.self.invariant.size in
+    let j = c.args.journal.now in
+    let same : c.journal.result.now ≡ c.args.journal.now.journal = c.journal.ensures.journal ∙ ap (λ (v : LoggedView g.row.D.Denot). v.journal) c.logged-2.ensures.logged in
+    let running : j.failed ≡ None = sym (ap (λ (v : LoggedView g.row.D.Denot). v.failed) c.logged.ensures.logged) ∙ (sym c.failed.ensures.failed ∙ c.in_default.is) in
+    let held = c.in_default-claim_for_work.ensures.held in
+    let pages = subst (λ (x : JournalView). pages_of_work (cells_of x) c.work-work.result ≡ pages_for_call x c.args.client c.args.call.now) same c.work-work.ensures.pages in
+    let ready = subst (λ (ps : List ℕ). want_of ps (pages_held c.claim_for_work.new.held) ≡ Ready) pages c.in_default-claim_for_work.ensures.ready in (
+      search rules,
+      (
+        search rules,
+        (
+          c.requires.client,
+          (
+            c.requires.in_range,
+            (
+              (λ e. none-active j c.args.client (c.know_history.ensures.clients c.args.client) (c.know_history.ensures.running running) (c.requires.no_abort e)),
+              (held.agree, ready),
+            ),
+          ),
+        ),
+      ),
+    )
+
+pub returns-clause-acts : goal.returns-clause-acts
+returns-clause-acts g c =
+    let e = c.apply-reply.ensures in
+    let r = c.apply-reply.result in
+    acts-on g.row.SLOTS c.args.hold.now.view c.claim_for_work.new.hold.view c.args.journal.now c.apply-reply.new.self c.claim_for_work.new.held c.apply-reply.new.held (entered_by_call c.args.client c.args.call.now r) (marked_by_call r) (found_by_call r)
+    c.in_default-claim_for_work.ensures.ok (not-found r e.never_again) c.in_default-claim_for_work.ensures.once c.in_default-claim_for_work.ensures.held e.frames e.chronicle e.rest
+
+pub returns-clause-made : goal.returns-clause-made
+returns-clause-made g c = λ none.
+    let e = c.apply-reply.ensures in
+    let r = c.apply-reply.result in
+    let j = c.args.journal.now in
+    let k = c.apply-reply.new.self in
+    let running : j.failed ≡ None = sym (ap (λ (v : LoggedView g.row.D.Denot). v.failed) c.logged.ensures.logged) ∙ (sym c.failed.ensures.failed ∙ c.in_default.is) in
+    record {
+      legal = c.know_history-2.ensures.legal;
+      stopped = subst (λ (o : Option FailedCall). IfSome o (λ f. (r ≡ reply.Stopped f.faults) × (k ≡ j))) (sym running) tt;
+      only_stopped = e.only_stopped;
+      log_full = e.log_full;
+      log_marked = λ f. let x = e.log_marked f in x.0;
+      does = e.does;
+      goes_on = e.goes_on;
+      kept = e.kept;
+      committed = e.committed;
+      commit = e.commit;
+      untouched = e.untouched;
+      fault = λ f. let x = e.fault f in x.0;
+      later = e.later;
+    }

@@ -1,0 +1,41 @@
+use Rattle.std.proofs.Common.{◌≡◌, None, Ok, Err, refl, sym, ap, subst, ◌∙◌}
+use Rattle.std.specs.Prelude.{is_some}
+use Rattle.core_store.proofs.MapLaws.{none_from}
+use Rattle.logged_journal.specs.View.{LoggedView}
+use Rattle.shared_store.specs.declared.answers.CollectRefusal.{CollectRefusal}
+use Rattle.shared_store.specs.Acts.{Acts}
+use Rattle.shared_store.specs.Calls.{entered_by_collecting, marked_by_collecting, found_by_collecting}
+use Rattle.shared_store.proofs.Acting.{acts-stopped, acts-on}
+use Rattle.shared_store.proofs.Collects.{acts-looked_found, acts-behind, collect-did}
+use Rattle.shared_store.proofs.store.Store.act_collect_step.Goals as goal
+
+pub returns-in-Some-clause-acts : goal.returns-in-Some-clause-acts
+returns-in-Some-clause-acts g c =
+    let failed = sym (ap (λ (v : LoggedView g.row.D.Denot). is_some v.failed) c.logged.ensures.logged) ∙ ap is_some (sym c.in-Some.ensures.failed) in
+    acts-stopped g.row.SLOTS c.args.hold.now.view c.args.journal.now c.args.held.now c.requires.none.1 c.requires.journal.idle c.requires.none.0 failed
+
+pub returns-in-Err-clause-acts : goal.returns-in-Err-clause-acts
+returns-in-Err-clause-acts g c =
+    let e = c.claim_for_collector.ensures in
+    let met = c.in-Err.ensures.met in
+    let f = c.in-Err.found in
+    subst (λ (x : CollectRefusal). Acts g.row.SLOTS c.args.hold.now.view c.claim_for_collector.new.hold.view c.args.journal.now c.claim_for_collector.new.journal c.claim_for_collector.new.held None (marked_by_collecting (Err x)) (found_by_collecting (Err x))) (sym c.again.ensures)
+    (acts-looked_found g.row.SLOTS c.args.hold.now.view c.claim_for_collector.new.hold.view c.args.journal.now c.claim_for_collector.new.journal c.claim_for_collector.new.held f.word f.seat met.1 met.0 e.once e.held e.chronicle)
+
+pub returns-in-Ok-clause-acts : goal.returns-in-Ok-clause-acts
+returns-in-Ok-clause-acts g c =
+    let e = c.claim_for_collector.ensures in
+    let d = c.in-Ok.ensures in
+    let v = c.args.hold.now.view in
+    let w = c.claim_for_collector.new.hold.view in
+    let j = c.claim_for_collector.new.journal in
+    let k = c.collect_step-step.new.self in
+    acts-behind g.row.SLOTS v w c.args.journal.now j k c.collect_step-step.new.held (entered_by_collecting (Ok c.in-Ok.step)) (marked_by_collecting (Ok c.in-Ok.step)) None e.chronicle
+    (acts-on g.row.SLOTS v w j k c.claim_for_collector.new.held c.collect_step-step.new.held (entered_by_collecting (Ok c.in-Ok.step)) (marked_by_collecting (Ok c.in-Ok.step)) None c.in_default-claim_for_collector.ensures.ok refl e.once e.held d.frames d.chronicle d.rest)
+
+pub returns-in-Ok-clause-made : goal.returns-in-Ok-clause-made
+returns-in-Ok-clause-made g c = λ _.
+    let e = c.claim_for_collector.ensures in
+    let d = c.in-Ok.ensures in
+    let running : c.args.journal.now.failed ≡ None = sym (ap (λ (v : LoggedView g.row.D.Denot). v.failed) c.logged.ensures.logged) ∙ (sym c.failed.ensures.failed ∙ none_from c.failed.result (λ x is. c.in_default.not-Some x is)) in
+    collect-did g.row.SLOTS c.args.journal.now c.claim_for_collector.new.journal c.collect_step-step.new.self running e.same e.looks c.know_history-2.ensures.legal d.untouched c.in-Ok.step (d.log_full.1, d.does, d.goes_on)

@@ -1,0 +1,28 @@
+use Rattle.std.proofs.Common.{◌≡◌, ◌*◌, ◌≤◌, length, sym, ap, subst, ◌∙◌, arith}
+use Rattle.core_store.specs.JournalView.{cells_of}
+use Rattle.core_store.specs.Frames.{AllAgree}
+use Rattle.logged_journal.specs.View.{LoggedView}
+use Rattle.latch_table.proofs.Frames.{some_is}
+use Rattle.journal_chronicle.specs.View.{Origin, origin_of, marks_of}
+use Rattle.shared_store.specs.declared.refused.Refused.{Refused}
+use Rattle.shared_store.specs.Passes.{AreMarked}
+use Rattle.shared_store.proofs.store.Store.close.Goals as goal
+
+pub returns-clause-agree : goal.returns-clause-agree
+returns-clause-agree g c =
+    let whole = c.close-journal.ensures.whole in
+    let of = c.main.invariant.of_store in
+    let x : of.0 ≡ origin_of c.close-journal.result.0 = some_is of.0 (origin_of c.close-journal.result.0) (sym of.1 ∙ whole.later.fixed) in
+    let ids : of.0.ids ≡ c.close-journal.result.0.journal.history.ids = ap (λ (o : Origin). o.ids) x in
+    let table = ap (λ z. z.slots) (ap (λ z. z.table) c.main.view_is ∙ c.requires.of ∙ sym (ap (λ z. z.table) c.self.view_is)) in
+    let sized = c.self.invariant.sized in
+    let many = of.2 in
+    let count = c.close-journal.ensures.count in
+    let few : 8 * length c.close-journal.result.1.items ≤ c.close-journal.result.0.journal.history.ids = omega arith in
+    subst (λ (v : LoggedView g.row.D.Denot). AllAgree (cells_of v.journal) c.close-journal.result.1.items) (sym c.into_logged.ensures) ((c.know_frames.ensures.all c.close-journal.result.1.items few).1 whole.frames)
+
+pub returns-clause-marked : goal.returns-clause-marked
+returns-clause-marked g c =
+    let m : AreMarked c.args.main.refused c.main.inside.hold.view.knowledge.marks = subst (λ (r : Refused). AreMarked r c.main.inside.hold.view.knowledge.marks) (ap (λ z. z.refused) c.main.view_is) c.main.invariant.marked in
+    let w = c.close-journal.ensures.whole.later.marked in
+    subst (λ (v : LoggedView g.row.D.Denot). AreMarked c.args.main.refused (marks_of v)) (sym c.into_logged.ensures) (record { disk = λ p. w.0 (m.disk p); trace = λ p. w.1 (m.trace p); log = λ p. w.2 (m.log p) })

@@ -1,0 +1,6 @@
+pub mod Passes
+pub mod Calls
+pub mod Holding
+pub mod Acts
+pub mod Stores
+pub mod Upkeep

@@ -1,0 +1,95 @@
+-- What upkeep of a pass does: it cleans a page, or turns the log.
+use Rattle.std.specs.Prelude.{◌≡◌, ◌≢◌, ◌⊎◌, ◌↔◌, ℕ, ◌+◌, ◌<◌, true, false, List, [], ◌∷◌, Option, Some, None, Result, Ok, Err, IfSome, IsSome}
+use Rattle.disk_model.specs.declared.area.Area.{Area}
+use Rattle.disk_model.specs.Told.{EachImage}
+use Rattle.plain_model.specs.declared.calls.Entry.{Entry}
+use Rattle.plain_model.specs.History.{IsLegal, end_of, least_active}
+use Rattle.gate_log.specs.State.{other_log}
+use Rattle.core_store.specs.declared.frame.Frame.{Frame}
+use Rattle.core_store.specs.declared.three.HeldFrame.{HeldFrame}
+use Rattle.core_store.specs.JournalView.{cells_of}
+use Rattle.core_store.specs.Limited.{is_past_limit}
+use Rattle.logged_journal.specs.declared.upkeep.Upkeep.{Upkeep}
+use Rattle.logged_journal.specs.declared.upkeep.Upkeep.TheVariants as upkeep
+use Rattle.logged_journal.specs.View.{LoggedView, OnlyTakesRoom, bytes_counted, history_of}
+use Rattle.logged_journal.specs.Upkeep.{IsPastLogToClean, IsTurned, Turns, TellsBusy, FailsUpkeep}
+use Rattle.framed_journal.specs.Upkeep.{CleansPage}
+use Rattle.latch_table.specs.Account.{Marks}
+use Rattle.latch_table.specs.declared.hold.Held.{Held}
+use Rattle.latch_table.specs.Views.{no_marks}
+use Rattle.latch_table.specs.Rule.{IsLater}
+use Rattle.journal_chronicle.specs.Steps.{entered_by_upkeep, marked_by_upkeep}
+use Rattle.journal_chronicle.specs.View.{account}
+use Rattle.shared_store.specs.declared.refused.Refused.{Refused}
+use Rattle.shared_store.specs.Calls.{refused_by_upkeep}
+use Rattle.shared_store.specs.Passes.{Known}
+
+-- ---- answers
+
+abbrev pub entered_by_upkeep_of : Result Upkeep Held → Option Entry
+entered_by_upkeep_of (Ok u) = entered_by_upkeep u
+entered_by_upkeep_of (Err h) = None
+
+abbrev pub marked_by_upkeep_of : Result Upkeep Held → Marks
+marked_by_upkeep_of (Ok u) = marked_by_upkeep u
+marked_by_upkeep_of (Err h) = no_marks
+
+abbrev pub found_by_upkeep : Result Upkeep Held → Option (ℕ × ℕ)
+found_by_upkeep (Ok u) = None
+found_by_upkeep (Err h) = Some (h.word, h.seat)
+
+abbrev pub refused_by_upkeep_of : Result Upkeep Held → Refused → Refused
+refused_by_upkeep_of (Ok u) r = refused_by_upkeep u r
+refused_by_upkeep_of (Err h) r = r
+
+-- the frames of the pages from this one on, as held ones
+abbrev pub held_from : {slots : ℕ} → ℕ → List (Frame slots) → List (HeldFrame slots)
+held_from page [] = []
+held_from page (f ∷ fs) = record { page = page; frame = f } ∷ held_from (page + 1) fs
+
+-- ---- the journal as upkeep found it and left it
+
+-- the journal cleans this page, or refuses to, and answers so; where it was done, each image of the disk has the page in place
+pub record DoesCleanOn {D : Type 0} (slots : ℕ) (faults : D → ℕ) (may_leave : D → Area → List ℕ → Type 0) (before after : LoggedView D) (page : ℕ) (result : Upkeep) : Type 0 where
+  pub legal : IsLegal (history_of after)
+  pub stopped : IfSome before.failed (λ f. (result ≡ upkeep.Stopped f.faults) × (after ≡ before))
+  pub only_stopped : (n : ℕ) → result ≡ upkeep.Stopped n → IsSome before.failed
+  pub never_busy : (client : ℕ) → result ≢ upkeep.Busy client
+  pub full : (result ≡ upkeep.TraceFull) ↔ (before.failed ≡ None) × (is_past_limit before.journal 1 ≡ true)
+  pub marked : result ≡ upkeep.TraceFull → after ≡ record before { journal = record before.journal { marks = record before.journal.marks { trace = true } } }
+  pub log_full : (result ≡ upkeep.LogFull) ↔ IsPastLogToClean slots before
+  pub log_marked : result ≡ upkeep.LogFull → OnlyTakesRoom (record before { log_full = true }) after
+  pub memory : result ≡ upkeep.Memory → OnlyTakesRoom before after
+  pub done : result ≡ upkeep.Done → CleansPage slots may_leave before after page
+  pub fault : result ≡ upkeep.DiskFault → FailsUpkeep faults before after
+
+-- The page was cleaned on a journal of which all holds that the pass knew, and this is what the journal did
+pub record MakesClean (D : Type 0) (slots : ℕ) (faults : D → ℕ) (may_leave : D → Area → List ℕ → Type 0) (old : Known slots) (page : ℕ) (result : Upkeep) : Type 0 where
+  pub before : LoggedView D
+  pub after : LoggedView D
+  pub later : IsLater (account D slots) old before
+  pub made : DoesCleanOn slots faults may_leave before after page result
+
+-- the journal turns its log, or refuses to, and answers so; where it was done, each image of the disk has every page in place and names the other log area
+pub record DoesTurnOn {D : Type 0} (slots : ℕ) (faults : D → ℕ) (may_leave : D → Area → List ℕ → Type 0) (before after : LoggedView D) (result : Upkeep) : Type 0 where
+  pub legal : IsLegal (history_of after)
+  pub stopped : IfSome before.failed (λ f. (result ≡ upkeep.Stopped f.faults) × (after ≡ before))
+  pub only_stopped : (n : ℕ) → result ≡ upkeep.Stopped n → IsSome before.failed
+  pub full : (result ≡ upkeep.TraceFull) ↔ (before.failed ≡ None) × (is_past_limit before.journal 1 ≡ true)
+  pub marked : result ≡ upkeep.TraceFull → after ≡ record before { journal = record before.journal { marks = record before.journal.marks { trace = true } } }
+  pub busy : (client : ℕ) → before.failed ≡ None → is_past_limit before.journal 1 ≡ false → least_active (end_of before.journal.history).state ≡ Some client → (result ≡ upkeep.Busy client) ⊎ (result ≡ upkeep.Memory)
+  pub only_busy : (client : ℕ) → result ≡ upkeep.Busy client → least_active (end_of before.journal.history).state ≡ Some client
+  pub told : (client : ℕ) → result ≡ upkeep.Busy client → TellsBusy slots before after client
+  pub log_full : result ≡ upkeep.LogFull → before.journal.limits.log < bytes_counted before
+  pub log_marked : result ≡ upkeep.LogFull → OnlyTakesRoom (record before { log_full = true }) after
+  pub memory : result ≡ upkeep.Memory → OnlyTakesRoom before after
+  pub done : result ≡ upkeep.Done → Turns slots before after
+  pub turned : result ≡ upkeep.Done → EachImage may_leave after.disk (IsTurned slots (cells_of before.journal) (other_log before.log.area))
+  pub fault : result ≡ upkeep.DiskFault → FailsUpkeep faults before after
+
+-- The log was turned on a journal of which all holds that the pass knew, and this is what the journal did
+pub record MakesTurn (D : Type 0) (slots : ℕ) (faults : D → ℕ) (may_leave : D → Area → List ℕ → Type 0) (old : Known slots) (result : Upkeep) : Type 0 where
+  pub before : LoggedView D
+  pub after : LoggedView D
+  pub later : IsLater (account D slots) old before
+  pub made : DoesTurnOn slots faults may_leave before after result
