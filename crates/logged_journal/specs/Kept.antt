@@ -55,9 +55,9 @@ pub record IsKept {D : Type 0} (may_leave : D → Area → List ℕ → Type 0) 
   -- a call was answered that the log is full, which was nearly so
   pub full : v.log_full ≡ true → v.journal.limits.log < v.peak + image_need v.journal.history.slots
 
--- the disk's count of faults is not below that at the opening, and where the disk failed a call it rose since
+-- The disk's count of faults is not below that at the opening. Where the disk failed a call, the count rose by then, and it isn't below that now.
 abbrev pub IsCounted : {D : Type 0} → (D → ℕ) → LoggedView D → Type 0
-IsCounted faults v = (v.opened ≤ faults v.disk) × IfSome v.failed (λ f. Rose v.opened f.faults)
+IsCounted faults v = (v.opened ≤ faults v.disk) × IfSome v.failed (λ f. Rose v.opened f.faults × (f.faults ≤ faults v.disk))
 
 -- and the buffer into which a record is spelled has room for the longest one, an image
 pub record IsLoggedInside {D : Type 0} (may_leave : D → Area → List ℕ → Type 0) (faults : D → ℕ) (slots : ℕ) (v : LoggedView D) (capacity : ℕ) : Type 0 where

@@ -215,6 +215,10 @@ impl<const SLOTS: usize, D: Disk> LoggedJournal<SLOTS, D> {
 
         // Its count of faults is above that at the opening, or stands at its type's end.
         ensures counted { IfSome result (λ f. Rose self.now.opened f.faults) }
+
+        // It isn't above the count now, and neither is that at the opening.
+        ensures now { IfSome result (λ f. f.faults ≤ D.faults self.now.disk) }
+        ensures opened { self.now.opened ≤ D.faults self.now.disk }
     {
         self.failed
     }

@@ -1,6 +1,7 @@
-use Rattle.std.proofs.Common.{◌≡◌, ◌∙◌, ℕ, ◌+◌, ◌≤◌, List, [], ◌∷◌, ◌++◌, map, ⊎_elim, sym, ap, subst, arith, Ok, Err}
-use Rattle.std.specs.Prelude.{OnOk, IsOk, Result, vec_capacity, vec_len}
+use Rattle.std.proofs.Common.{◌≡◌, ◌∙◌, ℕ, ◌+◌, ◌≤◌, List, [], ◌∷◌, ◌++◌, map, ⊎_elim, sym, ap, subst, arith, Ok, Err, Option}
+use Rattle.std.specs.Prelude.{OnOk, IsOk, IfSome, Result, vec_capacity, vec_len}
 use Rattle.disk_model.specs.declared.area.Area.TheVariants.{Pages}
+use Rattle.disk_model.specs.Causes.{Rose}
 use Rattle.disk_model.specs.Told.{EachImage}
 use Rattle.disk_model.specs.Time.{LeavesOnlyImages}
 use Rattle.disk_model.proofs.Moments.{at_exit}
@@ -13,6 +14,7 @@ use Rattle.core_store.specs.declared.note.Note.{Note}
 use Rattle.core_store.specs.JournalView.{cells_of}
 use Rattle.cell_page.specs.Format.{IsSlotCount, page_size}
 use Rattle.gate_log.specs.OnDisk.{HasLog}
+use Rattle.logged_journal.specs.declared.failed.FailedCall.{FailedCall}
 use Rattle.logged_journal.specs.View.{LoggedView, image_bytes}
 use Rattle.logged_journal.specs.Inside.{view_of}
 use Rattle.logged_journal.specs.Records.{MayHaveAll}
@@ -75,7 +77,7 @@ invariant_of-self g c =
             let value = ap g.D.Disk.faults c.as_mut.ensures.value in
             let rose = on-err c.turn.result _ (sym c.is_err.ensures.value ∙ c.if-is_err.true) c.turn.ensures.cause.failed in
             let told = c.faults.ensures ∙ ap g.D.Disk.faults c.deref-then-is_err.ensures in
-            omega (arith, before, value, rose, told),
+            (omega (arith, before, value, rose, told), omega (arith, told)),
       );
       kept = kept-stopped g.D.Disk.may_leave v c.turn.new.self c.turn.new.disk c.faults.result c.self.invariant.kept r.running (at_exit g.D.Disk.may_leave g.D.Disk.counts_now moments);
     }
@@ -158,7 +160,7 @@ invariant_of-self-2 g c =
             let value = ap g.D.Disk.faults c.as_mut.ensures.value in
             let cause = c.turn.ensures.cause.later in
             omega (arith, before, value, cause),
-        c.self.invariant.counted.1,
+        subst (λ (o : Option FailedCall). IfSome o (λ f. Rose c.self.inside.opened f.faults × (f.faults ≤ g.D.Disk.faults c.turn.new.disk))) (sym r.running) tt,
       );
       kept = kept-anew g.D.Disk.may_leave g.row.SLOTS v r.stands r.tells r.own r.few r.idle r.stand c.turn.new.self c.turn.new.disk _ _ c.self.invariant.kept r.all r.empty log on images keeps c.clear-2.ensures (omega (arith, owed, used, most)) (omega (arith, owed, used, most));
     }

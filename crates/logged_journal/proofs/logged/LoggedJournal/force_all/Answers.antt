@@ -54,7 +54,7 @@ invariant_of-self g c =
             let value = ap g.D.Disk.faults c.as_mut.ensures.value in
             let rose = on-err c.force.result _ (sym c.is_err.ensures.value ∙ c.if-is_err.true) c.force.ensures.cause.failed in
             let told = c.faults.ensures ∙ ap g.D.Disk.faults c.deref.ensures in
-            omega (arith, before, value, rose, told),
+            (omega (arith, before, value, rose, told), omega (arith, told)),
       );
       kept = kept-stopped g.D.Disk.may_leave v c.force.new.self c.force.new.disk c.faults.result c.self.invariant.kept running (at_exit g.D.Disk.may_leave g.D.Disk.counts_now moments);
     }
@@ -91,7 +91,7 @@ invariant_of-self-2 g c =
             let value = ap g.D.Disk.faults c.as_mut.ensures.value in
             let cause = c.force.ensures.cause.later in
             omega (arith, before, value, cause),
-        subst (λ (o : Option FailedCall). IfSome o (λ f. Rose c.self.inside.opened f.faults)) (sym running) tt,
+        subst (λ (o : Option FailedCall). IfSome o (λ f. Rose c.self.inside.opened f.faults × (f.faults ≤ g.D.Disk.faults c.force.new.disk))) (sym running) tt,
       );
       kept = kept-forced g.D.Disk.may_leave v c.force.new.self c.force.new.disk (length c.history.result.now) c.max-self-inside.result c.self.invariant.kept running stands
           (subst (λ (l : List Note). map (λ n. n.entry) l ≡ c.self.inside.journal.history.entries) c.history.ensures.notes c.history.ensures.entries) c.history.ensures.safe

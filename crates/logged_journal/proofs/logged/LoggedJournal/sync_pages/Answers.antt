@@ -1,4 +1,4 @@
-use Rattle.std.proofs.Common.{◌∙◌, inl, Option, sym, ap, subst, arith}
+use Rattle.std.proofs.Common.{◌≤◌, ◌∙◌, inl, Option, sym, ap, subst, arith}
 use Rattle.std.specs.Prelude.{IfSome}
 use Rattle.disk_model.specs.Areas.{in_area}
 use Rattle.disk_model.specs.Causes.{Rose}
@@ -31,7 +31,7 @@ invariant_of-self g c =
             let value = ap g.D.Disk.faults c.as_mut.ensures.value in
             let rose = on-err c.sync.result _ (sym c.is_err.ensures.value ∙ c.if-is_err.true) c.sync.ensures.cause.failed in
             let told = c.faults.ensures ∙ ap g.D.Disk.faults c.deref.ensures in
-            omega (arith, before, value, rose, told),
+            (omega (arith, before, value, rose, told), omega (arith, told)),
       );
       kept = kept-stopped g.D.Disk.may_leave v c.self.inside.log c.sync.new.self c.faults.result c.self.invariant.kept running
           (λ image may. inl (c.self.invariant.kept.images image (λ area. (keeps area).no_more (in_area image area) (may area))));
@@ -60,7 +60,7 @@ invariant_of-self-else-is_err g c =
             let value = ap g.D.Disk.faults c.as_mut.ensures.value in
             let cause = c.sync.ensures.cause.later in
             omega (arith, before, value, cause),
-        subst (λ (o : Option FailedCall). IfSome o (λ f. Rose c.self.inside.opened f.faults)) (sym running) tt,
+        subst (λ (o : Option FailedCall). IfSome o (λ f. Rose c.self.inside.opened f.faults × (f.faults ≤ g.D.Disk.faults c.sync.new.self))) (sym running) tt,
       );
       kept = kept-still g.D.Disk.may_leave v c.sync.new.self c.self.invariant.kept running (λ area bytes may. (keeps area).no_more bytes may);
     }

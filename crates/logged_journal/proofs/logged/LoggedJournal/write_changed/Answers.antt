@@ -79,7 +79,7 @@ invariant_of-self g c =
             let value = ap g.D.Disk.faults c.as_mut.ensures.value in
             let rose = written-faults c.place_changed.result _ _ c.place_changed.ensures.refusals c.place_changed.ensures.cause (sym c.is_err.ensures.value ∙ c.if-is_err.true) in
             let told = c.faults.ensures ∙ ap g.D.Disk.faults c.deref.ensures in
-            omega (arith, before, value, rose, told),
+            (omega (arith, before, value, rose, told), omega (arith, told)),
       );
       kept = kept-stopped g.D.Disk.may_leave v c.self.inside.log now c.faults.result kept running (at_exit g.D.Disk.may_leave g.D.Disk.counts_now (placed-moments g.D.Disk.content g.D.Disk.may_leave g.D.Disk.moment g.D.Disk.left_since g.D.Disk.faults g.row.SLOTS v kept stands c.self.invariant.own current empty now only));
     }
@@ -115,7 +115,7 @@ invariant_of-self-else-is_err g c =
             let value = ap g.D.Disk.faults c.as_mut.ensures.value in
             let cause = c.place_changed.ensures.cause.later in
             omega (arith, before, value, cause),
-        subst (λ (o : Option FailedCall). IfSome o (λ f. Rose c.self.inside.opened f.faults)) (sym running) tt,
+        subst (λ (o : Option FailedCall). IfSome o (λ f. Rose c.self.inside.opened f.faults × (f.faults ≤ g.D.Disk.faults c.place_changed.new.disk))) (sym running) tt,
       );
       kept = placed-kept g.D.Disk.content g.D.Disk.may_leave g.D.Disk.moment g.D.Disk.left_since g.D.Disk.faults g.row.SLOTS v kept stands c.self.invariant.own current empty now only;
     }

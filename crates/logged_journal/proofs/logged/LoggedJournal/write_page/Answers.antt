@@ -69,7 +69,7 @@ invariant_of-self g c =
             let value = ap g.D.Disk.faults c.as_mut.ensures.value in
             let rose = written-faults c.write_in_place.result _ _ c.write_in_place.ensures.refusals c.write_in_place.ensures.cause (sym c.is_err.ensures.value ∙ c.if-is_err.true) in
             let told = c.faults.ensures ∙ ap g.D.Disk.faults c.deref.ensures in
-            omega (arith, before, value, rose, told),
+            (omega (arith, before, value, rose, told), omega (arith, told)),
       );
       kept = kept-stopped g.D.Disk.may_leave v c.self.inside.log c.write_in_place.new.disk c.faults.result kept running (at_exit g.D.Disk.may_leave g.D.Disk.counts_now moments);
     }
@@ -110,7 +110,7 @@ invariant_of-self-else-is_err g c =
             let value = ap g.D.Disk.faults c.as_mut.ensures.value in
             let cause = c.write_in_place.ensures.cause.later in
             omega (arith, before, value, cause),
-        subst (λ (o : Option FailedCall). IfSome o (λ f. Rose c.self.inside.opened f.faults)) (sym running) tt,
+        subst (λ (o : Option FailedCall). IfSome o (λ f. Rose c.self.inside.opened f.faults × (f.faults ≤ g.D.Disk.faults c.write_in_place.new.disk))) (sym running) tt,
       );
       kept = kept-disk g.D.Disk.may_leave v now kept stands (on-others g.D.Disk.may_leave v.log v.disk now stands.batches (λ area apart bytes may. (keeps area apart).no_more bytes may) stands.on)
           (λ area may. let was = left area may in torn-holds g.D.Disk.may_leave g.row.SLOTS v stands c.self.invariant.own c.args.page 1 imaged was.0 area was.1 was.2)
