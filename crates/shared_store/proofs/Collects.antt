@@ -1,14 +1,16 @@
 -- Answers of steps of the collector: what they enter, name and count, and what the looks before a step come to.
-use Rattle.std.proofs.Common.{◌≡◌, ◌⊎◌, ℕ, Bool, true, false, List, Option, Some, None, Result, Ok, Err, refl, sym, ap, ◌∙◌, subst, inl}
+use Rattle.std.proofs.Common.{◌≡◌, ◌⊎◌, ℕ, Bool, true, false, List, map, Option, Some, None, Result, Ok, Err, refl, sym, ap, ◌∙◌, subst, inl}
 use Rattle.std.specs.Prelude.{is_some, IfOk, IfSome, IsErrOf}
 use Rattle.plain_model.specs.declared.calls.Entry.{Entry}
 use Rattle.plain_model.specs.declared.calls.Entry.TheVariants.{Hidden, Delete}
 use Rattle.plain_model.specs.History.{IsLegal}
+use Rattle.store_model.specs.Sound.{IsSound}
 use Rattle.core_store.specs.declared.collect.Collect.{Collect}
 use Rattle.core_store.specs.declared.collect.Collect.TheVariants.{Idle, Did, Deleted, TraceFull, Memory}
 use Rattle.core_store.specs.declared.three.HeldFrame.{HeldFrame}
 use Rattle.core_store.specs.Frames.{AreOnce, is_held}
-use Rattle.core_store.specs.JournalView.{cells_of}
+use Rattle.core_store.specs.JournalView.{JournalView, cells_of, core_of, opening_of}
+use Rattle.core_store.specs.Leads.{AreLed}
 use Rattle.core_store.specs.Limited.{is_past_limit}
 use Rattle.core_store.specs.RoundView.{asked, is_event}
 use Rattle.core_store.specs.Steppings.{OnlyLooks}
@@ -34,6 +36,12 @@ use Rattle.shared_store.specs.Holding.{pairs_of, with_pages}
 use Rattle.shared_store.proofs.Goings.{marked-joined, truth-some}
 use Rattle.shared_store.proofs.Looks.{goes-behind}
 use Rattle.shared_store.proofs.Replies.{marked-disk, marked-trace, marked-log}
+
+-- what the journal was that the pass claimed
+pub record WasNoted (slots : ℕ) (j : JournalView) : Type 0 where
+  pub sound : IsSound (core_of j)
+  pub led : AreLed slots (opening_of j) j.notes (core_of j)
+  pub entries : map (λ n. n.entry) j.notes ≡ j.history.entries
 
 -- it speaks for nobody
 pub collect-speaks : (name : ℕ) (r : Result Collect CollectRefusal) → IfSome (entered_by_collecting r) (λ e. (speaker_of e ≡ None) ⊎ (speaker_of e ≡ Some name))
@@ -64,8 +72,11 @@ marked-collect x a m h (Err LogFull) = marked-log x a m h (refused_by_collecting
 marked-collect x a m h (Err (Again word seat)) = marked-joined x a (joined_marks m (marked_by_collecting (Err (Again word seat)))) h
 
 -- the disk had failed a call
-pub collect-stopped : {D : Type 0} (slots : ℕ) (j : LoggedView D) (f : FailedCall) → j.failed ≡ Some f → IsLegal (history_of j) → DoesCollectOn slots j j (Err (Stopped f.faults))
-collect-stopped {D} slots j f failed legal = record {
+pub collect-stopped : {D : Type 0} (slots : ℕ) (j : LoggedView D) (f : FailedCall) → j.failed ≡ Some f → IsLegal (history_of j) → WasNoted slots j.journal → DoesCollectOn slots j j (Err (Stopped f.faults))
+collect-stopped {D} slots j f failed legal noted = record {
+  sound = noted.sound;
+  led = noted.led;
+  entries = noted.entries;
   legal = legal;
   stopped = let r : Result Collect CollectRefusal = Err (Stopped f.faults) in subst (λ (o : Option FailedCall). IfSome o (λ x. (r ≡ Err (Stopped x.faults)) × (j ≡ j))) (sym failed) (refl, refl);
   only_stopped = λ n e. ap is_some failed;
@@ -106,13 +117,16 @@ acts-behind slots v w i j k held entered marked found look a = record {
 
 -- ---- a step of the journal behind looks
 
-module _ {D : Type 0} (slots : ℕ) (i j k : LoggedView D) (running : i.failed ≡ None) (same : j ≡ record i { journal = j.journal }) (looks : OnlyLooks slots i.journal j.journal) (legal : IsLegal (history_of k)) (kept : KeepsDisk j k) where
+module _ {D : Type 0} (slots : ℕ) (i j k : LoggedView D) (running : i.failed ≡ None) (same : j ≡ record i { journal = j.journal }) (looks : OnlyLooks slots i.journal j.journal) (noted : WasNoted slots i.journal) (legal : IsLegal (history_of k)) (kept : KeepsDisk j k) where
   none-stopped : (r : Result Collect CollectRefusal) → IfSome i.failed (λ f. (r ≡ Err (Stopped f.faults)) × (k ≡ i))
   none-stopped r = subst (λ (o : Option FailedCall). IfSome o (λ f. (r ≡ Err (Stopped f.faults)) × (k ≡ i))) (sym running) tt
 
   -- it was made
   pub collect-did : (step : Collect) → (let r : Result Collect Refusal = Ok step in (IsPastLogToCollect j → IsErrOf r refusal.LogFull) × IfOk r (λ s. DoesCollect slots j.journal k.journal s) × IfOk r (λ _. GoesOn j k)) → DoesCollectOn slots i k (Ok step)
   collect-did step did = record {
+    sound = noted.sound;
+    led = noted.led;
+    entries = noted.entries;
     legal = legal;
     stopped = none-stopped (Ok step);
     only_stopped = λ n e. absurd (cc);
@@ -126,6 +140,9 @@ module _ {D : Type 0} (slots : ℕ) (i j k : LoggedView D) (running : i.failed �
   -- the log is full
   pub collect-full : (is_past_limit j.journal 1 ≡ false → is_event (cells_of j.journal) (asked j.journal.round) ≡ true) → IsPastLogToCollect j → k ≡ record j { log_full = true } → DoesCollectOn slots i k (Err LogFull)
   collect-full event past marked = record {
+    sound = noted.sound;
+    led = noted.led;
+    entries = noted.entries;
     legal = legal;
     stopped = none-stopped (Err LogFull);
     only_stopped = λ n e. absurd (cc);

@@ -1,5 +1,5 @@
 -- What upkeep does to the journal that it was called on: a refusal, or the journal's own upkeep in room that was taken before.
-use Rattle.std.proofs.Common.{◌≡◌, ◌≢◌, ◌⊎◌, ℕ, Bool, true, false, List, Option, Some, None, Result, Ok, Err, refl, sym, ap, ◌∙◌, subst, inl, inr}
+use Rattle.std.proofs.Common.{◌≡◌, ◌≢◌, ◌⊎◌, ℕ, ◌≤◌, Bool, true, false, List, Option, Some, None, Result, Ok, Err, refl, sym, ap, ◌∙◌, subst, inl, inr, arith}
 use Rattle.std.specs.Prelude.{◌↔◌, is_some, IfOk, IfSome, IsSome}
 use Rattle.disk_model.specs.declared.area.Area.{Area}
 use Rattle.plain_model.specs.History.{IsLegal, end_of, least_active}
@@ -9,11 +9,13 @@ use Rattle.logged_journal.specs.declared.failed.FailedCall.{FailedCall}
 use Rattle.logged_journal.specs.declared.upkeep.Upkeep.{Upkeep}
 use Rattle.logged_journal.specs.declared.upkeep.Upkeep.TheVariants as upkeep
 use Rattle.logged_journal.specs.View.{LoggedView, OnlyTakesRoom, history_of}
+use Rattle.logged_journal.specs.Calls.{KeepsDisk}
 use Rattle.logged_journal.specs.Upkeep.{IsPastLogToClean, Cleans, Turns, TellsBusy, FailsUpkeep}
 use Rattle.latch_table.specs.declared.hold.Held.{Held}
-use Rattle.latch_table.specs.Rule.{IsLater}
+use Rattle.latch_table.specs.Holds.{IsAlone}
+use Rattle.latch_table.specs.Rule.{IsLater, KeepsEachOnce}
 use Rattle.journal_chronicle.specs.Steps.{entered_by_upkeep}
-use Rattle.journal_chronicle.specs.View.{account}
+use Rattle.journal_chronicle.specs.View.{account, notes_of}
 use Rattle.shared_store.specs.Passes.{Known}
 use Rattle.shared_store.specs.Upkeep.{DoesCleanOn, DoesTurnOn, MakesClean, MakesTurn}
 
@@ -47,6 +49,7 @@ pub record RefusesTurn {D : Type 0} (slots : ℕ) (j k : LoggedView D) (answer :
   pub told : (client : ℕ) → answer ≡ Some (upkeep.Busy client) → TellsBusy slots j k client
   pub memory : answer ≡ Some upkeep.Memory → k ≡ j
   pub never : (answer ≢ Some upkeep.Done) × (answer ≢ Some upkeep.LogFull) × (answer ≢ Some upkeep.DiskFault)
+  pub untouched : KeepsDisk j k
   pub free : answer ≡ None → (j.failed ≡ None) × (least_active (end_of j.journal.history).state ≡ None) × (k ≡ record j { journal = record j.journal { reserved = true } })
 
 -- it is not refused: at most room was taken
@@ -82,6 +85,10 @@ turn-free {D} slots j k r =
     }
 
 module _ {D : Type 0} (slots : ℕ) (faults : D → ℕ) (may_leave : D → Area → List ℕ → Type 0) where
+  -- the disk stayed
+  same-faults : (j k : LoggedView D) → k.disk ≡ j.disk → faults j.disk ≤ faults k.disk
+  same-faults j k same = let e : faults k.disk ≡ faults j.disk = ap faults same in omega arith
+
   -- ---- a page is cleaned
 
   clean-was_stopped : (j k : LoggedView D) (page : ℕ) (f : FailedCall) → j.failed ≡ Some f → k ≡ j → IsLegal (history_of k) → DoesCleanOn slots faults may_leave j k page (upkeep.Stopped f.faults)
@@ -97,6 +104,7 @@ module _ {D : Type 0} (slots : ℕ) (faults : D → ℕ) (may_leave : D → Area
     memory = λ e. absurd (cc);
     done = λ e. absurd (cc);
     fault = λ e. absurd (cc);
+    later = same-faults j k (ap (λ (x : LoggedView D). x.disk) same);
   }
 
   clean-was_full : (j k : LoggedView D) (page : ℕ) → j.failed ≡ None → is_past_limit j.journal 1 ≡ true → k ≡ record j { journal = record j.journal { marks = record j.journal.marks { trace = true } } } → IsLegal (history_of k)
@@ -113,6 +121,7 @@ module _ {D : Type 0} (slots : ℕ) (faults : D → ℕ) (may_leave : D → Area
     memory = λ e. absurd (cc);
     done = λ e. absurd (cc);
     fault = λ e. absurd (cc);
+    later = same-faults j k (ap (λ (x : LoggedView D). x.disk) is);
   }
 
   -- it is refused, and the journal stays, but for its mark
@@ -155,6 +164,7 @@ module _ {D : Type 0} (slots : ℕ) (faults : D → ℕ) (may_leave : D → Area
     memory = d.memory;
     done = λ e. let c = d.done e in record { held = c.held; holds = c.holds; cleans = cleans-in_room u w reserved room page c.held c.cleans; images = c.images };
     fault = λ e. fails-in_room u w reserved room (d.fault e);
+    later = d.later;
   }
 
   pub clean-behind : (j k w : LoggedView D) (page : ℕ) (r : Upkeep) → MayUpkeep j k → DoesCleanOn slots faults may_leave k w page r → DoesCleanOn slots faults may_leave j w page r
@@ -187,6 +197,7 @@ module _ {D : Type 0} (slots : ℕ) (faults : D → ℕ) (may_leave : D → Area
     done = λ e. absurd (r.never.0 (ap Some e));
     turned = λ e. absurd (r.never.0 (ap Some e));
     fault = λ e. absurd (r.never.2 (ap Some e));
+    later = same-faults j k r.untouched.disk;
   }
 
   turns-in_room : (u w : LoggedView D) (reserved : Bool) (room : ℕ) → Turns slots (with_room u reserved room) w → Turns slots u w
@@ -213,6 +224,7 @@ module _ {D : Type 0} (slots : ℕ) (faults : D → ℕ) (may_leave : D → Area
     done = λ e. turns-in_room u w reserved room (d.done e);
     turned = d.turned;
     fault = λ e. fails-in_room u w reserved room (d.fault e);
+    later = d.later;
   }
 
   pub turn-behind : (j k w : LoggedView D) (r : Upkeep) → MayUpkeep j k → least_active (end_of j.journal.history).state ≡ None → DoesTurnOn slots faults may_leave k w r → DoesTurnOn slots faults may_leave j w r
@@ -235,16 +247,22 @@ module _ {D : Type 0} (slots : ℕ) (faults : D → ℕ) (may_leave : D → Area
     done = λ e. absurd (cc);
     turned = λ e. absurd (cc);
     fault = λ e. absurd (cc);
+    later = same-faults j k (ap (λ (x : LoggedView D). x.disk) m.takes);
   }
 
 -- ---- on the journal that the pass claimed
 
-pub makes-clean : {D : Type 0} (slots : ℕ) (faults : D → ℕ) (may_leave : D → Area → List ℕ → Type 0) (v w : Known slots) (j k : LoggedView D) (page : ℕ) (r : Result Upkeep Held) → v ≡ w → IsLater (account D slots) v j → IfOk r (λ u. DoesCleanOn slots faults may_leave j k page u)
-    → IfOk r (λ u. MakesClean D slots faults may_leave w page u)
-makes-clean {D} slots faults may_leave v w j k page (Ok u) same later made = record { before = j; after = k; later = subst (λ (x : Known slots). IsLater (account D slots) x j) same later; made = made }
-makes-clean slots faults may_leave v w j k page (Err h) same later made = tt
+-- what the pass knew of it
+pub record KnewOf {D : Type 0} (slots : ℕ) (v : Known slots) (j : LoggedView D) : Type 0 where
+  pub later : IsLater (account D slots) v j
+  pub covered : IsAlone v → KeepsEachOnce (notes_of j) v.knowledge.entries
 
-pub makes-turn : {D : Type 0} (slots : ℕ) (faults : D → ℕ) (may_leave : D → Area → List ℕ → Type 0) (v w : Known slots) (j k : LoggedView D) (r : Result Upkeep Held) → v ≡ w → IsLater (account D slots) v j → IfOk r (λ u. DoesTurnOn slots faults may_leave j k u)
+pub makes-clean : {D : Type 0} (slots : ℕ) (faults : D → ℕ) (may_leave : D → Area → List ℕ → Type 0) (v w : Known slots) (j k : LoggedView D) (page : ℕ) (r : Result Upkeep Held) → v ≡ w → KnewOf slots v j → IfOk r (λ u. DoesCleanOn slots faults may_leave j k page u)
+    → IfOk r (λ u. MakesClean D slots faults may_leave w page u)
+makes-clean {D} slots faults may_leave v w j k page (Ok u) same knew made = let n = subst (λ (x : Known slots). KnewOf slots x j) same knew in record { before = j; after = k; later = n.later; covered = n.covered; made = made }
+makes-clean slots faults may_leave v w j k page (Err h) same knew made = tt
+
+pub makes-turn : {D : Type 0} (slots : ℕ) (faults : D → ℕ) (may_leave : D → Area → List ℕ → Type 0) (v w : Known slots) (j k : LoggedView D) (r : Result Upkeep Held) → v ≡ w → KnewOf slots v j → IfOk r (λ u. DoesTurnOn slots faults may_leave j k u)
     → IfOk r (λ u. MakesTurn D slots faults may_leave w u)
-makes-turn {D} slots faults may_leave v w j k (Ok u) same later made = record { before = j; after = k; later = subst (λ (x : Known slots). IsLater (account D slots) x j) same later; made = made }
-makes-turn slots faults may_leave v w j k (Err h) same later made = tt
+makes-turn {D} slots faults may_leave v w j k (Ok u) same knew made = let n = subst (λ (x : Known slots). KnewOf slots x j) same knew in record { before = j; after = k; later = n.later; covered = n.covered; made = made }
+makes-turn slots faults may_leave v w j k (Err h) same knew made = tt

@@ -1,5 +1,5 @@
 -- What calls of a pass do.
-use Rattle.std.specs.Prelude.{◌≡◌, ◌≢◌, ◌⊎◌, ◌↔◌, ℕ, ◌+◌, ◌≤◌, Bool, true, false, List, [], ◌∷◌, ◌++◌, length, Option, Some, None, Result, Ok, Err, IfSome, IsSome, IfOk}
+use Rattle.std.specs.Prelude.{◌≡◌, ◌≢◌, ◌⊎◌, ◌↔◌, ℕ, ◌+◌, ◌≤◌, Bool, true, false, List, [], ◌∷◌, ◌++◌, map, length, Option, Some, None, Result, Ok, Err, IfSome, IsSome, IfOk}
 use Rattle.plain_model.specs.declared.calls.Call.{Call as TransactionCall}
 use Rattle.plain_model.specs.declared.calls.Call.TheVariants.{Commit}
 use Rattle.plain_model.specs.declared.calls.Reply.{Reply}
@@ -7,11 +7,14 @@ use Rattle.plain_model.specs.declared.calls.Reply.TheVariants as reply
 use Rattle.plain_model.specs.declared.calls.Entry.{Entry}
 use Rattle.plain_model.specs.History.{IsLegal, end_of}
 use Rattle.plain_model.specs.Machine.{refusal_of}
+use Rattle.store_model.specs.Sound.{IsSound}
 use Rattle.core_store.specs.declared.note.Note.{Note}
 use Rattle.core_store.specs.declared.abort_step.AbortStep.{AbortStep}
 use Rattle.core_store.specs.declared.abort_step.AbortStep.TheVariants.{Ended}
 use Rattle.core_store.specs.declared.collect.Collect.{Collect}
 use Rattle.core_store.specs.declared.collect.Collect.TheVariants as collect
+use Rattle.core_store.specs.JournalView.{core_of, opening_of}
+use Rattle.core_store.specs.Leads.{AreLed}
 use Rattle.logged_journal.specs.declared.upkeep.Upkeep.{Upkeep}
 use Rattle.logged_journal.specs.declared.upkeep.Upkeep.TheVariants as upkeep
 use Rattle.logged_journal.specs.View.{KeepsLog, LoggedView, history_of}
@@ -19,10 +22,10 @@ use Rattle.logged_journal.specs.Calls.{IsOfJournal, IsGranted, IsPastLog, DoesCa
 use Rattle.framed_journal.specs.Steps.{CollectsNext, CollectsOnFrames, FillsLog}
 use Rattle.latch_table.specs.Account.{Marks}
 use Rattle.latch_table.specs.Views.{KeepMarks, no_marks}
-use Rattle.latch_table.specs.Holds.{HasNone, IsAnother}
-use Rattle.latch_table.specs.Rule.{IsLater}
+use Rattle.latch_table.specs.Holds.{HasNone, IsAlone, IsAnother}
+use Rattle.latch_table.specs.Rule.{IsLater, KeepsEachOnce}
 use Rattle.journal_chronicle.specs.Steps.{entered_by_abort_step, entered_by_collect_step, marked_by_collect_step, disk_mark, log_mark}
-use Rattle.journal_chronicle.specs.View.{account, has_transaction}
+use Rattle.journal_chronicle.specs.View.{account, has_transaction, notes_of}
 use Rattle.shared_store.specs.declared.answers.StepRefusal.{StepRefusal}
 use Rattle.shared_store.specs.declared.answers.StepRefusal.TheVariants as step
 use Rattle.shared_store.specs.declared.answers.CollectRefusal.{CollectRefusal}
@@ -119,11 +122,13 @@ pub record DoesCallOn {D : Type 0} (slots : ℕ) (faults : D → ℕ) (before af
   pub fault : result ≡ reply.DiskFault → FailsCommit faults before after client c
   pub later : faults before.disk ≤ faults after.disk
 
--- The call was made on a journal of which all holds that the pass knew, and this is what the journal did
+-- The call was made on a journal of which all holds that the pass knew, and this is what the journal did. A pass that is alone keeps
+-- each note of it, once
 pub record MakesCall (D : Type 0) (slots : ℕ) (faults : D → ℕ) (old : Known slots) (c : TransactionCall) (result : Reply) : Type 0 where
   pub before : LoggedView D
   pub after : LoggedView D
   pub later : IsLater (account D slots) old before
+  pub covered : IsAlone old → KeepsEachOnce (notes_of before) old.knowledge.entries
   pub made : DoesCallOn slots faults before after old.station.name c result
 
 -- ---- steps of an abort, steps of the collector
@@ -158,11 +163,13 @@ pub record DoesStepOn {D : Type 0} (slots : ℕ) (before after : LoggedView D) (
   pub goes_on : IfOk result (λ _. GoesOn before after)
   pub untouched : KeepsDisk before after
 
--- The step was made on a journal of which all holds that the pass knew, and this is what the journal did
+-- The step was made on a journal of which all holds that the pass knew, and this is what the journal did. A pass that is alone keeps
+-- each note of it, once
 pub record MakesStep (D : Type 0) (slots : ℕ) (old : Known slots) (result : Result AbortStep StepRefusal) : Type 0 where
   pub before : LoggedView D
   pub after : LoggedView D
   pub later : IsLater (account D slots) old before
+  pub covered : IsAlone old → KeepsEachOnce (notes_of before) old.knowledge.entries
   pub made : DoesStepOn slots before after old.station.name result
 
 abbrev pub entered_by_collecting : Result Collect CollectRefusal → Option Entry
@@ -187,6 +194,10 @@ refused_by_collecting _ r = r
 
 -- the journal makes an event of the collector and answers so; where it is stopped or the log is full it does nothing but looks
 pub record DoesCollectOn {D : Type 0} (slots : ℕ) (before after : LoggedView D) (result : Result Collect CollectRefusal) : Type 0 where
+  -- what the journal was: sound, as its notes give it, one note for each entry
+  pub sound : IsSound (core_of before.journal)
+  pub led : AreLed slots (opening_of before.journal) before.journal.notes (core_of before.journal)
+  pub entries : map (λ n. n.entry) before.journal.notes ≡ before.journal.history.entries
   pub legal : IsLegal (history_of after)
   pub stopped : IfSome before.failed (λ f. (result ≡ Err (refusal.Stopped f.faults)) × (after ≡ before))
   pub only_stopped : (n : ℕ) → result ≡ Err (refusal.Stopped n) → IsSome before.failed
@@ -196,9 +207,11 @@ pub record DoesCollectOn {D : Type 0} (slots : ℕ) (before after : LoggedView D
   pub goes_on : IfOk result (λ _. GoesOn before after)
   pub untouched : KeepsDisk before after
 
--- The event was made on a journal of which all holds that the pass knew, and this is what the journal did
+-- The event was made on a journal of which all holds that the pass knew, and this is what the journal did. A pass that is alone keeps
+-- each note of it, once
 pub record MakesCollect (D : Type 0) (slots : ℕ) (old : Known slots) (result : Result Collect CollectRefusal) : Type 0 where
   pub before : LoggedView D
   pub after : LoggedView D
   pub later : IsLater (account D slots) old before
+  pub covered : IsAlone old → KeepsEachOnce (notes_of before) old.knowledge.entries
   pub made : DoesCollectOn slots before after result

@@ -1,5 +1,5 @@
 -- What upkeep of a pass does: it cleans a page, or turns the log.
-use Rattle.std.specs.Prelude.{◌≡◌, ◌≢◌, ◌⊎◌, ◌↔◌, ℕ, ◌+◌, ◌<◌, true, false, List, [], ◌∷◌, Option, Some, None, Result, Ok, Err, IfSome, IsSome}
+use Rattle.std.specs.Prelude.{◌≡◌, ◌≢◌, ◌⊎◌, ◌↔◌, ℕ, ◌+◌, ◌<◌, ◌≤◌, true, false, List, [], ◌∷◌, Option, Some, None, Result, Ok, Err, IfSome, IsSome}
 use Rattle.disk_model.specs.declared.area.Area.{Area}
 use Rattle.disk_model.specs.Told.{EachImage}
 use Rattle.plain_model.specs.declared.calls.Entry.{Entry}
@@ -17,9 +17,10 @@ use Rattle.framed_journal.specs.Upkeep.{CleansPage}
 use Rattle.latch_table.specs.Account.{Marks}
 use Rattle.latch_table.specs.declared.hold.Held.{Held}
 use Rattle.latch_table.specs.Views.{no_marks}
-use Rattle.latch_table.specs.Rule.{IsLater}
+use Rattle.latch_table.specs.Holds.{IsAlone}
+use Rattle.latch_table.specs.Rule.{IsLater, KeepsEachOnce}
 use Rattle.journal_chronicle.specs.Steps.{entered_by_upkeep, marked_by_upkeep}
-use Rattle.journal_chronicle.specs.View.{account}
+use Rattle.journal_chronicle.specs.View.{account, notes_of}
 use Rattle.shared_store.specs.declared.refused.Refused.{Refused}
 use Rattle.shared_store.specs.Calls.{refused_by_upkeep}
 use Rattle.shared_store.specs.Passes.{Known}
@@ -62,12 +63,15 @@ pub record DoesCleanOn {D : Type 0} (slots : ℕ) (faults : D → ℕ) (may_leav
   pub memory : result ≡ upkeep.Memory → OnlyTakesRoom before after
   pub done : result ≡ upkeep.Done → CleansPage slots may_leave before after page
   pub fault : result ≡ upkeep.DiskFault → FailsUpkeep faults before after
+  pub later : faults before.disk ≤ faults after.disk
 
--- The page was cleaned on a journal of which all holds that the pass knew, and this is what the journal did
+-- The page was cleaned on a journal of which all holds that the pass knew, and this is what the journal did. A pass that is alone keeps
+-- each note of it, once
 pub record MakesClean (D : Type 0) (slots : ℕ) (faults : D → ℕ) (may_leave : D → Area → List ℕ → Type 0) (old : Known slots) (page : ℕ) (result : Upkeep) : Type 0 where
   pub before : LoggedView D
   pub after : LoggedView D
   pub later : IsLater (account D slots) old before
+  pub covered : IsAlone old → KeepsEachOnce (notes_of before) old.knowledge.entries
   pub made : DoesCleanOn slots faults may_leave before after page result
 
 -- the journal turns its log, or refuses to, and answers so; where it was done, each image of the disk has every page in place and names the other log area
@@ -86,10 +90,13 @@ pub record DoesTurnOn {D : Type 0} (slots : ℕ) (faults : D → ℕ) (may_leave
   pub done : result ≡ upkeep.Done → Turns slots before after
   pub turned : result ≡ upkeep.Done → EachImage may_leave after.disk (IsTurned slots (cells_of before.journal) (other_log before.log.area))
   pub fault : result ≡ upkeep.DiskFault → FailsUpkeep faults before after
+  pub later : faults before.disk ≤ faults after.disk
 
--- The log was turned on a journal of which all holds that the pass knew, and this is what the journal did
+-- The log was turned on a journal of which all holds that the pass knew, and this is what the journal did. A pass that is alone keeps
+-- each note of it, once
 pub record MakesTurn (D : Type 0) (slots : ℕ) (faults : D → ℕ) (may_leave : D → Area → List ℕ → Type 0) (old : Known slots) (result : Upkeep) : Type 0 where
   pub before : LoggedView D
   pub after : LoggedView D
   pub later : IsLater (account D slots) old before
+  pub covered : IsAlone old → KeepsEachOnce (notes_of before) old.knowledge.entries
   pub made : DoesTurnOn slots faults may_leave before after result

@@ -63,6 +63,7 @@ impl<const SLOTS: usize, D: Disk> Store<SLOTS, D> {
         ensures made { found_by_collecting result ≡ None → DoesCollectOn SLOTS journal.old journal.new result }
     {
         journal.know_history();
+        let _ = journal.logged().journal().history();
         if let Some(failed) = journal.logged().failed() {
             return Err(CollectRefusal::Stopped {
                 faults: failed.faults,

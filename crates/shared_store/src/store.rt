@@ -1,14 +1,16 @@
 //! The store, and how passes are made and taken in.
-ghost use Rattle.std.specs.Prelude.{◌≡◌, ◌⊎◌, ℕ, ◌*◌, ◌≤◌, [], true, length, None, IfOk, IfErr};
-ghost use Rattle.plain_model.specs.History.{IsLegal};
+ghost use Rattle.std.specs.Prelude.{◌≡◌, ◌⊎◌, ◌↔◌, ℕ, ◌*◌, ◌<◌, ◌≤◌, [], true, length, is_some, None, IfOk, IfErr};
+ghost use Rattle.plain_model.specs.History.{IsLegal, end_of};
+ghost use Rattle.plain_model.specs.Machine.{transaction_of};
 ghost use Rattle.cell_page.specs.Format.{IsSlotCount};
+ghost use Rattle.cell_page.specs.Stored.{HoldsPage};
 ghost use Rattle.core_store.specs.Frames.{AllAgree};
 ghost use Rattle.core_store.specs.JournalView.{cells_of};
 ghost use Rattle.logged_journal.specs.View.{history_of};
 ghost use Rattle.latch_table.specs.Views.{first_view, split_left, split_right, joined};
 ghost use Rattle.latch_table.specs.Holds.{IsAlone, MaySplit};
 ghost use Rattle.latch_table.specs.Rule.{IsWhole};
-ghost use Rattle.journal_chronicle.specs.View.{account, origin_of, marks_of};
+ghost use Rattle.journal_chronicle.specs.View.{account, origin_of, notes_of, marks_of, history_after, frame_after, has_transaction};
 ghost use Rattle.shared_store.specs.Passes.{AreMarked, no_refusals, joined_refusals};
 ghost use Rattle.shared_store.specs.Stores.{Peeks};
 
@@ -157,6 +159,11 @@ impl<const SLOTS: usize, D: Disk> Store<SLOTS, D> {
         ensures count { length result.1.items ≡ self.pages }
         ensures whole { IsWhole (account D SLOTS) main.view result.0 result.1.items }
         ensures legal { IsLegal (history_of result.0) }
+
+        // The notes give the history, and tell which client has a transaction and what each page shows.
+        ensures history { history_after SLOTS (origin_of result.0) (notes_of result.0) ≡ history_of result.0 }
+        ensures clients { (client : ℕ) → has_transaction (notes_of result.0) client ≡ is_some (transaction_of (end_of (history_of result.0)).state client) }
+        ensures page { (page : ℕ) (frame : Frame SLOTS) → 8 * page < result.0.journal.history.ids → HoldsPage (cells_of result.0.journal) page frame.page ↔ (frame ≡ frame_after SLOTS (origin_of result.0) (notes_of result.0) page) }
         ensures agree { AllAgree (cells_of result.0.journal) result.1.items }
         ensures marked { AreMarked main.refused (marks_of result.0) }
     {

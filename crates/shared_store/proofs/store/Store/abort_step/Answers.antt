@@ -165,5 +165,6 @@ returns-clause-made g c = λ none.
       before = c.in-Ok.journal;
       after = c.act_abort_step-step.new.journal;
       later = c.in-Ok.ensures.ok.1;
+      covered = c.in-Ok.ensures.once;
       made = subst (λ (n : ℕ). DoesStepOn g.row.SLOTS c.in-Ok.journal c.act_abort_step-step.new.journal n r) c.pass.invariant.number_is (c.act_abort_step-step.ensures.made none);
     })

@@ -91,4 +91,5 @@ returns-clause-made g c =
       memory = e.memory;
       done = λ d. record { held = c.in-Ok.frame.page; holds = holds; cleans = e.done d; images = e.clean d };
       fault = e.fault;
+      later = e.later;
     })

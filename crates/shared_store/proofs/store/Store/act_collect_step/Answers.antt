@@ -1,18 +1,28 @@
-use Rattle.std.proofs.Common.{◌≡◌, None, Ok, Err, refl, sym, ap, subst, ◌∙◌}
+use Rattle.std.proofs.Common.{◌≡◌, map, None, Ok, Err, refl, sym, ap, subst, ◌∙◌}
 use Rattle.std.specs.Prelude.{is_some}
+use Rattle.core_store.specs.declared.note.Note.{Note}
+use Rattle.core_store.specs.JournalView.{JournalView}
 use Rattle.core_store.proofs.MapLaws.{none_from}
 use Rattle.logged_journal.specs.View.{LoggedView}
 use Rattle.shared_store.specs.declared.answers.CollectRefusal.{CollectRefusal}
 use Rattle.shared_store.specs.Acts.{Acts}
 use Rattle.shared_store.specs.Calls.{entered_by_collecting, marked_by_collecting, found_by_collecting}
 use Rattle.shared_store.proofs.Acting.{acts-stopped, acts-on}
-use Rattle.shared_store.proofs.Collects.{acts-looked_found, acts-behind, collect-did}
+use Rattle.shared_store.proofs.Collects.{WasNoted, acts-looked_found, acts-behind, collect-stopped, collect-did}
 use Rattle.shared_store.proofs.store.Store.act_collect_step.Goals as goal
 
 pub returns-in-Some-clause-acts : goal.returns-in-Some-clause-acts
 returns-in-Some-clause-acts g c =
-    let failed = sym (ap (λ (v : LoggedView g.row.D.Denot). is_some v.failed) c.logged.ensures.logged) ∙ ap is_some (sym c.in-Some.ensures.failed) in
+    let failed = sym (ap (λ (v : LoggedView g.row.D.Denot). is_some v.failed) c.logged-2.ensures.logged) ∙ ap is_some (sym c.in-Some.ensures.failed) in
     acts-stopped g.row.SLOTS c.args.hold.now.view c.args.journal.now c.args.held.now c.requires.none.1 c.requires.journal.idle c.requires.none.0 failed
+
+pub returns-in-Some-clause-made : goal.returns-in-Some-clause-made
+returns-in-Some-clause-made g c = λ _.
+    let failed = sym (ap (λ (v : LoggedView g.row.D.Denot). v.failed) c.logged-2.ensures.logged) ∙ sym c.in-Some.ensures.failed in
+    let noted : WasNoted g.row.SLOTS c.args.journal.now.journal
+    = subst (λ (x : JournalView). WasNoted g.row.SLOTS x) (c.journal.ensures.journal ∙ ap (λ (v : LoggedView g.row.D.Denot). v.journal) c.logged.ensures.logged)
+    (record { sound = c.history.ensures.sound; led = c.history.ensures.led; entries = ap (map (λ (n : Note). n.entry)) (sym c.history.ensures.notes) ∙ c.history.ensures.entries }) in
+    collect-stopped g.row.SLOTS c.args.journal.now c.in-Some.failed failed c.know_history.ensures.legal noted
 
 pub returns-in-Err-clause-acts : goal.returns-in-Err-clause-acts
 returns-in-Err-clause-acts g c =
@@ -37,5 +47,8 @@ pub returns-in-Ok-clause-made : goal.returns-in-Ok-clause-made
 returns-in-Ok-clause-made g c = λ _.
     let e = c.claim_for_collector.ensures in
     let d = c.in-Ok.ensures in
-    let running : c.args.journal.now.failed ≡ None = sym (ap (λ (v : LoggedView g.row.D.Denot). v.failed) c.logged.ensures.logged) ∙ (sym c.failed.ensures.failed ∙ none_from c.failed.result (λ x is. c.in_default.not-Some x is)) in
-    collect-did g.row.SLOTS c.args.journal.now c.claim_for_collector.new.journal c.collect_step-step.new.self running e.same e.looks c.know_history-2.ensures.legal d.untouched c.in-Ok.step (d.log_full.1, d.does, d.goes_on)
+    let running : c.args.journal.now.failed ≡ None = sym (ap (λ (v : LoggedView g.row.D.Denot). v.failed) c.logged-2.ensures.logged) ∙ (sym c.failed.ensures.failed ∙ none_from c.failed.result (λ x is. c.in_default.not-Some x is)) in
+    let noted : WasNoted g.row.SLOTS c.args.journal.now.journal
+    = subst (λ (x : JournalView). WasNoted g.row.SLOTS x) (c.journal.ensures.journal ∙ ap (λ (v : LoggedView g.row.D.Denot). v.journal) c.logged.ensures.logged)
+    (record { sound = c.history.ensures.sound; led = c.history.ensures.led; entries = ap (map (λ (n : Note). n.entry)) (sym c.history.ensures.notes) ∙ c.history.ensures.entries }) in
+    collect-did g.row.SLOTS c.args.journal.now c.claim_for_collector.new.journal c.collect_step-step.new.self running e.same e.looks noted c.know_history-2.ensures.legal d.untouched c.in-Ok.step (d.log_full.1, d.does, d.goes_on)

@@ -28,7 +28,7 @@ pub returns-in-Some-clause-made : goal.returns-in-Some-clause-made
 returns-in-Some-clause-made g c =
     let e = c.in-Some.ensures in
     turn-refused g.row.SLOTS g.D.Disk.faults g.D.Disk.may_leave c.args.journal.now c.refuse_turn.new.self c.in-Some.answer
-    (record { stopped = e.stopped; only_stopped = e.only_stopped; full = e.full; marked = e.marked; busy = e.busy; only_busy = e.only_busy; told = e.told; memory = e.memory; never = e.never; free = e.free })
+    (record { stopped = e.stopped; only_stopped = e.only_stopped; full = e.full; marked = e.marked; busy = e.busy; only_busy = e.only_busy; told = e.told; memory = e.memory; never = e.never; free = e.free; untouched = e.untouched })
     c.know_history.ensures.legal
 
 -- ---- it is not
@@ -48,7 +48,7 @@ returns-in_default-with_capacity-clause-made g c =
     let n = c.refuse_turn.ensures in
     let none = none_from c.refuse_turn.result (λ x is. c.in_default.not-Some x is) in
     let refuses = subst (λ (o : Option Upkeep). RefusesTurn g.row.SLOTS j k o) none
-    (record { stopped = n.stopped; only_stopped = n.only_stopped; full = n.full; marked = n.marked; busy = n.busy; only_busy = n.only_busy; told = n.told; memory = n.memory; never = n.never; free = n.free }) in
+    (record { stopped = n.stopped; only_stopped = n.only_stopped; full = n.full; marked = n.marked; busy = n.busy; only_busy = n.only_busy; told = n.told; memory = n.memory; never = n.never; free = n.free; untouched = n.untouched }) in
     turn-no_memory g.row.SLOTS g.D.Disk.faults g.D.Disk.may_leave j k (turn-free g.row.SLOTS j k refuses) (n.free none).1 c.know_history-2.ensures.legal
 
 pub returns-in-Err-clause-acts : goal.returns-in-Err-clause-acts
@@ -96,7 +96,7 @@ returns-clause-made g c =
     let n = c.refuse_turn.ensures in
     let none = none_from c.refuse_turn.result (λ x is. c.in_default.not-Some x is) in
     let refuses = subst (λ (o : Option Upkeep). RefusesTurn g.row.SLOTS j k o) none
-    (record { stopped = n.stopped; only_stopped = n.only_stopped; full = n.full; marked = n.marked; busy = n.busy; only_busy = n.only_busy; told = n.told; memory = n.memory; never = n.never; free = n.free }) in
+    (record { stopped = n.stopped; only_stopped = n.only_stopped; full = n.full; marked = n.marked; busy = n.busy; only_busy = n.only_busy; told = n.told; memory = n.memory; never = n.never; free = n.free; untouched = n.untouched }) in
     turn-behind g.row.SLOTS g.D.Disk.faults g.D.Disk.may_leave j k c.turn-answer.new.self c.turn-answer.result (turn-free g.row.SLOTS j k refuses) (n.free none).1
     (record {
       legal = c.know_history-3.ensures.legal;
@@ -113,4 +113,5 @@ returns-clause-made g c =
       done = e.done;
       turned = e.turned;
       fault = e.fault;
+      later = e.later;
     })

@@ -173,5 +173,6 @@ returns-clause-made g c = λ none.
       before = c.in-Ok.journal;
       after = c.act-reply.new.journal;
       later = c.in-Ok.ensures.ok.1;
+      covered = c.in-Ok.ensures.once;
       made = subst (λ (n : ℕ). DoesCallOn g.row.SLOTS g.D.Disk.faults c.in-Ok.journal c.act-reply.new.journal n c.args.call.now r) c.pass.invariant.number_is (c.act-reply.ensures.made none);
     })

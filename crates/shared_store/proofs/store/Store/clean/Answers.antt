@@ -78,4 +78,4 @@ pub returns-clause-made : goal.returns-clause-made
 returns-clause-made g c =
     let r = c.act_clean-answer.result in
     let is : c.pass.inside.hold.view ≡ c.args.pass.now.view = ap (λ z. z.view) c.pass.view_is in
-    makes-clean g.row.SLOTS g.D.Disk.faults g.D.Disk.may_leave c.pass.inside.hold.view c.args.pass.now.view c.in-Ok.journal c.act_clean-answer.new.journal c.args.page r is c.in-Ok.ensures.ok.1 c.act_clean-answer.ensures.made
+    makes-clean g.row.SLOTS g.D.Disk.faults g.D.Disk.may_leave c.pass.inside.hold.view c.args.pass.now.view c.in-Ok.journal c.act_clean-answer.new.journal c.args.page r is (record { later = c.in-Ok.ensures.ok.1; covered = c.in-Ok.ensures.once }) c.act_clean-answer.ensures.made

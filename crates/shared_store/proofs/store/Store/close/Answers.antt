@@ -1,9 +1,14 @@
-use Rattle.std.proofs.Common.{◌≡◌, ◌*◌, ◌≤◌, length, sym, ap, subst, ◌∙◌, arith}
+use Rattle.std.proofs.Common.{◌≡◌, ℕ, ◌*◌, ◌<◌, ◌≤◌, length, sym, ap, subst, ◌∙◌, arith}
+use Rattle.std.specs.Prelude.{◌↔◌, is_some}
+use Rattle.plain_model.specs.History.{end_of}
+use Rattle.plain_model.specs.Machine.{transaction_of}
+use Rattle.cell_page.specs.Stored.{HoldsPage}
+use Rattle.core_store.specs.declared.frame.Frame.{Frame}
 use Rattle.core_store.specs.JournalView.{cells_of}
 use Rattle.core_store.specs.Frames.{AllAgree}
-use Rattle.logged_journal.specs.View.{LoggedView}
+use Rattle.logged_journal.specs.View.{LoggedView, history_of}
 use Rattle.latch_table.proofs.Frames.{some_is}
-use Rattle.journal_chronicle.specs.View.{Origin, origin_of, marks_of}
+use Rattle.journal_chronicle.specs.View.{Origin, origin_of, notes_of, marks_of, history_after, frame_after, has_transaction}
 use Rattle.shared_store.specs.declared.refused.Refused.{Refused}
 use Rattle.shared_store.specs.Passes.{AreMarked}
 use Rattle.shared_store.proofs.store.Store.close.Goals as goal
@@ -26,3 +31,15 @@ returns-clause-marked g c =
     let m : AreMarked c.args.main.refused c.main.inside.hold.view.knowledge.marks = subst (λ (r : Refused). AreMarked r c.main.inside.hold.view.knowledge.marks) (ap (λ z. z.refused) c.main.view_is) c.main.invariant.marked in
     let w = c.close-journal.ensures.whole.later.marked in
     subst (λ (v : LoggedView g.row.D.Denot). AreMarked c.args.main.refused (marks_of v)) (sym c.into_logged.ensures) (record { disk = λ p. w.0 (m.disk p); trace = λ p. w.1 (m.trace p); log = λ p. w.2 (m.log p) })
+
+pub returns-clause-history : goal.returns-clause-history
+returns-clause-history g c = subst (λ (v : LoggedView g.row.D.Denot). history_after g.row.SLOTS (origin_of v) (notes_of v) ≡ history_of v) (sym c.into_logged.ensures) c.know_history.ensures.history
+
+pub returns-clause-clients : goal.returns-clause-clients
+returns-clause-clients g c =
+    subst (λ (v : LoggedView g.row.D.Denot). (client : ℕ) → has_transaction (notes_of v) client ≡ is_some (transaction_of (end_of (history_of v)).state client)) (sym c.into_logged.ensures) c.know_history.ensures.clients
+
+pub returns-clause-page : goal.returns-clause-page
+returns-clause-page g c =
+    subst (λ (v : LoggedView g.row.D.Denot). (page : ℕ) (frame : Frame g.row.SLOTS) → 8 * page < v.journal.history.ids → HoldsPage (cells_of v.journal) page frame.page ↔ (frame ≡ frame_after g.row.SLOTS (origin_of v) (notes_of v) page)) (sym c.into_logged.ensures)
+    c.know_frames.ensures.page

@@ -79,5 +79,6 @@ returns-clause-made g c = λ none.
       before = c.in-Ok.journal;
       after = c.act_collect_step-step.new.journal;
       later = c.in-Ok.ensures.ok.1;
+      covered = c.in-Ok.ensures.once;
       made = c.act_collect_step-step.ensures.made none;
     })

@@ -78,4 +78,4 @@ pub returns-clause-made : goal.returns-clause-made
 returns-clause-made g c =
     let r = c.act_turn-answer.result in
     let is : c.pass.inside.hold.view ≡ c.args.pass.now.view = ap (λ z. z.view) c.pass.view_is in
-    makes-turn g.row.SLOTS g.D.Disk.faults g.D.Disk.may_leave c.pass.inside.hold.view c.args.pass.now.view c.in-Ok.journal c.act_turn-answer.new.journal r is c.in-Ok.ensures.ok.1 c.act_turn-answer.ensures.made
+    makes-turn g.row.SLOTS g.D.Disk.faults g.D.Disk.may_leave c.pass.inside.hold.view c.args.pass.now.view c.in-Ok.journal c.act_turn-answer.new.journal r is (record { later = c.in-Ok.ensures.ok.1; covered = c.in-Ok.ensures.once }) c.act_turn-answer.ensures.made
