@@ -1,5 +1,5 @@
 -- Answers of steps of the collector: what they enter, name and count, and what the looks before a step come to.
-use Rattle.std.proofs.Common.{◌≡◌, ◌⊎◌, ℕ, Bool, true, false, List, map, Option, Some, None, Result, Ok, Err, refl, sym, ap, ◌∙◌, subst, inl}
+use Rattle.std.proofs.Common.{◌≡◌, ◌⊎◌, ℕ, Bool, true, false, List, Option, Some, None, Result, Ok, Err, refl, sym, ap, ◌∙◌, subst, inl}
 use Rattle.std.specs.Prelude.{is_some, IfOk, IfSome, IsErrOf}
 use Rattle.plain_model.specs.declared.calls.Entry.{Entry}
 use Rattle.plain_model.specs.declared.calls.Entry.TheVariants.{Hidden, Delete}
@@ -9,7 +9,7 @@ use Rattle.core_store.specs.declared.collect.Collect.{Collect}
 use Rattle.core_store.specs.declared.collect.Collect.TheVariants.{Idle, Did, Deleted, TraceFull, Memory}
 use Rattle.core_store.specs.declared.three.HeldFrame.{HeldFrame}
 use Rattle.core_store.specs.Frames.{AreOnce, is_held}
-use Rattle.core_store.specs.JournalView.{JournalView, cells_of, core_of, opening_of}
+use Rattle.core_store.specs.JournalView.{cells_of, core_of, opening_of}
 use Rattle.core_store.specs.Leads.{AreLed}
 use Rattle.core_store.specs.Limited.{is_past_limit}
 use Rattle.core_store.specs.RoundView.{asked, is_event}
@@ -25,6 +25,7 @@ use Rattle.latch_table.specs.Account.{Marks}
 use Rattle.latch_table.specs.Views.{joined_marks, met, no_marks}
 use Rattle.latch_table.specs.Holds.{IsAnother}
 use Rattle.journal_chronicle.specs.Clients.{speaker_of}
+use Rattle.journal_chronicle.specs.View.{history_after, notes_of, origin_of}
 use Rattle.journal_chronicle.specs.Steps.{GoesOnWith, no_page}
 use Rattle.shared_store.specs.declared.answers.CollectRefusal.{CollectRefusal}
 use Rattle.shared_store.specs.declared.answers.CollectRefusal.TheVariants.{Again, Stopped, LogFull}
@@ -38,10 +39,10 @@ use Rattle.shared_store.proofs.Looks.{goes-behind}
 use Rattle.shared_store.proofs.Replies.{marked-disk, marked-trace, marked-log}
 
 -- what the journal was that the pass claimed
-pub record WasNoted (slots : ℕ) (j : JournalView) : Type 0 where
-  pub sound : IsSound (core_of j)
-  pub led : AreLed slots (opening_of j) j.notes (core_of j)
-  pub entries : map (λ n. n.entry) j.notes ≡ j.history.entries
+pub record WasNoted {D : Type 0} (slots : ℕ) (v : LoggedView D) : Type 0 where
+  pub sound : IsSound (core_of v.journal)
+  pub led : AreLed slots (opening_of v.journal) v.journal.notes (core_of v.journal)
+  pub history : history_after slots (origin_of v) (notes_of v) ≡ history_of v
 
 -- it speaks for nobody
 pub collect-speaks : (name : ℕ) (r : Result Collect CollectRefusal) → IfSome (entered_by_collecting r) (λ e. (speaker_of e ≡ None) ⊎ (speaker_of e ≡ Some name))
@@ -72,11 +73,11 @@ marked-collect x a m h (Err LogFull) = marked-log x a m h (refused_by_collecting
 marked-collect x a m h (Err (Again word seat)) = marked-joined x a (joined_marks m (marked_by_collecting (Err (Again word seat)))) h
 
 -- the disk had failed a call
-pub collect-stopped : {D : Type 0} (slots : ℕ) (j : LoggedView D) (f : FailedCall) → j.failed ≡ Some f → IsLegal (history_of j) → WasNoted slots j.journal → DoesCollectOn slots j j (Err (Stopped f.faults))
+pub collect-stopped : {D : Type 0} (slots : ℕ) (j : LoggedView D) (f : FailedCall) → j.failed ≡ Some f → IsLegal (history_of j) → WasNoted slots j → DoesCollectOn slots j j (Err (Stopped f.faults))
 collect-stopped {D} slots j f failed legal noted = record {
   sound = noted.sound;
   led = noted.led;
-  entries = noted.entries;
+  history = noted.history;
   legal = legal;
   stopped = let r : Result Collect CollectRefusal = Err (Stopped f.faults) in subst (λ (o : Option FailedCall). IfSome o (λ x. (r ≡ Err (Stopped x.faults)) × (j ≡ j))) (sym failed) (refl, refl);
   only_stopped = λ n e. ap is_some failed;
@@ -117,7 +118,7 @@ acts-behind slots v w i j k held entered marked found look a = record {
 
 -- ---- a step of the journal behind looks
 
-module _ {D : Type 0} (slots : ℕ) (i j k : LoggedView D) (running : i.failed ≡ None) (same : j ≡ record i { journal = j.journal }) (looks : OnlyLooks slots i.journal j.journal) (noted : WasNoted slots i.journal) (legal : IsLegal (history_of k)) (kept : KeepsDisk j k) where
+module _ {D : Type 0} (slots : ℕ) (i j k : LoggedView D) (running : i.failed ≡ None) (same : j ≡ record i { journal = j.journal }) (looks : OnlyLooks slots i.journal j.journal) (noted : WasNoted slots i) (legal : IsLegal (history_of k)) (kept : KeepsDisk j k) where
   none-stopped : (r : Result Collect CollectRefusal) → IfSome i.failed (λ f. (r ≡ Err (Stopped f.faults)) × (k ≡ i))
   none-stopped r = subst (λ (o : Option FailedCall). IfSome o (λ f. (r ≡ Err (Stopped f.faults)) × (k ≡ i))) (sym running) tt
 
@@ -126,7 +127,7 @@ module _ {D : Type 0} (slots : ℕ) (i j k : LoggedView D) (running : i.failed �
   collect-did step did = record {
     sound = noted.sound;
     led = noted.led;
-    entries = noted.entries;
+    history = noted.history;
     legal = legal;
     stopped = none-stopped (Ok step);
     only_stopped = λ n e. absurd (cc);
@@ -142,7 +143,7 @@ module _ {D : Type 0} (slots : ℕ) (i j k : LoggedView D) (running : i.failed �
   collect-full event past marked = record {
     sound = noted.sound;
     led = noted.led;
-    entries = noted.entries;
+    history = noted.history;
     legal = legal;
     stopped = none-stopped (Err LogFull);
     only_stopped = λ n e. absurd (cc);

@@ -1,5 +1,5 @@
 -- What calls of a pass do.
-use Rattle.std.specs.Prelude.{◌≡◌, ◌≢◌, ◌⊎◌, ◌↔◌, ℕ, ◌+◌, ◌≤◌, Bool, true, false, List, [], ◌∷◌, ◌++◌, map, length, Option, Some, None, Result, Ok, Err, IfSome, IsSome, IfOk}
+use Rattle.std.specs.Prelude.{◌≡◌, ◌≢◌, ◌⊎◌, ◌↔◌, ℕ, ◌+◌, ◌≤◌, Bool, true, false, List, [], ◌∷◌, ◌++◌, length, Option, Some, None, Result, Ok, Err, IfSome, IsSome, IfOk}
 use Rattle.plain_model.specs.declared.calls.Call.{Call as TransactionCall}
 use Rattle.plain_model.specs.declared.calls.Call.TheVariants.{Commit}
 use Rattle.plain_model.specs.declared.calls.Reply.{Reply}
@@ -25,7 +25,7 @@ use Rattle.latch_table.specs.Views.{KeepMarks, no_marks}
 use Rattle.latch_table.specs.Holds.{HasNone, IsAlone, IsAnother}
 use Rattle.latch_table.specs.Rule.{IsLater, KeepsEachOnce}
 use Rattle.journal_chronicle.specs.Steps.{entered_by_abort_step, entered_by_collect_step, marked_by_collect_step, disk_mark, log_mark}
-use Rattle.journal_chronicle.specs.View.{account, has_transaction, notes_of}
+use Rattle.journal_chronicle.specs.View.{account, has_transaction, history_after, notes_of, origin_of}
 use Rattle.shared_store.specs.declared.answers.StepRefusal.{StepRefusal}
 use Rattle.shared_store.specs.declared.answers.StepRefusal.TheVariants as step
 use Rattle.shared_store.specs.declared.answers.CollectRefusal.{CollectRefusal}
@@ -194,10 +194,10 @@ refused_by_collecting _ r = r
 
 -- the journal makes an event of the collector and answers so; where it is stopped or the log is full it does nothing but looks
 pub record DoesCollectOn {D : Type 0} (slots : ℕ) (before after : LoggedView D) (result : Result Collect CollectRefusal) : Type 0 where
-  -- what the journal was: sound, as its notes give it, one note for each entry
+  -- what the journal was: sound, and as its notes give it, with the history that they give
   pub sound : IsSound (core_of before.journal)
   pub led : AreLed slots (opening_of before.journal) before.journal.notes (core_of before.journal)
-  pub entries : map (λ n. n.entry) before.journal.notes ≡ before.journal.history.entries
+  pub history : history_after slots (origin_of before) (notes_of before) ≡ history_of before
   pub legal : IsLegal (history_of after)
   pub stopped : IfSome before.failed (λ f. (result ≡ Err (refusal.Stopped f.faults)) × (after ≡ before))
   pub only_stopped : (n : ℕ) → result ≡ Err (refusal.Stopped n) → IsSome before.failed

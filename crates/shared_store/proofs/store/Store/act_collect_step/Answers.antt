@@ -1,7 +1,8 @@
-use Rattle.std.proofs.Common.{◌≡◌, map, None, Ok, Err, refl, sym, ap, subst, ◌∙◌}
+use Rattle.std.proofs.Common.{◌≡◌, None, Ok, Err, refl, sym, ap, subst, ◌∙◌}
 use Rattle.std.specs.Prelude.{is_some}
-use Rattle.core_store.specs.declared.note.Note.{Note}
-use Rattle.core_store.specs.JournalView.{JournalView}
+use Rattle.store_model.specs.Sound.{IsSound}
+use Rattle.core_store.specs.JournalView.{JournalView, core_of, opening_of}
+use Rattle.core_store.specs.Leads.{AreLed}
 use Rattle.core_store.proofs.MapLaws.{none_from}
 use Rattle.logged_journal.specs.View.{LoggedView}
 use Rattle.shared_store.specs.declared.answers.CollectRefusal.{CollectRefusal}
@@ -19,9 +20,13 @@ returns-in-Some-clause-acts g c =
 pub returns-in-Some-clause-made : goal.returns-in-Some-clause-made
 returns-in-Some-clause-made g c = λ _.
     let failed = sym (ap (λ (v : LoggedView g.row.D.Denot). v.failed) c.logged-2.ensures.logged) ∙ sym c.in-Some.ensures.failed in
-    let noted : WasNoted g.row.SLOTS c.args.journal.now.journal
-    = subst (λ (x : JournalView). WasNoted g.row.SLOTS x) (c.journal.ensures.journal ∙ ap (λ (v : LoggedView g.row.D.Denot). v.journal) c.logged.ensures.logged)
-    (record { sound = c.history.ensures.sound; led = c.history.ensures.led; entries = ap (map (λ (n : Note). n.entry)) (sym c.history.ensures.notes) ∙ c.history.ensures.entries }) in
+    let same = c.journal.ensures.journal ∙ ap (λ (v : LoggedView g.row.D.Denot). v.journal) c.logged.ensures.logged in
+    let noted : WasNoted g.row.SLOTS c.args.journal.now
+    = record {
+      sound = subst (λ (x : JournalView). IsSound (core_of x)) same c.history.ensures.sound;
+      led = subst (λ (x : JournalView). AreLed g.row.SLOTS (opening_of x) x.notes (core_of x)) same c.history.ensures.led;
+      history = c.know_history.ensures.history;
+    } in
     collect-stopped g.row.SLOTS c.args.journal.now c.in-Some.failed failed c.know_history.ensures.legal noted
 
 pub returns-in-Err-clause-acts : goal.returns-in-Err-clause-acts
@@ -48,7 +53,11 @@ returns-in-Ok-clause-made g c = λ _.
     let e = c.claim_for_collector.ensures in
     let d = c.in-Ok.ensures in
     let running : c.args.journal.now.failed ≡ None = sym (ap (λ (v : LoggedView g.row.D.Denot). v.failed) c.logged-2.ensures.logged) ∙ (sym c.failed.ensures.failed ∙ none_from c.failed.result (λ x is. c.in_default.not-Some x is)) in
-    let noted : WasNoted g.row.SLOTS c.args.journal.now.journal
-    = subst (λ (x : JournalView). WasNoted g.row.SLOTS x) (c.journal.ensures.journal ∙ ap (λ (v : LoggedView g.row.D.Denot). v.journal) c.logged.ensures.logged)
-    (record { sound = c.history.ensures.sound; led = c.history.ensures.led; entries = ap (map (λ (n : Note). n.entry)) (sym c.history.ensures.notes) ∙ c.history.ensures.entries }) in
+    let same = c.journal.ensures.journal ∙ ap (λ (v : LoggedView g.row.D.Denot). v.journal) c.logged.ensures.logged in
+    let noted : WasNoted g.row.SLOTS c.args.journal.now
+    = record {
+      sound = subst (λ (x : JournalView). IsSound (core_of x)) same c.history.ensures.sound;
+      led = subst (λ (x : JournalView). AreLed g.row.SLOTS (opening_of x) x.notes (core_of x)) same c.history.ensures.led;
+      history = c.know_history.ensures.history;
+    } in
     collect-did g.row.SLOTS c.args.journal.now c.claim_for_collector.new.journal c.collect_step-step.new.self running e.same e.looks noted c.know_history-2.ensures.legal d.untouched c.in-Ok.step (d.log_full.1, d.does, d.goes_on)
