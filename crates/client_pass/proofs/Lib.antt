@@ -1,0 +1,12 @@
+pub mod Tries
+pub mod Makings
+pub mod Asked
+pub mod Levels
+pub mod Lasts
+pub mod Events
+pub mod Names
+pub mod Kept
+pub mod Together
+pub mod Refusals
+pub mod Ended
+mod Examples

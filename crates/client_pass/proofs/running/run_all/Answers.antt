@@ -1,0 +1,5 @@
+use Rattle.client_pass.proofs.Together.{runs-behind}
+use Rattle.client_pass.proofs.running.run_all.Goals as goal
+
+pub returns-in-Finished-clause-runs : goal.returns-in-Finished-clause-runs
+returns-in-Finished-clause-runs g c = runs-behind c.args.main.now.view c.run_beside.new.main.view c.collect_rest.new.main.view c.args.scripts.now c.run_beside.result c.collect_rest.result (λ _. c.in-Finished.is) c.run_beside.ensures.runs c.collect_rest.ensures.collects

@@ -1,0 +1,4 @@
+pub mod Attempts
+pub mod Scripts
+pub mod Workings
+pub mod Runs

@@ -1,0 +1,112 @@
+-- What the calls of a client's pass leave.
+use Rattle.std.specs.Prelude.{◌≡◌, ◌⊎◌, ℕ, ◌+◌, ◌≤◌, false, List, [], ◌∷◌, ◌++◌, map, Option, Some, None, Result, Ok, Err, IfOk, IfErr}
+use Rattle.std.specs.List.{AllByRecursion}
+use Rattle.plain_model.specs.declared.calls.Call.{Call}
+use Rattle.plain_model.specs.declared.calls.Reply.{Reply}
+use Rattle.plain_model.specs.declared.calls.Reply.TheVariants as reply
+use Rattle.core_store.specs.declared.note.Note.{Note}
+use Rattle.latch_table.specs.Views.{KeepMarks}
+use Rattle.journal_chronicle.specs.Clients.{speaker_of}
+use Rattle.shared_store.specs.declared.refused.Refused.{Refused}
+use Rattle.shared_store.specs.Passes.{Known}
+use Rattle.shared_store.specs.Calls.{refused_by_call}
+use Rattle.client_pass.specs.declared.ends.WorkEnd.{WorkEnd}
+use Rattle.client_pass.specs.declared.ends.WorkEnd.TheVariants.{Finished, Disk, Limit, Memory}
+use Rattle.client_pass.specs.Attempts.{Answered, calls_in, has_after, Attempts, Begun}
+
+-- ---- entries that a pass keeps, each with its place in the history
+
+-- the places ascend, the first being at least this number; the second number is that behind the last place
+abbrev pub Ascend : ℕ → List (ℕ × Note) → ℕ → Type 0
+Ascend least [] behind = behind ≡ least
+Ascend least (k ∷ kept) behind = (least ≤ k.0) × Ascend (k.0 + 1) kept behind
+
+-- each is of a call or an undo of this client
+abbrev pub AreOfClient : ℕ → List (ℕ × Note) → Type 0
+AreOfClient client kept = AllByRecursion (λ k. speaker_of k.1.entry ≡ Some client) kept
+
+-- the client's calls among them
+abbrev pub calls_of : ℕ → List (ℕ × Note) → List Answered
+calls_of client kept = calls_in client (map (λ k. k.1.entry) kept)
+
+-- ---- calls of one pass
+
+-- the pass keeps these entries more, each at a place that isn't below what it had seen then
+pub record KeepsAll {slots : ℕ} (old new : Known slots) (kept : List (ℕ × Note)) : Type 0 where
+  pub station : new.station ≡ old.station
+  pub fixed : new.knowledge.fixed ≡ old.knowledge.fixed
+  pub peeks : new.knowledge.peeks ≡ old.knowledge.peeks
+  pub marks : KeepMarks old.knowledge.marks new.knowledge.marks
+  pub entries : new.knowledge.entries ≡ old.knowledge.entries ++ kept
+  pub places : Ascend old.knowledge.seen kept new.knowledge.seen
+
+-- the pass's client made calls that are such, one after another, and the pass keeps them
+pub record Makes {slots : ℕ} (old new : Known slots) (AreSuch : List Answered → Type 0) : Type 0 where
+  pub kept : List (ℕ × Note)
+  pub keeps : KeepsAll old new kept
+  pub own : AreOfClient old.station.name kept
+  pub made : List Answered
+  pub made_is : made ≡ calls_of old.station.name kept
+  pub truth : new.knowledge.truth ≡ has_after old.knowledge.truth made
+  pub such : AreSuch made
+
+-- no call
+abbrev pub AreNone : List Answered → Type 0
+AreNone made = made ≡ []
+
+-- this call alone, answered so
+abbrev pub IsOne : Call → Reply → List Answered → Type 0
+IsOne call r made = made ≡ (call, r) ∷ []
+
+-- the call was refused, or it was a commit that the disk failed
+abbrev pub IsCutOff : Call → List Answered → Type 0
+IsCutOff call made = (made ≡ []) ⊎ (made ≡ (call, reply.DiskFault) ∷ [])
+
+-- ---- how a client's work ends
+
+-- the end of the work that the reply means, if it means one
+abbrev pub end_of : Reply → Option WorkEnd
+end_of (reply.Stopped faults) = Some (Disk (reply.Stopped faults))
+end_of reply.DiskFault = Some (Disk reply.DiskFault)
+end_of reply.TraceFull = Some (Limit reply.TraceFull)
+end_of reply.LogFull = Some (Limit reply.LogFull)
+end_of reply.Memory = Some Memory
+end_of _ = None
+
+-- an end that a reply means
+abbrev pub IsEnd : WorkEnd → Type 0
+IsEnd (Disk r) = end_of r ≡ Some (Disk r)
+IsEnd (Limit r) = end_of r ≡ Some (Limit r)
+IsEnd Memory = Unit {0}
+IsEnd Finished = ⊥
+
+-- how much an end weighs: that of the disk more than that of a limit, and this more than want of memory
+abbrev pub weight : WorkEnd → ℕ
+weight Finished = 0
+weight Memory = 1
+weight (Limit r) = 2
+weight (Disk r) = 3
+
+-- the counts of refusals: the reply that ended the work is the only one that is counted
+abbrev pub refused_by_work : WorkEnd → Refused → Refused
+refused_by_work (Disk r) refused = refused_by_call r refused
+refused_by_work (Limit r) refused = refused_by_call r refused
+refused_by_work _ refused = refused
+
+-- the same, where the work may go on
+abbrev pub refused_after : {T : Type 0} → Result T WorkEnd → Refused → Refused
+refused_after (Ok x) refused = refused
+refused_after (Err end) refused = refused_by_work end refused
+
+-- of an abort of a transaction: it is done, or nothing was entered but undone writes
+pub record Aborts {slots : ℕ} (old new : Known slots) (result : Result Reply WorkEnd) : Type 0 where
+  pub ok : IfOk result (λ r. r ≡ reply.Done)
+  pub err : IfErr result (λ end. Makes old new AreNone)
+
+-- The pass's client does these transactions, up to an end. It makes no call but those of its attempts, and the pass keeps them all.
+pub record DoesTransactions {slots : ℕ} (old new : Known slots) (transactions : List (List Call)) (end : WorkEnd) : Type 0 where
+  pub kept : List (ℕ × Note)
+  pub keeps : KeepsAll old new kept
+  pub own : AreOfClient old.station.name kept
+  pub begun : Begun (Attempts transactions) (calls_of old.station.name kept)
+  pub finished : end ≡ Finished → Attempts transactions (calls_of old.station.name kept) × (new.knowledge.truth ≡ false)
