@@ -9,4 +9,10 @@ pub mod Kept
 pub mod Together
 pub mod Refusals
 pub mod Ended
+pub mod KeptLemmas
+pub mod EndLemmas
+pub mod SameLogs
+pub mod FewScripts
+pub mod StoredIds
 mod Examples
+mod KeptExamples
