@@ -8,11 +8,11 @@ pub mod Names
 pub mod Kept
 pub mod Together
 pub mod Refusals
-pub mod Ended
 pub mod KeptLemmas
 pub mod EndLemmas
 pub mod SameLogs
 pub mod FewScripts
 pub mod StoredIds
+pub mod LogOfRuns
 mod Examples
 mod KeptExamples

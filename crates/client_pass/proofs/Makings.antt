@@ -104,12 +104,12 @@ module _ {slots : ℕ} where
     such = refl;
   }
 
-  keeps-one : (u v : Known slots) (e : Entry) (found : Option (ℕ × ℕ)) → (g : GoesOnAs u v (Some e) found) → (k : ℕ × Note) × (k.1.entry ≡ e) × KeepsAll u v (k ∷ [])
+  pub keeps-one : (u v : Known slots) (e : Entry) (found : Option (ℕ × ℕ)) → (g : GoesOnAs u v (Some e) found) → (k : ℕ × Note) × (k.1.entry ≡ e) × KeepsAll u v (k ∷ [])
   keeps-one u v e found g =
       let k = g.entries in
       ((length k.before, k.note), k.of_entry, record { station = g.station; fixed = g.fixed; peeks = g.peeks; marks = g.marks; entries = k.kept; places = (k.later, k.seen) })
 
-  truth-one : (u v : Known slots) (e : Entry) → Keeps u v e → v.knowledge.truth ≡ has_after_entry u.station.name u.knowledge.truth e
+  pub truth-one : (u v : Known slots) (e : Entry) → Keeps u v e → v.knowledge.truth ≡ has_after_entry u.station.name u.knowledge.truth e
   truth-one u v e k = k.has ∙ (has-more k.before k.note e u.station.name k.of_entry ∙ ap (λ b. has_after_entry u.station.name b e) (sym k.had))
 
   -- it entered the call
