@@ -8,8 +8,8 @@ use Rattle.disk_model.specs.Told.{IsImage}
 use Rattle.disk_model.proofs.Moments.{no_call}
 use Rattle.store_opening.specs.Looks.{IsLookedAt}
 use Rattle.script_lines.specs.Numbers.{number_of, pages_of}
-use Rattle.brahma_shell.specs.declared.command.Command.{Command}
-use Rattle.brahma_shell.specs.declared.command.Command.TheVariants.{Init, Replay, Gen, Audit}
+use Rattle.brahma_shell.specs.declared.commands.Command.{Command}
+use Rattle.brahma_shell.specs.declared.commands.Command.TheVariants.{Init, Replay, Run, Gen, Audit}
 use Rattle.brahma_shell.specs.declared.gen_words.Asked.{Asked}
 use Rattle.brahma_shell.specs.declared.ended.Ended.{Ended}
 use Rattle.brahma_shell.specs.declared.ended.Ended.TheVariants.{Shut, Kept}
@@ -17,8 +17,10 @@ use Rattle.logged_journal.specs.View.{LoggedView}
 use Rattle.brahma_shell.specs.GenWords.{asked_of}
 use Rattle.brahma_shell.specs.Commands.{command_of}
 use Rattle.brahma_shell.specs.Ended.{disk_in}
-use Rattle.brahma_shell.specs.Top.{IsStatusOfReplay, GoesLater, Outside, Ends, AlwaysOpens, CanBeDone, Unopened, Replayed, Audited, Generated, Made, Answered}
-use Rattle.brahma_shell.proofs.CompleteLemmas.{made-open, unopened-open, unopened-closed, unopened-memory, replayed-open, replayed-done, audited-open, audited-done, generated-open, generated-done}
+use Rattle.brahma_shell.specs.Top.{IsStatusOfReplay, GoesLater, Outside, Ends, AlwaysOpens, Unopened, Replayed, Audited, Generated, Made}
+use Rattle.brahma_shell.specs.Ran.{Ran}
+use Rattle.brahma_shell.specs.Answered.{CanBeDone, Answered}
+use Rattle.brahma_shell.proofs.CompleteLemmas.{made-open, unopened-open, unopened-closed, unopened-memory, replayed-open, replayed-done, audited-open, audited-done, generated-open, generated-done, ran-open, ran-done}
 
 none-some : (o : Option Command) (c : Command) → o ≡ None → o ≡ Some c → ⊥
 none-some None c e f = cc (f)
@@ -46,6 +48,19 @@ replay-gen o a e f = let h : Some Replay ≡ Some (Gen a) = sym e ∙ f in absur
 
 audit-gen : (o : Option Command) (a : Asked) → o ≡ Some Audit → o ≡ Some (Gen a) → ⊥
 audit-gen o a e f = let h : Some Audit ≡ Some (Gen a) = sym e ∙ f in absurd (cc (h))
+
+-- nor is a run of clients asked
+init-run : (o : Option Command) (p : ℕ) → o ≡ Some (Init p) → o ≡ Some Run → ⊥
+init-run o p e f = let h : Some (Init p) ≡ Some Run = sym e ∙ f in absurd (cc (h))
+
+replay-run : (o : Option Command) → o ≡ Some Replay → o ≡ Some Run → ⊥
+replay-run o e f = let h : Some Replay ≡ Some Run = sym e ∙ f in absurd (cc (h))
+
+audit-run : (o : Option Command) → o ≡ Some Audit → o ≡ Some Run → ⊥
+audit-run o e f = let h : Some Audit ≡ Some Run = sym e ∙ f in absurd (cc (h))
+
+gen-run : (o : Option Command) (a : Asked) → o ≡ Some (Gen a) → o ≡ Some Run → ⊥
+gen-run o a e f = let h : Some (Gen a) ≡ Some Run = sym e ∙ f in absurd (cc (h))
 
 same-asked : (o : Option Command) (a b : Asked) → o ≡ Some (Gen a) → o ≡ Some (Gen b) → a ≡ b
 same-asked o a b e f = let h : Some (Gen a) ≡ Some (Gen b) = sym e ∙ f in cc (h)
@@ -92,6 +107,15 @@ gen-opened status is e =
     (λ is. ⊎_elim (λ h. omega (arith, h, e))
     (λ is. ⊎_elim (λ h. omega (arith, h, e)) (λ h. omega (arith, h, e)) is) is) is) is
 
+run-opened : (status : ℕ) → (status ≡ 0) ⊎ ((status ≡ 3) ⊎ ((status ≡ 4) ⊎ ((status ≡ 5) ⊎ ((status ≡ 6) ⊎ ((status ≡ 8) ⊎ (status ≡ 9)))))) → status ≡ 7 → ⊥
+run-opened status is e =
+    ⊎_elim (λ h. omega (arith, h, e))
+    (λ is. ⊎_elim (λ h. omega (arith, h, e))
+    (λ is. ⊎_elim (λ h. omega (arith, h, e))
+    (λ is. ⊎_elim (λ h. omega (arith, h, e))
+    (λ is. ⊎_elim (λ h. omega (arith, h, e))
+    (λ is. ⊎_elim (λ h. omega (arith, h, e)) (λ h. omega (arith, h, e)) is) is) is) is) is) is
+
 -- ---- a number of pages
 
 both : (a b : Bool) → (a && b) ≡ true → (a ≡ true) × (b ≡ true)
@@ -116,10 +140,11 @@ mapped : (o : Option ℕ) (p : ℕ) → option_map Init o ≡ Some (Init p) → 
 mapped None p e = absurd (cc (e))
 mapped (Some n) p e = cc (e)
 
-one-word : (a b : Bool) (p : ℕ) → (if a then Some Replay else if b then Some Audit else None) ≡ Some (Init p) → ⊥
-one-word true b p e = absurd (cc (e))
-one-word false true p e = absurd (cc (e))
-one-word false false p e = absurd (cc (e))
+one-word : (a b c : Bool) (p : ℕ) → (if a then Some Replay else if b then Some Run else if c then Some Audit else None) ≡ Some (Init p) → ⊥
+one-word true b c p e = absurd (cc (e))
+one-word false true c p e = absurd (cc (e))
+one-word false false true p e = absurd (cc (e))
+one-word false false false p e = absurd (cc (e))
 
 two-words : (a : Bool) (o : Option ℕ) (p : ℕ) → (if a then option_map Init o else None) ≡ Some (Init p) → o ≡ Some p
 two-words true o p e = mapped o p e
@@ -133,7 +158,7 @@ more-words false o p e = absurd (cc (e))
 -- `init` is asked with a number of pages from 1 to 1,024
 pub pages-within : (words : List (List ℕ)) (p : ℕ) → Some (Init p) ≡ command_of words → (1 ≤ p) × (p ≤ 1024)
 pages-within [] p e = absurd (cc (e))
-pages-within (word ∷ []) p e = absurd (one-word (bytes_eq word (codes "replay")) (bytes_eq word (codes "audit")) p (sym e))
+pages-within (word ∷ []) p e = absurd (one-word (bytes_eq word (codes "replay")) (bytes_eq word (codes "run")) (bytes_eq word (codes "audit")) p (sym e))
 pages-within (word ∷ number ∷ []) p e = within (number_of number) p (two-words (bytes_eq word (codes "init")) (pages_of number) p (sym e))
 pages-within (word ∷ number ∷ other ∷ words) p e = absurd (more-words (bytes_eq word (codes "gen")) (asked_of (number ∷ other ∷ words)) p (sym e))
 
@@ -154,12 +179,13 @@ module _ {S D : Type 0} (content : D → Area → Option (List ℕ)) (may_leave 
     unread = λ _. (same, back, ends);
     made = λ pages e. absurd (none-some (command_of words) (Init pages) none e);
     replayed = λ e. absurd (none-some (command_of words) Replay none e);
+    ran = λ e. absurd (none-some (command_of words) Run none e);
     audited = λ e. absurd (none-some (command_of words) Audit none e);
     generated = λ a e. absurd (none-some (command_of words) (Gen a) none e);
     makes_open = λ pages e. absurd (none-some (command_of words) (Init pages) none e);
     stays_open = λ tell ids opens other. subst (λ (e : Ended D). AlwaysOpens may_leave ids (disk_in e)) (sym back) opens;
     complete = λ tell command e. absurd (none-some (command_of words) command none e);
-    refuses = λ image reads closed ask. absurd (⊎_elim (none-some (command_of words) Replay none) (λ h. ⊎_elim (none-some (command_of words) Audit none) (λ g. none-some (command_of words) (Gen g.0) none g.1) h) ask);
+    refuses = λ image reads closed ask. absurd (⊎_elim (none-some (command_of words) Replay none) (λ h. ⊎_elim (none-some (command_of words) Run none) (λ h. ⊎_elim (none-some (command_of words) Audit none) (λ g. none-some (command_of words) (Gen g.0) none g.1) h) h) ask);
     only_refused = λ tell seven. absurd (omega (arith, two, seven));
   }
 
@@ -174,12 +200,13 @@ module _ {S D : Type 0} (content : D → Area → Option (List ℕ)) (may_leave 
         unread = λ two. absurd (not-usage status is two);
         made = λ other e. (same, subst (λ (n : ℕ). Made may_leave moment left_since disk n before after status ended) (same-pages (command_of words) pages other asked e) made);
         replayed = λ e. absurd (init-replay (command_of words) pages asked e);
+        ran = λ e. absurd (init-run (command_of words) pages asked e);
         audited = λ e. absurd (init-audit (command_of words) pages asked e);
         generated = λ a e. absurd (init-gen (command_of words) pages a asked e);
         makes_open = λ other e not_six. subst (λ (n : ℕ). AlwaysOpens may_leave (8 * n) (disk_in ended)) (same-pages (command_of words) pages other asked e) (made-open may_leave (disk_in ended) pages (pages-within words pages (sym asked)).0 (made.opens not_six));
         stays_open = λ tell ids opens other. absurd (other pages asked);
         complete = λ tell command e can reads writes faults. ⊎_elim (λ zero. inl zero) (λ h. ⊎_elim (λ five. absurd (writes (made.write five).0)) (λ six. absurd (faults (made.failed six).0)) h) made.statuses;
-        refuses = λ image reads closed ask. absurd (⊎_elim (init-replay (command_of words) pages asked) (λ h. ⊎_elim (init-audit (command_of words) pages asked) (λ g. init-gen (command_of words) pages g.0 asked g.1) h) ask);
+        refuses = λ image reads closed ask. absurd (⊎_elim (init-replay (command_of words) pages asked) (λ h. ⊎_elim (init-run (command_of words) pages asked) (λ h. ⊎_elim (init-audit (command_of words) pages asked) (λ g. init-gen (command_of words) pages g.0 asked g.1) h) h) ask);
         only_refused = λ tell seven. absurd (not-refused status made.statuses seven);
       }
 
@@ -193,6 +220,7 @@ module _ {S D : Type 0} (content : D → Area → Option (List ℕ)) (may_leave 
     unread = λ two. absurd (not-usage status is two);
     made = λ pages e. absurd (init-replay (command_of words) pages e asked);
     replayed = λ _. replayed;
+    ran = λ e. absurd (replay-run (command_of words) asked e);
     audited = λ e. absurd (replay-audit (command_of words) asked e);
     generated = λ a e. absurd (replay-gen (command_of words) a asked e);
     makes_open = λ pages e. absurd (init-replay (command_of words) pages e asked);
@@ -216,6 +244,7 @@ module _ {S D : Type 0} (content : D → Area → Option (List ℕ)) (may_leave 
         unread = λ two. absurd (not-usage status is two);
         made = λ pages e. absurd (init-audit (command_of words) pages e asked);
         replayed = λ e. absurd (replay-audit (command_of words) e asked);
+        ran = λ e. absurd (audit-run (command_of words) asked e);
         audited = λ _. (same, audited);
         generated = λ a e. absurd (audit-gen (command_of words) a asked e);
         makes_open = λ pages e. absurd (init-audit (command_of words) pages e asked);
@@ -240,6 +269,7 @@ module _ {S D : Type 0} (content : D → Area → Option (List ℕ)) (may_leave 
         unread = λ two. absurd (not-usage status is two);
         made = λ pages e. absurd (init-gen (command_of words) pages a e asked);
         replayed = λ e. absurd (replay-gen (command_of words) a e asked);
+        ran = λ e. absurd (gen-run (command_of words) a asked e);
         audited = λ e. absurd (audit-gen (command_of words) a e asked);
         generated = λ b e. (same, subst (λ (x : Asked). Unopened content may_leave moment left_since disk before after status ended ⊎ ((v : LoggedView D) × (ended ≡ Kept v) × Generated content may_leave x disk before after status v)) (same-asked (command_of words) a b asked e) generated);
         makes_open = λ pages e. absurd (init-gen (command_of words) pages a e asked);
@@ -250,6 +280,28 @@ module _ {S D : Type 0} (content : D → Area → Option (List ℕ)) (may_leave 
         refuses = λ image reads closed ask. ⊎_elim (λ u. u) (λ g. absurd (closed g.0.journal.opening (g.2.opened image reads))) generated;
         only_refused = λ tell seven image reads. ⊎_elim (λ u. unopened-closed content may_leave moment left_since disk before after status ended u seven image reads) (λ g. absurd (gen-opened status g.2.statuses seven)) generated;
       }
+
+  pub asks-run : command_of words ≡ Some Run → IsStatusOfReplay status → (later ≡ script) × Unopened content may_leave moment left_since disk before after status ended ⊎ ((v : LoggedView D) × (ended ≡ Kept v) × Ran content may_leave disk before after status v)
+      → Answered content may_leave moment left_since words script later disk before after status ended
+  asks-run asked is ran = record {
+    usage = (λ two. absurd (not-usage status is two), λ none. absurd (none-some (command_of words) Run none asked));
+    statuses = inr is;
+    goes_later = goes;
+    only_looks = λ other image reads closed. ⊎_elim (λ u. u.1.refused.only_looks image reads closed) (λ r. absurd (closed r.0.journal.opening (r.2.opened image reads))) ran;
+    unread = λ two. absurd (not-usage status is two);
+    made = λ pages e. absurd (init-run (command_of words) pages e asked);
+    replayed = λ e. absurd (replay-run (command_of words) e asked);
+    ran = λ _. ran;
+    audited = λ e. absurd (audit-run (command_of words) e asked);
+    generated = λ a e. absurd (gen-run (command_of words) a e asked);
+    makes_open = λ pages e. absurd (init-run (command_of words) pages e asked);
+    stays_open = λ tell ids opens other. ⊎_elim (λ u. unopened-open content may_leave moment left_since disk before after status ended u.1 stay counts tell ids opens) (λ r. ran-open content may_leave disk before after status r.0 r.2 stay tell ids opens ended r.1) ran;
+    complete = λ tell command e can reads writes faults.
+        let c = subst (CanBeDone may_leave disk before.left) (same-command (command_of words) command Run e asked) can in
+        ⊎_elim (λ u. unopened-memory content may_leave moment left_since disk before after status ended u.1 stay tell c.0 c.1 faults) (λ r. ran-done content may_leave disk before after status r.0 r.2 stay tell c.0 c.1 c.2 reads writes faults) ran;
+    refuses = λ image reads closed ask. ⊎_elim (λ u. u.1) (λ r. absurd (closed r.0.journal.opening (r.2.opened image reads))) ran;
+    only_refused = λ tell seven image reads. ⊎_elim (λ u. unopened-closed content may_leave moment left_since disk before after status ended u.1 seven image reads) (λ r. absurd (run-opened status r.2.statuses seven)) ran;
+  }
 
 -- ---- the command that was read
 

@@ -23,6 +23,8 @@ use Rattle.brahma_shell.specs.declared.ended.Ended.{Ended}
 use Rattle.brahma_shell.specs.declared.ended.Ended.TheVariants.{Kept}
 use Rattle.brahma_shell.specs.declared.gen_words.Asked.{Asked}
 use Rattle.brahma_shell.specs.Ended.{disk_in}
+use Rattle.brahma_shell.specs.ClientLines.{HasOnlyClients}
+use Rattle.brahma_shell.specs.Ran.{Ran}
 use Rattle.brahma_shell.specs.Top.{Tell, AlwaysOpens, HasOnlyLines, IsDoneOrFull, Outside, Unopened, Replayed, Audited, Generated, status_of_refusal}
 use Rattle.brahma_shell.proofs.CrashLemmas.{read-image}
 use Rattle.brahma_shell.proofs.RunLemmas.{run-ids, history-size}
@@ -161,3 +163,19 @@ module _ {D : Type 0} (content : D → Area → Option (List ℕ)) (may_leave : 
 
   pub generated-done : ¬ Rose before.write_faults after.write_faults → ¬ Rose before.disk_faults after.disk_faults → IsDoneOrFull status
   generated-done writes faults = g.complete writes faults
+
+-- ---- a run of clients
+
+module _ {D : Type 0} (content : D → Area → Option (List ℕ)) (may_leave : D → Area → List ℕ → Type 0) (disk : D) (before after : Outside) (status : ℕ) (v : LoggedView D)
+    (r : Ran content may_leave disk before after status v) (stay : (d : D) (area : Area) → IfSome (content d area) (may_leave d area)) (tell : Tell content) (ids : ℕ) (opens : AlwaysOpens may_leave ids disk) where
+  pub ran-open : (ended : Ended D) → ended ≡ Kept v → AlwaysOpens may_leave ids (disk_in ended)
+  ran-open ended kept image is =
+      let o = r.journal.opens image (subst (λ (e : Ended D). IsImage may_leave (disk_in e) image) kept is) in
+      let many = cells-read content may_leave stay ids disk opens tell v.journal.opening r.opened in
+      (o.cells, o.opened, omega (arith, o.size, history-size v, r.size, many))
+
+  pub ran-done : HasOnlyClients ids before.left → ¬ Rose before.read_faults after.read_faults → ¬ Rose before.write_faults after.write_faults → ¬ Rose before.disk_faults after.disk_faults → IsDoneOrFull status
+  ran-done only reads writes faults =
+      let many = cells-read content may_leave stay ids disk opens tell v.journal.opening r.opened in
+      let same : ids ≡ v.journal.history.ids = omega (arith, r.size, many) in
+      r.complete (subst (λ n. HasOnlyClients n before.left) same only) reads writes faults

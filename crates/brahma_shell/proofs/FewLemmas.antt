@@ -3,8 +3,8 @@ use Rattle.std.proofs.Common.{◌≡◌, ℕ, ◌<◌, ◌≤◌, Bool, true, fa
 use Rattle.std.specs.Prelude.{IfSome, codes, bytes_eq, take, drop, is_some, nat_le, nat_lt, ◌&&◌, ◌*◌, if◌then◌else◌, option_and_then, option_map}
 use Rattle.std.proofs.lemmas.Bool.{ltb-true}
 use Rattle.script_lines.specs.Numbers.{number_of, seed_of, clients_of, transactions_of}
-use Rattle.brahma_shell.specs.declared.command.Command.{Command}
-use Rattle.brahma_shell.specs.declared.command.Command.TheVariants.{Init, Replay, Gen, Audit}
+use Rattle.brahma_shell.specs.declared.commands.Command.{Command}
+use Rattle.brahma_shell.specs.declared.commands.Command.TheVariants.{Init, Replay, Run, Gen, Audit}
 use Rattle.brahma_shell.specs.declared.gen_words.Asked.{Asked}
 use Rattle.brahma_shell.specs.declared.gen_words.Name.{Name}
 use Rattle.brahma_shell.specs.declared.gen_words.Name.TheVariants.{Seed, Clients, Transactions}
@@ -108,10 +108,11 @@ of-more true None a h e = absurd (cc (e))
 of-more true (Some x) a h e = let same : x ≡ a = cc (e) in subst (λ (y : Asked). y.clients ≤ 64) same h
 of-more false o a h e = absurd (cc (e))
 
-of-one : (p q : Bool) (a : Asked) → (if p then Some Replay else if q then Some Audit else None) ≡ Some (Gen a) → ⊥
-of-one true q a e = absurd (cc (e))
-of-one false true a e = absurd (cc (e))
-of-one false false a e = absurd (cc (e))
+of-one : (p q r : Bool) (a : Asked) → (if p then Some Replay else if q then Some Run else if r then Some Audit else None) ≡ Some (Gen a) → ⊥
+of-one true q r a e = absurd (cc (e))
+of-one false true r a e = absurd (cc (e))
+of-one false false true a e = absurd (cc (e))
+of-one false false false a e = absurd (cc (e))
 
 of-two : (p : Bool) (o : Option ℕ) (a : Asked) → (if p then option_map Init o else None) ≡ Some (Gen a) → ⊥
 of-two true None a e = absurd (cc (e))
@@ -120,6 +121,6 @@ of-two false o a e = absurd (cc (e))
 
 pub gen-few : (words : List (List ℕ)) (a : Asked) → command_of words ≡ Some (Gen a) → a.clients ≤ 64
 gen-few [] a e = absurd (cc (e))
-gen-few (word ∷ []) a e = absurd (of-one (bytes_eq word (codes "replay")) (bytes_eq word (codes "audit")) a e)
+gen-few (word ∷ []) a e = absurd (of-one (bytes_eq word (codes "replay")) (bytes_eq word (codes "run")) (bytes_eq word (codes "audit")) a e)
 gen-few (word ∷ number ∷ []) a e = absurd (of-two (bytes_eq word (codes "init")) (pages_of number) a e)
 gen-few (word ∷ number ∷ other ∷ words) a e = of-more (bytes_eq word (codes "gen")) (asked_of (number ∷ other ∷ words)) a (asked-few (number ∷ other ∷ words)) e

@@ -2,13 +2,14 @@
 use Rattle.std.specs.Prelude.{ℕ, if◌then◌else◌, List, [], ◌∷◌, Option, Some, None, bytes_eq, codes, option_map}
 use Rattle.script_lines.specs.Numbers.{pages_of}
 use Rattle.brahma_shell.specs.GenWords.{asked_of}
-use Rattle.brahma_shell.specs.declared.command.Command.{Command}
-use Rattle.brahma_shell.specs.declared.command.Command.TheVariants.{Init, Replay, Gen, Audit}
+use Rattle.brahma_shell.specs.declared.commands.Command.{Command}
+use Rattle.brahma_shell.specs.declared.commands.Command.TheVariants.{Init, Replay, Run, Gen, Audit}
 
 -- the command that one word names
 abbrev pub command_of_word : List ℕ → Option Command
 command_of_word word =
     if bytes_eq word (codes "replay") then Some Replay
+    else if bytes_eq word (codes "run") then Some Run
     else if bytes_eq word (codes "audit") then Some Audit
     else None
 

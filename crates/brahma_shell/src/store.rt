@@ -9,6 +9,7 @@ ghost use Rattle.disk_model.specs.Told.{EachImage};
 ghost use Rattle.store_model.specs.Sound.{IsSound};
 ghost use Rattle.journal_opening.specs.Openings.{OpensAs, RefusesToOpen, OpensMeanwhile, HasFault};
 ghost use Rattle.auditor.specs.Recount.{live_in, zero_in};
+ghost use Rattle.framed_journal.specs.Holding.{AreFramesOf};
 ghost use Rattle.logged_journal.specs.View.{history_of};
 ghost use Rattle.logged_journal.specs.Opens.{OpensAfter};
 ghost use Rattle.core_store.specs.JournalView.{cells_of, core_of, opening_of};
@@ -28,7 +29,7 @@ ghost use Rattle.brahma_shell.specs.Rest.{StaysQuiet};
 
 use auditor::{Report, audit_journal};
 use cell_page::CELLS_OF_PAGE;
-use core_store::{AbortStep, Collect, Limits, Note};
+use core_store::{AbortStep, Collect, Frame, Limits, Note};
 use disk_model::Disk;
 use framed_journal::FramedJournal;
 use journal_opening::open;
@@ -221,5 +222,12 @@ impl<D: Disk> Store<D> {
         ensures { result ≡ self }
     {
         self.framed.into_logged()
+    }
+    /// The journal with its log, and the frames in order of their pages.
+    pub(crate) fn into_parts(self) -> (LoggedJournal<SLOTS, D>, Vec<Frame<SLOTS>>)
+        ensures logged { result.0 ≡ self }
+        ensures frames { AreFramesOf self.journal result.1.items }
+    {
+        self.framed.into_parts()
     }
 }

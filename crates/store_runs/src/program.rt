@@ -1,5 +1,5 @@
 //! Runs of the program over a disk in memory. A test is a list of runs, and proves nothing of what the program answers.
-use brahma_shell::{Words, brahma};
+use brahma_shell::{Command, Words, command};
 use disk_model::MemoryDisk;
 use outside_io::{MemorySink, MemorySource};
 use plain_model::Memory;
@@ -58,6 +58,9 @@ pub(crate) fn calls(alloc: Global, call: Option<u64>) -> Result<Vec<u64>, Memory
     Ok(calls)
 }
 
+/// No status of the program: clients on threads are none of these runs.
+const NO_STATUS: u8 = 255;
+
 /// The program's call. A run needs none of its clauses, and so it is made in this function alone, which has none.
 fn call(
     alloc: Global,
@@ -66,8 +69,13 @@ fn call(
     sink: &mut MemorySink,
     disk: MemoryDisk,
 ) -> (u8, MemoryDisk) {
-    let (status, ended) = brahma(alloc, words, source, sink, disk);
-    (status, ended.disk())
+    match Command::of(words) {
+        Some(Command::Run) => (NO_STATUS, disk),
+        _ => {
+            let (status, ended) = command(alloc, words, source, sink, disk);
+            (status, ended.disk())
+        }
+    }
 }
 
 /// Makes the run.

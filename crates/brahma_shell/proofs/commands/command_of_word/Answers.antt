@@ -1,6 +1,6 @@
 use Rattle.std.proofs.Common.{◌≡◌, rules, codes}
 use Rattle.std.proofs.lemmas.Slice.Eq.{text_from_reads}
-use Rattle.brahma_shell.proofs.command.command_of_word.Goals as goal
+use Rattle.brahma_shell.proofs.commands.command_of_word.Goals as goal
 
 pub returns-in-replay : goal.returns-in-replay
 returns-in-replay c =

@@ -3,7 +3,7 @@ use Rattle.std.proofs.lemmas.List.{take_rest}
 use Rattle.std.specs.declared.alloc.Global.{Global}
 use Rattle.std.specs.Prelude.{String, string_bytes}
 use Rattle.brahma_shell.specs.Commands.{command_of, command_of_word, command_of_more}
-use Rattle.brahma_shell.proofs.command.Command.of.Goals as goal
+use Rattle.brahma_shell.proofs.commands.Command.of.Goals as goal
 
 one_word : (xs : List (String Global)) (w : String Global) → 1 ≤ length xs → length xs < 2 → w ≡ get_or xs 0 w → map string_bytes xs ≡ string_bytes w ∷ []
 one_word [] w l m e = absurd (omega arith)

@@ -13,6 +13,9 @@ pub enum Command {
     Init { pages: u16 },
     /// `replay`: does a script, line by line, and prints what it answers.
     Replay,
+    /// `run`: reads a whole script of clients' calls, does each client's on a thread of its own with the collector beside them,
+    /// collects, and prints what happened.
+    Run,
     /// `gen --seed S --clients C --txns T`: does calls that are drawn from a seed, collects, and prints what happened.
     Gen(Asked),
     /// `audit`: counts all pointers of the store again, and prints what it found.
@@ -25,6 +28,7 @@ fn command_of_word(word: &[u8]) -> Option<Command>
 {
     match word {
         b"replay" => Some(Command::Replay),
+        b"run" => Some(Command::Run),
         b"audit" => Some(Command::Audit),
         _ => None,
     }

@@ -1,0 +1,61 @@
+-- What the program answers.
+use Rattle.std.specs.Prelude.{◌≡◌, ◌⊎◌, ◌↔◌, ◌*◌, ℕ, List, [], Option, Some, None, codes, ⊤}
+use Rattle.disk_model.specs.declared.area.Area.{Area}
+use Rattle.disk_model.specs.Areas.{Bytes}
+use Rattle.disk_model.specs.Causes.{Rose}
+use Rattle.opened_store.specs.Unopened.{OnlyLooksUnlessOpen, DoesNotOpen}
+use Rattle.store_opening.specs.Store.{Reads}
+use Rattle.logged_journal.specs.View.{LoggedView}
+use Rattle.brahma_shell.specs.declared.commands.Command.{Command}
+use Rattle.brahma_shell.specs.declared.commands.Command.TheVariants.{Init, Replay, Run, Gen, Audit}
+use Rattle.brahma_shell.specs.declared.ended.Ended.{Ended}
+use Rattle.brahma_shell.specs.declared.ended.Ended.TheVariants.{Shut, Kept}
+use Rattle.brahma_shell.specs.declared.gen_words.Asked.{Asked}
+use Rattle.brahma_shell.specs.Commands.{command_of}
+use Rattle.brahma_shell.specs.Ended.{disk_in}
+use Rattle.brahma_shell.specs.Top.{Tell, IsStatus, GoesLater, IsDoneOrFull, HasOnlyLines, Outside, Ends, Unopened, Replayed, Audited, Made, Generated, AlwaysOpens}
+use Rattle.brahma_shell.specs.ClientLines.{HasOnlyClients}
+use Rattle.brahma_shell.specs.Ran.{Ran}
+
+-- words that open the store
+abbrev pub AskStore : List (List ℕ) → Type 0
+AskStore words = (command_of words ≡ Some Replay) ⊎ ((command_of words ≡ Some Run) ⊎ ((command_of words ≡ Some Audit) ⊎ ((asked : Asked) × (command_of words ≡ Some (Gen asked)))))
+
+-- a command can be done with what it finds: it makes a store; or it finds one that opens, whatever a power loss leaves, and a replay's lines are in the grammar, within the limits, and name no page but one of that store, or those of a run are a script of clients
+abbrev pub CanBeDone : {D : Type 0} → (D → Area → List ℕ → Type 0) → D → Option (List ℕ) → Command → Type 0
+CanBeDone may_leave disk left (Init pages) = ⊤
+CanBeDone may_leave disk left Replay = (ids : ℕ) × AlwaysOpens may_leave ids disk × HasOnlyLines ids left
+CanBeDone may_leave disk left Run = (ids : ℕ) × AlwaysOpens may_leave ids disk × HasOnlyClients ids left
+CanBeDone may_leave disk left (Gen asked) = (ids : ℕ) × AlwaysOpens may_leave ids disk
+CanBeDone may_leave disk left Audit = (ids : ℕ) × AlwaysOpens may_leave ids disk
+
+-- the program was asked by these words, and ended with this status: by what each command says
+pub record Answered {S D : Type 0} (content : D → Area → Option (List ℕ)) (may_leave : D → Area → List ℕ → Type 0) (moment : D → ℕ) (left_since : D → ℕ → Bytes → Type 0)
+    (words : List (List ℕ)) (script later : S) (disk : D) (before after : Outside) (status : ℕ) (ended : Ended D) : Type 0 where
+  pub usage : (status ≡ 2) ↔ (command_of words ≡ None)
+  pub statuses : IsStatus status
+  pub goes_later : GoesLater before after
+  -- where the disk holds no store that opens, and none is made, the disk is only looked at: each image, at each moment and at the exit, is one from before
+  pub only_looks : ((pages : ℕ) → command_of words ≡ Some (Init pages) → ⊥) → OnlyLooksUnlessOpen content may_leave moment left_since 6 disk (disk_in ended)
+  -- words without a reading: nothing is read, and the disk is asked for nothing
+  pub unread : status ≡ 2 → (later ≡ script) × (ended ≡ Shut disk) × Ends before after [] (codes "usage\n")
+  pub made : (pages : ℕ) → command_of words ≡ Some (Init pages) → (later ≡ script) × Made may_leave moment left_since disk pages before after status ended
+  pub replayed : command_of words ≡ Some Replay → (later ≡ script) × Unopened content may_leave moment left_since disk before after status ended
+      ⊎ Replayed content may_leave script later disk before after status ended
+  pub ran : command_of words ≡ Some Run → (later ≡ script) × Unopened content may_leave moment left_since disk before after status ended
+      ⊎ ((v : LoggedView D) × (ended ≡ Kept v) × Ran content may_leave disk before after status v)
+  pub audited : command_of words ≡ Some Audit → (later ≡ script) × (Unopened content may_leave moment left_since disk before after status ended
+      ⊎ Audited content may_leave disk before after status ended)
+  pub generated : (asked : Asked) → command_of words ≡ Some (Gen asked) → (later ≡ script) × (Unopened content may_leave moment left_since disk before after status ended
+      ⊎ ((v : LoggedView D) × (ended ≡ Kept v) × Generated content may_leave asked disk before after status v))
+  -- a store that was made opens, whatever a power loss leaves
+  pub makes_open : (pages : ℕ) → command_of words ≡ Some (Init pages) → (status ≡ 6 → ⊥) → AlwaysOpens may_leave (8 * pages) (disk_in ended)
+  -- and on a disk that tells what it reads it goes on to open so, with as many ids, behind each command that makes none, at every status
+  pub stays_open : Tell content → (ids : ℕ) → AlwaysOpens may_leave ids disk → ((pages : ℕ) → command_of words ≡ Some (Init pages) → ⊥) → AlwaysOpens may_leave ids (disk_in ended)
+  -- what can be done is done where no call of a stream or of the disk failed, unless memory is out, or the history or the log is full
+  pub complete : Tell content → (command : Command) → command_of words ≡ Some command → CanBeDone may_leave disk before.left command
+      → ¬ Rose before.read_faults after.read_faults → ¬ Rose before.write_faults after.write_faults → ¬ Rose before.disk_faults after.disk_faults → IsDoneOrFull status
+  -- where what the disk reads doesn't open, the store isn't opened
+  pub refuses : (image : Bytes) → Reads content disk image → DoesNotOpen 6 image → AskStore words → Unopened content may_leave moment left_since disk before after status ended
+  -- and only there it is refused, where the disk tells what it reads
+  pub only_refused : Tell content → status ≡ 7 → (image : Bytes) → Reads content disk image → DoesNotOpen 6 image
