@@ -25,6 +25,7 @@ use disk_model::Disk;
 use latch_table::Chronicle;
 use logged_journal::{LoggedJournal, Stopped};
 use plain_model::{Call, Entry, Reply};
+use std::alloc::{AllocFailed, Global};
 use std::marker::Model;
 
 /// A journal with its log, each page of which can stand in a frame.
@@ -32,7 +33,8 @@ use std::marker::Model;
 /// As a chronicle its entries are its notes, the last of which is of the commit that the disk failed, where it failed one.
 #[derive(Drop)]
 pub struct JournalChronicle<const SLOTS: usize, D: Disk> {
-    pub(crate) logged: LoggedJournal<SLOTS, D>,
+    /// In a place of its own, so that a claim of the log's word hands over a pointer, and not the journal.
+    pub(crate) logged: Box<LoggedJournal<SLOTS, D>>,
     /// How many notes there are, that of a commit that the disk failed counted.
     pub(crate) count: u64,
 }
@@ -44,9 +46,9 @@ impl<const SLOTS: usize, D: Disk> Model for JournalChronicle<SLOTS, D> {
 
     ghost Value = { LoggedView D };
 
-    ghost view = { λ s. s.logged };
+    ghost view = { λ s. s.logged.value };
 
-    ghost invariant = { λ s. IsChronicleInside SLOTS s.logged s.count };
+    ghost invariant = { λ s. IsChronicleInside SLOTS s.logged.value s.count };
 }
 
 impl<const SLOTS: usize, D: Disk> Chronicle<Frame<SLOTS>> for JournalChronicle<SLOTS, D> {
@@ -83,20 +85,26 @@ pub(crate) fn count_notes<const SLOTS: usize, D: Disk>(logged: &LoggedJournal<SL
 }
 
 impl<const SLOTS: usize, D: Disk> JournalChronicle<SLOTS, D> {
-    /// The chronicle of a journal that the disk failed no call. These are its frames, one for each page from 0 on.
+    /// The chronicle of a journal that the disk failed no call. These are its frames, one for each page from 0 on. Where there is
+    /// no memory the journal is handed back.
     pub fn new(
+        alloc: Global,
         logged: LoggedJournal<SLOTS, D>,
         frames: &[Frame<SLOTS>],
-    ) -> JournalChronicle<SLOTS, D>
+    ) -> Result<JournalChronicle<SLOTS, D>, LoggedJournal<SLOTS, D>>
         requires size { IsSlotCount SLOTS }
         requires running { logged.failed ≡ None }
         requires pages { 8 * length frames.now ≡ logged.journal.history.ids }
         requires agree { AllAgree (cells_of logged.journal) frames.now }
-        ensures { result ≡ logged }
+        ensures ok { IfOk result (λ c. c ≡ logged) }
+        ensures back { IfErr result (λ l. l ≡ logged) }
     {
         let _ = logged.journal();
         let count = count_notes(&logged);
-        JournalChronicle { logged, count }
+        match Box::new(alloc, logged) {
+            Ok(logged) => Ok(JournalChronicle { logged, count }),
+            Err(AllocFailed { value }) => Err(value),
+        }
     }
 
     /// The journal with its log.
@@ -105,14 +113,14 @@ impl<const SLOTS: usize, D: Disk> JournalChronicle<SLOTS, D> {
         ensures slots { self.now.journal.history.slots ≡ SLOTS }
     {
         let _ = self.logged.journal();
-        &self.logged
+        self.logged.as_ref()
     }
 
     /// The journal with its log, no longer as a chronicle.
     pub fn into_logged(self) -> LoggedJournal<SLOTS, D>
         ensures { result ≡ self }
     {
-        self.logged
+        Box::into_inner(self.logged)
     }
 
     /// Frames are the journal's pages exactly where they are those that the chronicle tells.
@@ -121,7 +129,8 @@ impl<const SLOTS: usize, D: Disk> JournalChronicle<SLOTS, D> {
         ensures held { (held : List (HeldFrame SLOTS)) → AreOfStore self.now.journal.history.ids held → Agree (cells_of self.now.journal) held ↔ AreShownBy (frame_after SLOTS (origin_of self.now) (notes_of self.now)) held }
         ensures all { (frames : List (Frame SLOTS)) → 8 * length frames ≤ self.now.journal.history.ids → AllAgree (cells_of self.now.journal) frames ↔ ((page : ℕ) (frame : Frame SLOTS) → slice_get frames page ≡ Some frame → frame ≡ frame_after SLOTS (origin_of self.now) (notes_of self.now) page) }
     {
-        let _ = self.logged.journal();
+        let logged = self.logged.as_ref();
+        let _ = logged.journal();
     }
 
     /// The history that the notes give is the journal's, and it is legal. By it a client has a transaction exactly where the notes
@@ -132,7 +141,8 @@ impl<const SLOTS: usize, D: Disk> JournalChronicle<SLOTS, D> {
         ensures clients { (client : ℕ) → has_transaction (notes_of self.now) client ≡ is_some (transaction_of (end_of (history_of self.now)).state client) }
         ensures running { self.now.failed ≡ None → history_of self.now ≡ self.now.journal.history }
     {
-        let journal = self.logged.journal();
+        let logged = self.logged.as_ref();
+        let journal = logged.journal();
         let _ = journal.history();
         let _ = journal.opening();
     }
@@ -181,10 +191,11 @@ impl<const SLOTS: usize, D: Disk> JournalChronicle<SLOTS, D> {
         // is granted, a crash after the disk failed it.
         ensures opens { LeavesOnlyImages D.moment D.left_since self.old.disk self.new.disk (OpensDuring SLOTS self.old pass call.now) }
     {
-        let _ = self.logged.journal();
-        let reply = self.logged.apply(held, pass, call);
-        let _ = self.logged.journal();
-        self.count = count_notes(&self.logged);
+        let logged = self.logged.as_mut();
+        let _ = logged.journal();
+        let reply = logged.apply(held, pass, call);
+        let _ = logged.journal();
+        self.count = count_notes(logged);
         reply
     }
 
@@ -207,10 +218,11 @@ impl<const SLOTS: usize, D: Disk> JournalChronicle<SLOTS, D> {
         ensures frames { KeepsFrames self.old.journal self.new.journal held.old held.new }
         ensures untouched { KeepsDisk self.old self.new }
     {
-        let _ = self.logged.journal();
-        let step = self.logged.abort_step(held, pass);
-        let _ = self.logged.journal();
-        self.count = count_notes(&self.logged);
+        let logged = self.logged.as_mut();
+        let _ = logged.journal();
+        let step = logged.abort_step(held, pass);
+        let _ = logged.journal();
+        self.count = count_notes(logged);
         step
     }
 }

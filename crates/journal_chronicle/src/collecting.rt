@@ -58,10 +58,11 @@ impl<const SLOTS: usize, D: Disk> JournalChronicle<SLOTS, D> {
         ensures same { IfOk result (λ step. (step ≡ Collect.TraceFull) ⊎ (step ≡ Collect.Idle) ⊎ (step ≡ Collect.Memory) → held.new ≡ held.old) }
         ensures untouched { KeepsDisk self.old self.new }
     {
-        let _ = self.logged.journal();
-        let step = self.logged.collect_step(held);
-        let _ = self.logged.journal();
-        self.count = count_notes(&self.logged);
+        let logged = self.logged.as_mut();
+        let _ = logged.journal();
+        let step = logged.collect_step(held);
+        let _ = logged.journal();
+        self.count = count_notes(logged);
         step
     }
 }

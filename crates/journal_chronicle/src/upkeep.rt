@@ -31,10 +31,11 @@ impl<const SLOTS: usize, D: Disk> JournalChronicle<SLOTS, D> {
             → (result ≡ Some Upkeep.TraceFull) × (self.new ≡ record self.old { journal = record self.old.journal { marks = record self.old.journal.marks { trace = true } } }) }
         ensures free { self.old.failed ≡ None → is_past_limit self.old.journal 1 ≡ false → (result ≡ None) × OnlyTakesRoom self.old self.new }
     {
-        let _ = self.logged.journal();
-        let answer = self.logged.refuse_clean();
-        let _ = self.logged.journal();
-        self.count = count_notes(&self.logged);
+        let logged = self.logged.as_mut();
+        let _ = logged.journal();
+        let answer = logged.refuse_clean();
+        let _ = logged.journal();
+        self.count = count_notes(logged);
         answer
     }
 
@@ -60,10 +61,11 @@ impl<const SLOTS: usize, D: Disk> JournalChronicle<SLOTS, D> {
         ensures free { result ≡ None → (self.old.failed ≡ None) × (least_active (end_of self.old.journal.history).state ≡ None) × (self.new ≡ record self.old { journal = record self.old.journal { reserved = true } }) }
         ensures untouched { KeepsDisk self.old self.new }
     {
-        let _ = self.logged.journal();
-        let answer = self.logged.refuse_turn();
-        let _ = self.logged.journal();
-        self.count = count_notes(&self.logged);
+        let logged = self.logged.as_mut();
+        let _ = logged.journal();
+        let answer = logged.refuse_turn();
+        let _ = logged.journal();
+        self.count = count_notes(logged);
         answer
     }
 
@@ -100,10 +102,11 @@ impl<const SLOTS: usize, D: Disk> JournalChronicle<SLOTS, D> {
         ensures moments { LeavesOnlyImages D.moment D.left_since self.old.disk self.new.disk (MayHaveAll self.old) }
         ensures opens { LeavesOnlyImages D.moment D.left_since self.old.disk self.new.disk (OpensAfter SLOTS (history_of self.old)) }
     {
-        let _ = self.logged.journal();
-        let answer = self.logged.clean(frame, page);
-        let _ = self.logged.journal();
-        self.count = count_notes(&self.logged);
+        let logged = self.logged.as_mut();
+        let _ = logged.journal();
+        let answer = logged.clean(frame, page);
+        let _ = logged.journal();
+        self.count = count_notes(logged);
         answer
     }
 
@@ -147,10 +150,11 @@ impl<const SLOTS: usize, D: Disk> JournalChronicle<SLOTS, D> {
         ensures moments { LeavesOnlyImages D.moment D.left_since self.old.disk self.new.disk (MayHaveAll self.old) }
         ensures opens { LeavesOnlyImages D.moment D.left_since self.old.disk self.new.disk (OpensAfter SLOTS (history_of self.old)) }
     {
-        let _ = self.logged.journal();
-        let answer = self.logged.turn(frames);
-        let _ = self.logged.journal();
-        self.count = count_notes(&self.logged);
+        let logged = self.logged.as_mut();
+        let _ = logged.journal();
+        let answer = logged.turn(frames);
+        let _ = logged.journal();
+        self.count = count_notes(logged);
         answer
     }
 }

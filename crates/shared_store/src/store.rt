@@ -61,7 +61,11 @@ impl<const SLOTS: usize, D: Disk> Store<SLOTS, D> {
         ensures ok { IfOk result (λ r. (r.0.pages ≡ length frames.entry.items) × (r.1.table ≡ r.0.table) × (r.1.view ≡ first_view (origin_of logged)) × (r.1.refused ≡ no_refusals)) }
         ensures back { IfErr result (λ r. (r.0 ≡ logged) × (r.1.items ≡ frames.entry.items)) }
     {
-        let journal = JournalChronicle::new(logged, frames.as_slice());
+        let boxed = JournalChronicle::new(alloc, logged, frames.as_slice());
+        let journal = match boxed {
+            Ok(journal) => journal,
+            Err(logged) => return Err((logged, frames)),
+        };
         journal.know_frames();
         match Latches::new(alloc, journal, frames) {
             Ok((latches, hold)) => {

@@ -1,21 +1,22 @@
-use Rattle.std.proofs.Common.{◌≤◌, subst, rules}
+use Rattle.std.proofs.Common.{◌≤◌, subst, rules, sym, ◌∙◌}
 use Rattle.logged_journal.specs.View.{LoggedView}
 use Rattle.core_store.specs.Frames.{is_held}
 use Rattle.journal_chronicle.specs.Steps.{entered_by_abort_step, marked_by_abort_step, GoesOnWith}
+use Rattle.journal_chronicle.specs.Inside.{IsChronicle}
 use Rattle.journal_chronicle.proofs.Goings.{Came, slots-few}
 use Rattle.journal_chronicle.proofs.CollectorSteps.{abort-stepped}
 use Rattle.journal_chronicle.proofs.chronicle.JournalChronicle.abort_step.Given.{Over}
 use Rattle.journal_chronicle.proofs.chronicle.JournalChronicle.abort_step.Goals as goal
 
-came : (g : Over) (c : goal.After-self-1 g)
-    → Came g.row.SLOTS c.self.inside.logged c.abort_step-step.new.self c.args.held.now c.abort_step-step.new.held (entered_by_abort_step c.args.pass c.abort_step-step.result) (marked_by_abort_step c.abort_step-step.result)
+came : (g : Over) (c : goal.After-self-2-1 g)
+    → Came g.row.SLOTS c.as_mut-logged.result.now c.abort_step-step.new.self c.args.held.now c.abort_step-step.new.held (entered_by_abort_step c.args.pass c.abort_step-step.result) (marked_by_abort_step c.abort_step-step.result)
 came g c =
     let e = c.abort_step-step.ensures in
-    abort-stepped g.row.SLOTS c.self.inside.logged c.abort_step-step.new.self c.args.held.now c.abort_step-step.new.held c.args.pass c.abort_step-step.result
+    abort-stepped g.row.SLOTS c.as_mut-logged.result.now c.abort_step-step.new.self c.args.held.now c.abort_step-step.new.held c.args.pass c.abort_step-step.result
     (record {
       own = c.journal.ensures.slots;
       owned = c.journal-2.ensures.slots;
-      before = c.self.invariant.kept;
+      before = (subst (λ v. IsChronicle g.row.SLOTS v) (sym c.as_mut-logged.ensures.value) c.self.invariant.kept);
       stopped = e.stopped;
       only_stopped = e.only_stopped;
       does = e.does;
@@ -26,7 +27,7 @@ came g c =
 pub abort_step-step-requires-after_bounds : goal.abort_step-step-requires-after_bounds
 abort_step-step-requires-after_bounds g c κs within =
     let small : g.row.SLOTS ≤ 14 = slots-few g.row.SLOTS c.self.invariant.size in
-    rw c.self.view_is
+    rw (c.as_mut-logged.ensures.value ∙ c.self.view_is)
     (search rules, (search rules, (c.requires.active, (c.requires.agree, c.requires.ready))))
 
 pub invariant_of-self : goal.invariant_of-self
@@ -35,7 +36,7 @@ invariant_of-self g c = let all = came g c in record { size = c.self.invariant.s
 pub returns-clause-chronicle : goal.returns-clause-chronicle
 returns-clause-chronicle g c =
     let all = came g c in
-    subst (λ (v : LoggedView g.row.D.Denot). GoesOnWith g.row.SLOTS (is_held c.args.held.now) v c.abort_step-step.new.self (entered_by_abort_step c.args.pass c.abort_step-step.result) (marked_by_abort_step c.abort_step-step.result)) c.self.view_is all.goes
+    subst (λ (v : LoggedView g.row.D.Denot). GoesOnWith g.row.SLOTS (is_held c.args.held.now) v c.abort_step-step.new.self (entered_by_abort_step c.args.pass c.abort_step-step.result) (marked_by_abort_step c.abort_step-step.result)) (c.as_mut-logged.ensures.value ∙ c.self.view_is) all.goes
 
 pub returns-clause-rest : goal.returns-clause-rest
 returns-clause-rest g c = let all = came g c in all.rest

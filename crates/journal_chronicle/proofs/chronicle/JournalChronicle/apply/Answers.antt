@@ -1,21 +1,22 @@
-use Rattle.std.proofs.Common.{◌≤◌, subst, rules}
+use Rattle.std.proofs.Common.{◌≤◌, subst, rules, sym, ◌∙◌}
 use Rattle.logged_journal.specs.View.{LoggedView}
 use Rattle.core_store.specs.Frames.{is_held}
 use Rattle.journal_chronicle.specs.Steps.{entered_by_call, marked_by_call, GoesOnWith}
+use Rattle.journal_chronicle.specs.Inside.{IsChronicle}
 use Rattle.journal_chronicle.proofs.Goings.{Came, slots-few}
 use Rattle.journal_chronicle.proofs.Calls.{Applied, called, never-again}
 use Rattle.journal_chronicle.proofs.chronicle.JournalChronicle.apply.Given.{Over}
 use Rattle.journal_chronicle.proofs.chronicle.JournalChronicle.apply.Goals as goal
 
-applied : (g : Over) (c : goal.After-self-1 g)
-    → Applied g.D.Disk.faults g.row.SLOTS c.self.inside.logged c.apply-reply.new.self c.args.held.now c.apply-reply.new.held c.args.pass c.args.call.now c.apply-reply.result
+applied : (g : Over) (c : goal.After-self-2-1 g)
+    → Applied g.D.Disk.faults g.row.SLOTS c.as_mut-logged.result.now c.apply-reply.new.self c.args.held.now c.apply-reply.new.held c.args.pass c.args.call.now c.apply-reply.result
 applied g c =
     let e = c.apply-reply.ensures in
     record {
       client = c.requires.client;
       own = c.journal.ensures.slots;
       owned = c.journal-2.ensures.slots;
-      before = c.self.invariant.kept;
+      before = (subst (λ v. IsChronicle g.row.SLOTS v) (sym c.as_mut-logged.ensures.value) c.self.invariant.kept);
       stopped = e.stopped;
       only_stopped = e.only_stopped;
       log_marked = e.log_marked;
@@ -26,15 +27,15 @@ applied g c =
       fault = e.fault;
     }
 
-came : (g : Over) (c : goal.After-self-1 g)
-    → Came g.row.SLOTS c.self.inside.logged c.apply-reply.new.self c.args.held.now c.apply-reply.new.held (entered_by_call c.args.pass c.args.call.now c.apply-reply.result) (marked_by_call c.apply-reply.result)
+came : (g : Over) (c : goal.After-self-2-1 g)
+    → Came g.row.SLOTS c.as_mut-logged.result.now c.apply-reply.new.self c.args.held.now c.apply-reply.new.held (entered_by_call c.args.pass c.args.call.now c.apply-reply.result) (marked_by_call c.apply-reply.result)
 came g c =
-    called g.D.Disk.faults g.row.SLOTS c.self.inside.logged c.apply-reply.new.self c.args.held.now c.apply-reply.new.held c.args.pass c.args.call.now c.apply-reply.result (applied g c)
+    called g.D.Disk.faults g.row.SLOTS c.as_mut-logged.result.now c.apply-reply.new.self c.args.held.now c.apply-reply.new.held c.args.pass c.args.call.now c.apply-reply.result (applied g c)
 
 pub apply-reply-requires-after_bounds : goal.apply-reply-requires-after_bounds
 apply-reply-requires-after_bounds g c κs within =
     let small : g.row.SLOTS ≤ 14 = slots-few g.row.SLOTS c.self.invariant.size in
-    rw c.self.view_is
+    rw (c.as_mut-logged.ensures.value ∙ c.self.view_is)
     (search rules, (search rules, (c.requires.client, (c.requires.in_range, (c.requires.no_abort, (c.requires.agree, c.requires.ready))))))
 
 pub invariant_of-self : goal.invariant_of-self
@@ -43,17 +44,17 @@ invariant_of-self g c = let all = came g c in record { size = c.self.invariant.s
 pub returns-clause-chronicle : goal.returns-clause-chronicle
 returns-clause-chronicle g c =
     let all = came g c in
-    subst (λ (v : LoggedView g.row.D.Denot). GoesOnWith g.row.SLOTS (is_held c.args.held.now) v c.apply-reply.new.self (entered_by_call c.args.pass c.args.call.now c.apply-reply.result) (marked_by_call c.apply-reply.result)) c.self.view_is all.goes
+    subst (λ (v : LoggedView g.row.D.Denot). GoesOnWith g.row.SLOTS (is_held c.args.held.now) v c.apply-reply.new.self (entered_by_call c.args.pass c.args.call.now c.apply-reply.result) (marked_by_call c.apply-reply.result)) (c.as_mut-logged.ensures.value ∙ c.self.view_is) all.goes
 
 pub returns-clause-rest : goal.returns-clause-rest
 returns-clause-rest g c = let all = came g c in all.rest
 
 pub returns-clause-goes_on : goal.returns-clause-goes_on
-returns-clause-goes_on g c = rw (← c.self.view_is) c.apply-reply.ensures.goes_on
+returns-clause-goes_on g c = rw (← (c.as_mut-logged.ensures.value ∙ c.self.view_is)) c.apply-reply.ensures.goes_on
 
 pub returns-clause-untouched : goal.returns-clause-untouched
-returns-clause-untouched g c = rw (← c.self.view_is) c.apply-reply.ensures.untouched
+returns-clause-untouched g c = rw (← (c.as_mut-logged.ensures.value ∙ c.self.view_is)) c.apply-reply.ensures.untouched
 
 pub returns-clause-never_again : goal.returns-clause-never_again
 returns-clause-never_again g c =
-    never-again g.D.Disk.faults g.row.SLOTS c.self.inside.logged c.apply-reply.new.self c.args.held.now c.apply-reply.new.held c.args.pass c.args.call.now c.apply-reply.result (applied g c)
+    never-again g.D.Disk.faults g.row.SLOTS c.as_mut-logged.result.now c.apply-reply.new.self c.args.held.now c.apply-reply.new.held c.args.pass c.args.call.now c.apply-reply.result (applied g c)

@@ -1,18 +1,19 @@
-use Rattle.std.proofs.Common.{subst}
+use Rattle.std.proofs.Common.{subst, sym, ◌∙◌}
 use Rattle.logged_journal.specs.View.{LoggedView}
 use Rattle.journal_chronicle.specs.Steps.{entered_by_upkeep, marked_by_upkeep, no_page, GoesOnWith}
+use Rattle.journal_chronicle.specs.Inside.{IsChronicle}
 use Rattle.journal_chronicle.proofs.Upkeeps.{Kept, upkept}
 use Rattle.journal_chronicle.proofs.chronicle.JournalChronicle.clean.Given.{Over}
 use Rattle.journal_chronicle.proofs.chronicle.JournalChronicle.clean.Goals as goal
 
-kept : (g : Over) (c : goal.After-self-1 g) → Kept g.row.SLOTS c.self.inside.logged c.clean-answer.new.self (entered_by_upkeep c.clean-answer.result) (marked_by_upkeep c.clean-answer.result)
+kept : (g : Over) (c : goal.After-self-2-1 g) → Kept g.row.SLOTS c.as_mut-logged.result.now c.clean-answer.new.self (entered_by_upkeep c.clean-answer.result) (marked_by_upkeep c.clean-answer.result)
 kept g c =
     let e = c.clean-answer.ensures in
-    upkept g.D.Disk.faults g.row.SLOTS c.self.inside.logged c.clean-answer.new.self c.clean-answer.result
+    upkept g.D.Disk.faults g.row.SLOTS c.as_mut-logged.result.now c.clean-answer.new.self c.clean-answer.result
     (record {
       own = c.journal.ensures.slots;
       owned = c.journal-2.ensures.slots;
-      before = c.self.invariant.kept;
+      before = (subst (λ v. IsChronicle g.row.SLOTS v) (sym c.as_mut-logged.ensures.value) c.self.invariant.kept);
       stopped = e.stopped;
       only_stopped = e.only_stopped;
       marked = e.marked;
@@ -29,4 +30,4 @@ invariant_of-self g c = let all = kept g c in record { size = c.self.invariant.s
 pub returns-clause-chronicle : goal.returns-clause-chronicle
 returns-clause-chronicle g c =
     let all = kept g c in
-    subst (λ (v : LoggedView g.row.D.Denot). GoesOnWith g.row.SLOTS no_page v c.clean-answer.new.self (entered_by_upkeep c.clean-answer.result) (marked_by_upkeep c.clean-answer.result)) c.self.view_is all.goes
+    subst (λ (v : LoggedView g.row.D.Denot). GoesOnWith g.row.SLOTS no_page v c.clean-answer.new.self (entered_by_upkeep c.clean-answer.result) (marked_by_upkeep c.clean-answer.result)) (c.as_mut-logged.ensures.value ∙ c.self.view_is) all.goes

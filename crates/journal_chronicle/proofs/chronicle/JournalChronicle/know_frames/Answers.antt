@@ -1,4 +1,4 @@
-use Rattle.std.proofs.Common.{◌≡◌, ◌*◌, ◌<◌, ◌≤◌, ℕ, List, Some, length, subst}
+use Rattle.std.proofs.Common.{◌≡◌, ◌*◌, ◌<◌, ◌≤◌, ℕ, List, Some, length, subst, sym, ◌∙◌}
 use Rattle.std.specs.Prelude.{◌↔◌, slice_get}
 use Rattle.cell_page.specs.Stored.{HoldsPage}
 use Rattle.core_store.specs.declared.frame.Frame.{Frame}
@@ -8,6 +8,7 @@ use Rattle.core_store.specs.JournalView.{cells_of}
 use Rattle.logged_journal.specs.View.{LoggedView}
 use Rattle.journal_chronicle.specs.Pages.{AreShownBy, AreOfStore}
 use Rattle.journal_chronicle.specs.View.{origin_of, notes_of, frame_after}
+use Rattle.journal_chronicle.specs.Inside.{IsChronicle}
 use Rattle.journal_chronicle.proofs.Notes.{frame-exact, held-exact, all-exact}
 use Rattle.journal_chronicle.proofs.chronicle.JournalChronicle.know_frames.Goals as goal
 
@@ -15,20 +16,20 @@ pub returns-clause-page : goal.returns-clause-page
 returns-clause-page g c =
     subst
     (λ (v : LoggedView g.row.D.Denot). (page : ℕ) (frame : Frame g.row.SLOTS) → 8 * page < v.journal.history.ids → HoldsPage (cells_of v.journal) page frame.page ↔ (frame ≡ frame_after g.row.SLOTS (origin_of v) (notes_of v) page))
-    c.self.view_is
-    (let kept = c.self.invariant.kept in frame-exact g.row.SLOTS c.self.inside.logged c.journal.ensures.slots kept.pages)
+    (c.as_ref-logged.ensures ∙ c.self.view_is)
+    (let kept = (subst (λ v. IsChronicle g.row.SLOTS v) (sym c.as_ref-logged.ensures) c.self.invariant.kept) in frame-exact g.row.SLOTS c.as_ref-logged.result.now c.journal.ensures.slots kept.pages)
 
 pub returns-clause-held : goal.returns-clause-held
 returns-clause-held g c =
     subst
     (λ (v : LoggedView g.row.D.Denot). (held : List (HeldFrame g.row.SLOTS)) → AreOfStore v.journal.history.ids held → Agree (cells_of v.journal) held ↔ AreShownBy (frame_after g.row.SLOTS (origin_of v) (notes_of v)) held)
-    c.self.view_is
-    (let kept = c.self.invariant.kept in held-exact g.row.SLOTS c.self.inside.logged c.journal.ensures.slots kept.pages)
+    (c.as_ref-logged.ensures ∙ c.self.view_is)
+    (let kept = (subst (λ v. IsChronicle g.row.SLOTS v) (sym c.as_ref-logged.ensures) c.self.invariant.kept) in held-exact g.row.SLOTS c.as_ref-logged.result.now c.journal.ensures.slots kept.pages)
 
 pub returns-clause-all : goal.returns-clause-all
 returns-clause-all g c =
     subst
     (λ (v : LoggedView g.row.D.Denot). (frames : List (Frame g.row.SLOTS)) → 8 * length frames ≤ v.journal.history.ids
     → AllAgree (cells_of v.journal) frames ↔ ((page : ℕ) (frame : Frame g.row.SLOTS) → slice_get frames page ≡ Some frame → frame ≡ frame_after g.row.SLOTS (origin_of v) (notes_of v) page))
-    c.self.view_is
-    (let kept = c.self.invariant.kept in all-exact g.row.SLOTS c.self.inside.logged c.journal.ensures.slots kept.pages)
+    (c.as_ref-logged.ensures ∙ c.self.view_is)
+    (let kept = (subst (λ v. IsChronicle g.row.SLOTS v) (sym c.as_ref-logged.ensures) c.self.invariant.kept) in all-exact g.row.SLOTS c.as_ref-logged.result.now c.journal.ensures.slots kept.pages)

@@ -1,4 +1,4 @@
-use Rattle.std.proofs.Common.{◌≡◌, ℕ, List, map, subst}
+use Rattle.std.proofs.Common.{◌≡◌, ℕ, List, map, subst, sym, ◌∙◌}
 use Rattle.std.specs.Prelude.{is_some}
 use Rattle.plain_model.specs.Machine.{transaction_of}
 use Rattle.plain_model.specs.History.{IsLegal, end_of}
@@ -6,13 +6,14 @@ use Rattle.core_store.specs.declared.note.Note.{Note}
 use Rattle.core_store.specs.JournalView.{opening_of, core_of}
 use Rattle.logged_journal.specs.View.{LoggedView, history_of}
 use Rattle.journal_chronicle.specs.View.{origin_of, notes_of, history_after, has_transaction}
+use Rattle.journal_chronicle.specs.Inside.{IsChronicle}
 use Rattle.journal_chronicle.proofs.Notes.{Tells, JournalTells, history-is, history-legal, clients-are}
 use Rattle.journal_chronicle.proofs.Uncrashed.{none-crashed}
 use Rattle.journal_chronicle.proofs.chronicle.JournalChronicle.know_history.Given.{Over}
 use Rattle.journal_chronicle.proofs.chronicle.JournalChronicle.know_history.Goals as goal
 
 -- what the journal tells of itself
-tells : (g : Over) (c : goal.After-opening g) → Tells g.row.SLOTS c.self.inside.logged
+tells : (g : Over) (c : goal.After-opening g) → Tells g.row.SLOTS c.as_ref-logged.result.now
 tells g c =
     let h = c.history.ensures in
     let o = c.opening.ensures in
@@ -26,17 +27,17 @@ tells g c =
             running = h.running;
             uncrashed = none-crashed g.row.SLOTS (opening_of c.journal-journal.result.now) (core_of c.journal-journal.result.now) c.journal-journal.result.now.notes h.led;
           });
-      granted = (let kept = c.self.invariant.kept in kept.granted);
+      granted = (let kept = (subst (λ v. IsChronicle g.row.SLOTS v) (sym c.as_ref-logged.ensures) c.self.invariant.kept) in kept.granted);
     }
 
 pub returns-clause-history : goal.returns-clause-history
 returns-clause-history g c =
-    subst (λ (v : LoggedView g.row.D.Denot). history_after g.row.SLOTS (origin_of v) (notes_of v) ≡ history_of v) c.self.view_is (history-is g.row.SLOTS c.self.inside.logged (tells g c))
+    subst (λ (v : LoggedView g.row.D.Denot). history_after g.row.SLOTS (origin_of v) (notes_of v) ≡ history_of v) (c.as_ref-logged.ensures ∙ c.self.view_is) (history-is g.row.SLOTS c.as_ref-logged.result.now (tells g c))
 
 pub returns-clause-legal : goal.returns-clause-legal
-returns-clause-legal g c = subst (λ (v : LoggedView g.row.D.Denot). IsLegal (history_of v)) c.self.view_is (history-legal g.row.SLOTS c.self.inside.logged (tells g c))
+returns-clause-legal g c = subst (λ (v : LoggedView g.row.D.Denot). IsLegal (history_of v)) (c.as_ref-logged.ensures ∙ c.self.view_is) (history-legal g.row.SLOTS c.as_ref-logged.result.now (tells g c))
 
 pub returns-clause-clients : goal.returns-clause-clients
 returns-clause-clients g c =
-    subst (λ (v : LoggedView g.row.D.Denot). (client : ℕ) → has_transaction (notes_of v) client ≡ is_some (transaction_of (end_of (history_of v)).state client)) c.self.view_is
-    (clients-are g.row.SLOTS c.self.inside.logged (tells g c))
+    subst (λ (v : LoggedView g.row.D.Denot). (client : ℕ) → has_transaction (notes_of v) client ≡ is_some (transaction_of (end_of (history_of v)).state client)) (c.as_ref-logged.ensures ∙ c.self.view_is)
+    (clients-are g.row.SLOTS c.as_ref-logged.result.now (tells g c))

@@ -1,9 +1,15 @@
+use Rattle.std.proofs.Common.{◌≡◌, length, subst, sym}
+use Rattle.logged_journal.specs.View.{LoggedView}
+use Rattle.journal_chronicle.specs.Inside.{IsChronicle}
+use Rattle.journal_chronicle.specs.View.{notes_of}
 use Rattle.journal_chronicle.proofs.Goings.{opened-chronicle}
 use Rattle.journal_chronicle.proofs.chronicle.JournalChronicle.new.Goals as goal
 
 pub invariant_of-result : goal.invariant_of-result
-invariant_of-result g c = record {
-  size = c.requires.size;
-  kept = opened-chronicle g.row.SLOTS c.args.logged c.args.frames.now c.requires.running c.requires.pages c.requires.agree;
-  counted = c.count_notes-count.ensures;
-}
+invariant_of-result g c =
+    let is = sym c.in-Ok.ensures.ok in
+    record {
+      size = c.requires.size;
+      kept = subst (λ (v : LoggedView g.row.D.Denot). IsChronicle g.row.SLOTS v) is (opened-chronicle g.row.SLOTS c.args.logged c.args.frames.now c.requires.running c.requires.pages c.requires.agree);
+      counted = subst (λ (v : LoggedView g.row.D.Denot). c.count_notes-count.result ≡ length (notes_of v)) is c.count_notes-count.ensures;
+    }

@@ -18,24 +18,24 @@ none-noted v running none =
     ∙ append-nil v.journal.notes
     ∙ none
 
-pub new-journal-requires-after_bounds : goal.new-journal-requires-after_bounds
-new-journal-requires-after_bounds g c κs within =
+pub new-boxed-requires-after_bounds : goal.new-boxed-requires-after_bounds
+new-boxed-requires-after_bounds g c κs within =
     let small : g.row.SLOTS ≤ 14 = slots-few g.row.SLOTS c.requires.size in
     let value = c.as_slice.ensures.value in
     (search rules, (search rules, (search rules, (c.requires.size, (c.requires.running, (ap (λ (fs : List (Frame g.row.SLOTS)). 8 * length fs) value ∙ c.requires.pages, subst (λ (fs : List (Frame g.row.SLOTS)). AllAgree (cells_of c.args.logged.journal) fs) (sym value) c.requires.agree))))))
 
 pub new-requires-clause-agree : goal.new-requires-clause-agree
 new-requires-clause-agree g c k f at =
-    let is = c.new-journal.ensures in
-    let few : 8 * length c.args.frames.items ≤ c.new-journal.result.journal.history.ids = let e = ap (λ (v : LoggedView g.row.D.Denot). v.journal.history.ids) is in let p = c.requires.pages in omega arith in
-    let agree : AllAgree (cells_of c.new-journal.result.journal) c.args.frames.items = subst (λ (v : LoggedView g.row.D.Denot). AllAgree (cells_of v.journal) c.args.frames.items) (sym is) c.requires.agree in
-    (c.know_frames.ensures.all c.args.frames.items few).0 agree k f at ∙ ap (λ (ns : List Note). frame_after g.row.SLOTS (origin_of c.new-journal.result) ns k) (none-noted c.new-journal.result (ap (λ (v : LoggedView g.row.D.Denot). v.failed) is ∙ c.requires.running) (ap (λ (v : LoggedView g.row.D.Denot). v.journal.notes) is ∙ c.requires.empty))
+    let is = c.in-Ok.ensures.ok in
+    let few : 8 * length c.args.frames.items ≤ c.in-Ok.journal.journal.history.ids = let e = ap (λ (v : LoggedView g.row.D.Denot). v.journal.history.ids) is in let p = c.requires.pages in omega arith in
+    let agree : AllAgree (cells_of c.in-Ok.journal.journal) c.args.frames.items = subst (λ (v : LoggedView g.row.D.Denot). AllAgree (cells_of v.journal) c.args.frames.items) (sym is) c.requires.agree in
+    (c.know_frames.ensures.all c.args.frames.items few).0 agree k f at ∙ ap (λ (ns : List Note). frame_after g.row.SLOTS (origin_of c.in-Ok.journal) ns k) (none-noted c.in-Ok.journal (ap (λ (v : LoggedView g.row.D.Denot). v.failed) is ∙ c.requires.running) (ap (λ (v : LoggedView g.row.D.Denot). v.journal.notes) is ∙ c.requires.empty))
 
 pub invariant_of-pass : goal.invariant_of-pass
 invariant_of-pass g c =
-    let view = c.in-Ok.ensures.ok.2 in
-    let table = c.in-Ok.ensures.ok.1 in
-    let is = c.new-journal.ensures in
+    let view = c.in-Ok-new.ensures.ok.2 in
+    let table = c.in-Ok-new.ensures.ok.1 in
+    let is = c.in-Ok.ensures.ok in
     record {
       none = (ap (λ v. v.hands.pages) view, ap (λ v. v.hands.log) view);
       main_is = sym (ap (λ v. v.station.main) view);
@@ -46,13 +46,13 @@ invariant_of-pass g c =
       left_is = λ name low main. get_or-replicate 256 name false false low ∙ sym (ap (λ v. truth_of v.station.truths name) view);
       size = c.requires.size;
       of_store = (
-        origin_of c.new-journal.result,
+        origin_of c.in-Ok.journal,
         ap (λ v. v.knowledge.fixed) view,
         (let e = ap (λ (v : LoggedView g.row.D.Denot). v.journal.history.ids) is in
             let slots = ap (λ z. z.slots) table in
-            let sized = c.in-Ok.ensures.sized in
+            let sized = c.in-Ok-new.ensures.sized in
             let pages = c.requires.pages in
-            let many = c.in-Ok.ensures.ok.0 in
+            let many = c.in-Ok-new.ensures.ok.0 in
             omega arith),
       );
     }
