@@ -1,0 +1,135 @@
+//! Stores for the runs, and what they are closed with.
+ghost use Rattle.std.specs.Prelude.{◌≡◌, ◌≤◌, [], None, IfOk};
+ghost use Rattle.framed_journal.specs.Holding.{AreFramesOf};
+ghost use Rattle.latch_table.specs.Holds.{IsAlone};
+ghost use Rattle.latch_table.specs.Views.{first_station};
+ghost use Rattle.share_runs.specs.Passes.{IsLoneOf};
+
+use core_store::{Frame, Limits, Note};
+use disk_model::{Disk, MemoryDisk};
+use framed_journal::FramedJournal;
+use journal_opening::open;
+use logged_journal::LoggedJournal;
+use plain_model::Entry;
+use restart_store::init;
+use shared_store::{Pass, Store};
+use std::alloc::{AllocError, Global};
+
+// Each call with a large contract is made in a function of its own, whose clauses are what the next call asks for.
+
+/// A disk in memory with a new store of so many pages.
+pub(crate) fn disk_on(alloc: Global, pages: u16) -> Result<MemoryDisk, AllocError>
+    requires { (1 ≤ pages) × (pages ≤ 1024) }
+{
+    let mut disk = MemoryDisk::new(alloc);
+    match init(&mut disk, pages) {
+        Ok(()) => Ok(disk),
+        Err(_) => Err(AllocError),
+    }
+}
+
+/// The journal of the store that the disk holds.
+fn journal_on<D: Disk>(alloc: Global, disk: D) -> Result<FramedJournal<6, D>, AllocError>
+    ensures { IfOk result (λ j. (j.failed ≡ None) × (j.journal.notes ≡ [])) }
+{
+    match open::<D, 6>(alloc, disk, Limits::GREATEST) {
+        Ok(journal) => Ok(journal),
+        Err(_) => Err(AllocError),
+    }
+}
+
+/// The store over this journal, with its first pass.
+fn store_over<D: Disk>(
+    alloc: Global,
+    journal: FramedJournal<6, D>,
+) -> Result<(Store<6, D>, Pass<6, D>), AllocError>
+    requires { (journal.failed ≡ None) × (journal.journal.notes ≡ []) }
+    ensures pages { IfOk result (λ r. 1 ≤ r.0.pages) }
+    ensures of { IfOk result (λ r. r.1.table ≡ r.0.table) }
+    ensures first { IfOk result (λ r. r.1.view.station ≡ first_station) }
+{
+    let (logged, frames) = journal.into_parts();
+    match Store::new(alloc, logged, frames) {
+        Ok(both) => Ok(both),
+        Err(_) => Err(AllocError),
+    }
+}
+
+/// The store that the disk holds, with its first pass.
+pub(crate) fn store_on<D: Disk>(
+    alloc: Global,
+    disk: D,
+) -> Result<(Store<6, D>, Pass<6, D>), AllocError>
+    ensures pages { IfOk result (λ r. 1 ≤ r.0.pages) }
+    ensures of { IfOk result (λ r. r.1.table ≡ r.0.table) }
+    ensures first { IfOk result (λ r. r.1.view.station ≡ first_station) }
+{
+    let journal = journal_on(alloc, disk)?;
+    store_over(alloc, journal)
+}
+
+/// A pass for client 1, which is alone, out of the first pass of a store.
+fn lone_of<D: Disk>(store: &Store<6, D>, mut main: Pass<6, D>) -> Pass<6, D>
+    requires of { (main.table ≡ store.now.table) × (main.view.station ≡ first_station) }
+    requires pages { 1 ≤ store.now.pages }
+    ensures { IsLoneOf store.now result }
+{
+    let mut one = store.share(&mut main, 1);
+    store.join(&mut one, main);
+    one
+}
+
+/// The store that the disk holds, with a pass for client 1, which is alone.
+pub(crate) fn lone_on<D: Disk>(
+    alloc: Global,
+    disk: D,
+) -> Result<(Store<6, D>, Pass<6, D>), AllocError>
+    ensures { IfOk result (λ r. IsLoneOf r.0 r.1) }
+{
+    let (store, main) = store_on(alloc, disk)?;
+    let one = lone_of(&store, main);
+    Ok((store, one))
+}
+
+/// Closes the store.
+pub(crate) fn close<D: Disk>(
+    store: Store<6, D>,
+    pass: Pass<6, D>,
+) -> (LoggedJournal<6, D>, Vec<Frame<6>>)
+    requires of { pass.table ≡ store.table }
+    requires alone { IsAlone pass.view }
+{
+    store.close(pass)
+}
+
+/// The notes of the journal.
+fn notes_of<D: Disk>(logged: &LoggedJournal<6, D>) -> &[Note] {
+    logged.journal().history()
+}
+
+/// How many entries the history has.
+pub(crate) fn entries_in<D: Disk>(logged: &LoggedJournal<6, D>) -> usize {
+    notes_of(logged).len()
+}
+
+/// Whether the note is of a call of this client.
+fn is_of(note: &Note, client: u8) -> bool {
+    match note.entry {
+        Entry::Call { pass, .. } => pass == client,
+        _ => false,
+    }
+}
+
+/// How many entries are calls of this client.
+pub(crate) fn calls_of<D: Disk>(logged: &LoggedJournal<6, D>, client: u8) -> usize {
+    notes_of(logged)
+        .iter()
+        .filter(|note| is_of(note, client))
+        .count()
+}
+
+/// How many objects are stored.
+pub(crate) fn objects_in<D: Disk>(logged: &LoggedJournal<6, D>) -> Result<usize, AllocError> {
+    let stored = logged.journal().stored()?;
+    Ok(stored.items().len())
+}
