@@ -42,7 +42,7 @@ pub(crate) fn append_record<const SLOTS: usize>(
 {
     know_cell_record(record);
     spelling.clear();
-    let _ = Record::<SLOTS>::OfCells(record).write(spelling);
+    let _ = record.write(spelling);
     let _ = log.append(u32::MAX as u64, 0, spelling);
 }
 
