@@ -1,5 +1,5 @@
 //! The looks of the collector: what it sees on the held pages where there is nothing to do.
-ghost use Rattle.std.specs.Prelude.{◌≡◌, ℕ, List, IfSome, true, Some};
+ghost use Rattle.std.specs.Prelude.{◌≡◌, ◌<◌, ◌*◌, ℕ, List, slice_get, IfSome, true, Some};
 ghost use Rattle.cell_page.specs.Format.{IsSlotCount, page_of_id};
 ghost use Rattle.store_model.specs.Core.{Core};
 ghost use Rattle.core_store.specs.RoundView.{asked, is_event, IsLookAt, Passes, looked_past};
@@ -108,6 +108,18 @@ fn is_event<const SLOTS: usize>(held: &Three<SLOTS>, at: RoundAt) -> bool
 }
 
 impl<const SLOTS: usize> Tables<SLOTS> {
+    /// The first page that the collector's next look or event needs, if it needs one.
+    pub(crate) fn page_to_collect(&self) -> Option<u16>
+        requires standing { (c : Core) × Stands SLOTS (view_of self.now) c }
+        ensures first { (c : Core) → Stands SLOTS (view_of self.now) c → result ≡ slice_get (pages_to_collect c.cells (view_of self.now).round) 0 }
+        ensures there { IfSome result (λ page. 8 * page < self.now.ids) }
+    {
+        match work_at(self.round.at()) {
+            Some(work) => Some(page_of(work.id)),
+            None => None,
+        }
+    }
+
     /// What is to be done with the held pages before the next step of the collector. It looks at what the held pages
     /// show, and goes on where there is nothing to do.
     pub(crate) fn wants_collect_step(&mut self, held: &Three<SLOTS>) -> Want

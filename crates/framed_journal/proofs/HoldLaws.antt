@@ -1,5 +1,5 @@
 -- Frames are held that are wanted, and are the store's again where they were changed and put back.
-use Rattle.std.proofs.Common.{◌≡◌, ◌≢◌, ⊎_elim, ℕ, ◌-◌, ◌*◌, ◌<◌, ◌≤◌, true, List, [], ◌∷◌, ◌++◌, length, get_or, refl, sym, ap, ◌∙◌, arith, length-append}
+use Rattle.std.proofs.Common.{◌≡◌, ◌≢◌, ⊎_elim, Some, slice_get, ℕ, ◌-◌, ◌*◌, ◌<◌, ◌≤◌, true, List, [], ◌∷◌, ◌++◌, length, get_or, refl, sym, ap, ◌∙◌, arith, length-append}
 use Rattle.std.specs.List.{AllByRecursion}
 use Rattle.std.proofs.lemmas.Option.{slice_get-get_or}
 use Rattle.plain_model.specs.declared.calls.Entry.{Entry}
@@ -101,3 +101,8 @@ AreFramesOf-changed j k frames new held changed all size agree same elsewhere fo
   agree = follows (cells_of j) (cells_of k) all.agree agree (elsewhere-pages (cells_of j) (cells_of k) held changed (sym same) elsewhere);
   size = (size.slots ∙ all.size.0, all.size.1);
 }
+
+-- where none is held, the first that is needed is wanted
+pub first-wanted : (needed : List ℕ) (p : ℕ) → slice_get needed 0 ≡ Some p → want_of needed [] ≡ Page p
+first-wanted [] p e = absurd (cc)
+first-wanted (n ∷ ns) p e = let same : n ≡ p = cc in ap (λ (q : ℕ). Page q) same

@@ -1,11 +1,11 @@
 //! Which frames are held before a call, and how they are put back behind it.
-ghost use Rattle.std.specs.Prelude.{◌≡◌, ℕ, ◌<◌, ◌≤◌, [], length, None};
+ghost use Rattle.std.specs.Prelude.{◌≡◌, ◌≢◌, ℕ, ◌<◌, ◌≤◌, [], length, None};
 ghost use Rattle.std.specs.List.{AllByRecursion};
 ghost use Rattle.plain_model.specs.Machine.{IsInRange, transaction_of};
 ghost use Rattle.plain_model.specs.History.{end_of};
 ghost use Rattle.core_store.specs.JournalView.{cells_of};
 ghost use Rattle.core_store.specs.Frames.{pages_held};
-ghost use Rattle.core_store.specs.Limited.{pages_for_call};
+ghost use Rattle.core_store.specs.Limited.{pages_for_call, pages_for_collector};
 ghost use Rattle.core_store.specs.Logged.{want_of, pages_for_undo};
 ghost use Rattle.core_store.specs.Replaced.{next_to_restore};
 ghost use Rattle.core_store.specs.Work.{IsWorkIn, pages_of_work};
@@ -69,8 +69,24 @@ pub(crate) fn hold_for_abort_step<const SLOTS: usize>(
     hold(journal, frames, held, journal.undo_work(client));
 }
 
+/// Holds the frame that the collector's next look or event needs first, if it needs one.
+fn hold_first<const SLOTS: usize>(
+    journal: &Journal<SLOTS>,
+    frames: &[Frame<SLOTS>],
+    held: &mut Three<SLOTS>,
+)
+    requires frames { AreFramesOf journal.now frames.now }
+    requires none { held.old ≡ [] }
+    ensures held { AreHeldOf journal.now held.new }
+    ensures needed { want_of (pages_for_collector journal.now) (pages_held held.new) ≢ Want.LetGo }
+{
+    if let Some(page) = journal.page_to_collect() {
+        held.put(page, &frames[page as usize]);
+    }
+}
+
 /// Holds the frames that the collector's next event needs. The collector looks at what they show, and goes on where there
-/// is nothing to do.
+/// is nothing to do. That which it needs first is held before it is asked.
 pub(crate) fn hold_for_collect_step<const SLOTS: usize, D: Disk>(
     logged: &mut LoggedJournal<SLOTS, D>,
     frames: &[Frame<SLOTS>],
@@ -83,6 +99,7 @@ pub(crate) fn hold_for_collect_step<const SLOTS: usize, D: Disk>(
     ensures same { logged.new ≡ record logged.old { journal = logged.new.journal } }
     ensures looks { OnlyLooks SLOTS logged.old.journal logged.new.journal }
 {
+    hold_first(logged.journal(), frames, held);
     'pages: loop {
         match logged.wants_collect_step(held) {
             Want::Page(page) => held.put(page, &frames[page as usize]),

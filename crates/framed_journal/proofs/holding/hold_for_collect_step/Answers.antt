@@ -1,4 +1,9 @@
-use Rattle.std.proofs.Common.{◌≤◌, refl, sym, arith, rules}
+use Rattle.std.proofs.Common.{◌≤◌, ◌≢◌, refl, sym, subst, arith, rules}
+use Rattle.core_store.specs.declared.want.Want.TheVariants.{LetGo}
+use Rattle.core_store.specs.Frames.{pages_held}
+use Rattle.core_store.specs.Logged.{want_of}
+use Rattle.core_store.specs.JournalView.{JournalView}
+use Rattle.framed_journal.specs.Holding.{AreHeldOf}
 use Rattle.core_store.specs.declared.three.HeldFrame.{HeldFrame}
 use Rattle.core_store.specs.Limited.{pages_for_collector}
 use Rattle.core_store.proofs.WantLaws.{wanted-put}
@@ -8,8 +13,8 @@ use Rattle.framed_journal.proofs.holding.hold_for_collect_step.Goals as goal
 
 pub pages-init : goal.pages-init
 pages-init g c = record {
-  held = AreHeldOf-none c.args.logged.now.journal c.args.held.now c.requires.none;
-  needed = none-let_go (pages_for_collector c.args.logged.now.journal) c.args.held.now c.requires.none;
+  held = subst (λ (j : JournalView). AreHeldOf j c.hold_first.new.held) c.journal.ensures.journal c.hold_first.ensures.held;
+  needed = subst (λ (j : JournalView). want_of (pages_for_collector j) (pages_held c.hold_first.new.held) ≢ LetGo) c.journal.ensures.journal c.hold_first.ensures.needed;
   looks = OnlyLooks-none g.row.SLOTS c.args.logged.now.journal;
   same = refl;
 }
