@@ -1,5 +1,5 @@
 //! The looks of the collector: what it sees on the held pages where there is nothing to do.
-ghost use Rattle.std.specs.Prelude.{◌≡◌, ◌<◌, ◌*◌, ℕ, List, slice_get, IfSome, true, Some};
+ghost use Rattle.std.specs.Prelude.{◌≡◌, ◌<◌, ◌*◌, ℕ, List, slice_get, IfSome, true, false, Some};
 ghost use Rattle.cell_page.specs.Format.{IsSlotCount, page_of_id};
 ghost use Rattle.store_model.specs.Core.{Core};
 ghost use Rattle.core_store.specs.RoundView.{asked, is_event, IsLookAt, Passes, looked_past};
@@ -156,12 +156,14 @@ impl<const SLOTS: usize> Tables<SLOTS> {
         if !held.holds(page_of(id)) {
             return at;
         }
-        self.pass_nulls(held, at, id, slot);
+        if !self.pass_nulls(held, at, id, slot) {
+            return at;
+        }
         self.round.at()
     }
 
-    /// Passes over the slots of the object that are null, from the one on that is looked at.
-    fn pass_nulls(&mut self, held: &Three<SLOTS>, at: RoundAt, id: u32, slot: u8)
+    /// Passes over the slots of the object that are null, from the one on that is looked at, and tells whether there was one.
+    fn pass_nulls(&mut self, held: &Three<SLOTS>, at: RoundAt, id: u32, slot: u8) -> bool
         requires standing { IsStanding (view_of self.old) held.now }
         requires at { at ≡ asked (view_of self.old).round }
         requires slot { slot_at at ≡ Some (id, slot) }
@@ -169,14 +171,17 @@ impl<const SLOTS: usize> Tables<SLOTS> {
         ensures passes { (c : Core) → Stands SLOTS (view_of self.old) c → Agree c.cells held.now → Passes SLOTS c.cells (view_of self.old).round (view_of self.new).round }
         ensures stands { (c : Core) → Stands SLOTS (view_of self.old) c → Agree c.cells held.now → Stands SLOTS (view_of self.new) c }
         ensures same { view_of self.new ≡ record (view_of self.old) { round = (view_of self.new).round } }
+        ensures none { result ≡ false → view_of self.new ≡ view_of self.old }
     {
         let slots = &held.cell(id).slots;
-        for place in slot as usize..SLOTS {
+        let first = slot as usize;
+        for place in first..SLOTS {
             if slots[place] != 0 {
-                return;
+                return place != first;
             }
             self.pass_null(at_slot(at, place as u8));
         }
+        true
     }
 
     /// Goes on from a slot that is null.

@@ -1,4 +1,4 @@
-use Rattle.std.proofs.Common.{rules, ◌≤◌, sym, ap, ◌∙◌, subst, arith, ⊎_elim}
+use Rattle.std.proofs.Common.{rules, refl, ◌≤◌, sym, ap, ◌∙◌, subst, arith, ⊎_elim}
 use Rattle.store_model.specs.Core.{Core}
 use Rattle.core_store.specs.Frames.{Agree}
 use Rattle.core_store.specs.Nulls.{at_slot, IsNullAt}
@@ -20,7 +20,7 @@ cell-requires g c =
     (search rules, (search rules, ((t.0, t.1), (c.requires.there, (r.core.cells, r.agree)))))
 
 pub loop-place-init : goal.loop-place-init
-loop-place-init g c = record { passed = passed-none g.row.SLOTS (view_of c.args.self.now) c.args.held.now; next = λ l. sym c.requires.at ∙ sym (same-slot c.args.at c.args.id c.args.slot c.requires.slot) }
+loop-place-init g c = record { passed = passed-none g.row.SLOTS (view_of c.args.self.now) c.args.held.now; next = λ l. sym c.requires.at ∙ sym (same-slot c.args.at c.args.id c.args.slot c.requires.slot); none = λ _. refl }
 
 pub pass_null-requires : goal.pass_null-requires
 pass_null-requires g c =
@@ -55,4 +55,5 @@ loop-place-preserved g c =
             stands = λ d h agree. (pass d h agree).stands;
           });
       next = λ l. ap asked one.round ∙ null-next before c.args.at k next (null r.core r.agree) l;
+      none = λ e. absurd (omega (arith, e));
     }

@@ -10,4 +10,5 @@ abbrev pub invariant-loop-place : goal.invariant-loop-place
 invariant-loop-place g l = record {
   passed : HasPassed g.row.SLOTS (view_of l.fn.self) (view_of l.self) l.held;
   next : l.place < g.row.SLOTS → asked l.self.round.view ≡ at_slot l.at l.place;
+  none : l.place ≡ l.first → view_of {slots = g.row.SLOTS} l.self ≡ view_of {slots = g.row.SLOTS} l.fn.self;
 }
