@@ -1,19 +1,16 @@
 -- Laws on the lists of the objects that the clients hold.
-use Rattle.std.proofs.Common.{◌≡◌, ℕ, Bool, ◌==◌, ◌&&◌, ◌||◌, true, false, cond, arith, List, [], ◌∷◌, ◌++◌, Option, None, eqb, refl, sym, ap, ◌∙◌, subst}
+use Rattle.std.proofs.Common.{◌≡◌, ℕ, Bool, ◌==◌, ◌&&◌, ◌||◌, true, false, arith, List, [], ◌∷◌, ◌++◌, eqb, refl, sym, ap, ◌∙◌, subst}
 use Rattle.std.specs.Cmp.{nat_cmp_total, eq_by_cmp_equiv}
-use Rattle.std.specs.Global.{Vec}
 use Rattle.std.specs.List.{list_any, IsDistinct}
 use Rattle.std.specs.Ordering.{nat_cmp, eq_by_cmp}
 use Rattle.std.specs.BTreeMap.{is_at}
-use Rattle.std.specs.Map.{lookup}
-use Rattle.std.specs.Option.{option_map_or}
 use Rattle.std.proofs.lemmas.Bool.{cond_both, eqb-true, eqb-false}
 use Rattle.std.proofs.lemmas.Bool.Decides.{nat_tests}
 use Rattle.std.proofs.lemmas.List.Folds.{list_any-append}
 use Rattle.std.proofs.lemmas.Map.Keys.{IsDistinct-push}
 use Rattle.strict_locks.proofs.LockLaws.{AddsHolder}
-use Rattle.strict_locks.specs.Locks.{Table, holders_of, is_holder, Holds}
-use Rattle.strict_locks.specs.Clients.{Lists, ids_of, AddsId, AreListed, AreDistinct, AreSound}
+use Rattle.strict_locks.specs.Locks.{Table, holders_of, is_holder, Holds, DropsAll}
+use Rattle.strict_locks.specs.Clients.{Lists, ids_of, AddsId, DropsIds, AreListed, AreDistinct, AreSound}
 
 -- a fact that is known already adds nothing
 absorbed : (x id p pass : ℕ) (b : Bool) → (x ≡ id → p ≡ pass → b ≡ true) → ((x == id && p == pass) || b) ≡ b
@@ -41,11 +38,22 @@ AreDistinct-note old kept new pass id distinct same adds absent p =
     let noted : eqb p pass ≡ true → P (ids_of kept p ++ id ∷ []) = λ here. IsDistinct-push (eq_by_cmp_equiv nat_cmp_total) _ id kept_distinct (lacks here) in
     subst P (sym (adds p)) (cond_both (eqb p pass) (ids_of kept p ++ id ∷ []) (ids_of kept p) P noted (λ _. kept_distinct))
 
--- the lists stay without repeats when a client's list is taken away
-pub AreDistinct-remove : (old new : Lists) (pass : ℕ) → ((q : ℕ) → lookup (is_at (nat_cmp q)) new ≡ cond (is_at (nat_cmp pass) q) None (lookup (is_at (nat_cmp q)) old)) → AreDistinct old → AreDistinct new
-AreDistinct-remove old new pass removes distinct p =
-    let P : Option (Vec ℕ) → Type 0 = λ o. IsDistinct (eq_by_cmp nat_cmp) (option_map_or (λ ids. ids.items) o []) in
-    subst P (sym (removes p)) (cond_both (is_at (nat_cmp pass) p) None (lookup (is_at (nat_cmp p)) old) P (λ _. distinct-none) (λ _. distinct p))
+-- the lists stay without repeats when a client's list names nothing any more
+pub AreDistinct-drop : (old new : Lists) (pass : ℕ) → DropsIds old new pass → AreDistinct old → AreDistinct new
+AreDistinct-drop old new pass drops distinct p =
+    let P : List ℕ → Type 0 = λ ids. IsDistinct (eq_by_cmp nat_cmp) ids in
+    subst P (sym (drops p)) (cond_both (eqb p pass) [] (ids_of old p) P (λ _. distinct-none) (λ _. distinct p))
+
+-- the lists stay right when a client gives all back and its list names nothing any more
+pub AreListed-drop : (old new : Table) (lists left : Lists) (pass : ℕ) → DropsAll old new pass → DropsIds lists left pass → AreListed old lists → AreListed new left
+AreListed-drop old new lists left pass gives drops listed x p =
+    let test = is_at (nat_cmp x) in
+    let P : List ℕ → Type 0 = λ ids. list_any test ids ≡ is_holder (holders_of new x) p in
+    let o = gives.owners x p in
+    let s = gives.sharers x p in
+    subst P (sym (drops p)) (cond_both (eqb p pass) [] (ids_of lists p) P
+    (λ here. grind (arith, nat_tests, here, o, s))
+    (λ apart. listed x p ∙ grind (arith, nat_tests, apart, o, s)))
 
 -- the lists stay right when a client gets one lock more on an object that it holds
 pub AreListed-again : (old new : Table) (lists : Lists) (pass id : ℕ) → AddsHolder old new pass id → Holds (holders_of old id) pass → AreListed old lists → AreListed new lists

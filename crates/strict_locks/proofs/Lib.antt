@@ -3,3 +3,4 @@ mod GivingBack
 mod HoldersLaws
 mod IndexLaws
 pub mod LockLaws
+mod MadeLists

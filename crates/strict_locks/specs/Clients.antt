@@ -1,24 +1,31 @@
 -- The objects that each client holds.
-use Rattle.std.specs.Prelude.{◌≡◌, ℕ, ◌<◌, ◌==◌, true, List, [], ◌∷◌, ◌++◌, vec_len, vec_capacity, IsSomeAnd, if◌then◌else◌}
+use Rattle.std.specs.Prelude.{◌≡◌, ℕ, ◌<◌, ◌==◌, true, List, [], ◌∷◌, ◌++◌, vec_len, vec_capacity, slice_get, IsSomeAnd, if◌then◌else◌}
 use Rattle.std.specs.Global.{Vec}
 use Rattle.std.specs.List.{list_any, IsDistinct}
 use Rattle.std.specs.Option.{option_map_or}
 use Rattle.std.specs.Ordering.{nat_cmp, eq_by_cmp}
 use Rattle.std.specs.BTreeMap.{is_at}
-use Rattle.std.specs.Map.{lookup}
 use Rattle.strict_locks.specs.Locks.{Table, holders_of, is_holder, Holds, AreHeld}
 
--- the clients, ascending, each with the list of the objects that it holds
+-- the list of the objects that each client holds, which stands at its number
 abbrev pub Lists : Type 0
-Lists = List (ℕ × Vec ℕ)
+Lists = List (Vec ℕ)
 
 -- the objects that the client's list names
 abbrev pub ids_of : Lists → ℕ → List ℕ
-ids_of lists pass = option_map_or (λ ids. ids.items) (lookup (is_at (nat_cmp pass)) lists) []
+ids_of lists pass = option_map_or (λ ids. ids.items) (slice_get lists pass) []
 
 -- the client's list can take one more id without memory
 abbrev pub HasRoom : Lists → ℕ → Type 0
-HasRoom lists pass = IsSomeAnd (lookup (is_at (nat_cmp pass)) lists) (λ ids. vec_len ids < vec_capacity ids)
+HasRoom lists pass = IsSomeAnd (slice_get lists pass) (λ ids. vec_len ids < vec_capacity ids)
+
+-- each client's list names what it named
+abbrev pub AreSame : Lists → Lists → Type 0
+AreSame old new = (p : ℕ) → ids_of new p ≡ ids_of old p
+
+-- this client's list names nothing, and the others are the old ones
+abbrev pub DropsIds : Lists → Lists → ℕ → Type 0
+DropsIds old new pass = (p : ℕ) → ids_of new p ≡ (if p == pass then [] else ids_of old p)
 
 -- the new lists have the id at the end of this client's, and are else the old ones
 abbrev pub AddsId : Lists → Lists → ℕ → ℕ → Type 0

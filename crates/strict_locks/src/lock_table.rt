@@ -9,7 +9,6 @@ use crate::standing::Standing;
 use crate::{clients, objects};
 use indexmap::IndexMap;
 use std::alloc::Global;
-use std::collections::BTreeMap;
 use std::marker::Model;
 
 /// The locks that clients hold. A client keeps each lock until it gives all of its locks back.
@@ -23,7 +22,8 @@ use std::marker::Model;
 pub struct LockTable {
     alloc: Global,
     locks: IndexMap<u32, ObjectLock>,
-    lists: BTreeMap<u8, Vec<u32>>,
+    /// The objects that each client holds, at its number.
+    lists: Vec<Vec<u32>>,
 }
 
 impl Model for LockTable {
@@ -34,7 +34,7 @@ impl Model for LockTable {
 
     ghost view = { λ a. a.locks.entries };
 
-    ghost invariant = { λ a. AreSound a.locks.entries a.lists.entries };
+    ghost invariant = { λ a. AreSound a.locks.entries a.lists.items };
 }
 
 impl LockTable {
@@ -48,7 +48,7 @@ impl LockTable {
         LockTable {
             alloc,
             locks: IndexMap::new(alloc),
-            lists: BTreeMap::new(alloc),
+            lists: Vec::new(alloc),
         }
     }
 
@@ -115,9 +115,8 @@ impl LockTable {
     pub fn drop_all(&mut self, pass: u8)
         ensures { DropsAll self.old self.new pass }
     {
-        if let Some(ids) = self.lists.remove(&pass) {
-            objects::give_back_all(&mut self.locks, pass, ids.as_slice());
-        }
+        objects::give_back_all(&mut self.locks, pass, clients::list(&self.lists, pass));
+        clients::clear(&mut self.lists, pass);
     }
 
     /// The least client that owns or shares the object, and `None` where nobody does.

@@ -14,8 +14,8 @@ invariant_of-self c =
 
 pub invariant_of-self-2 : goal.invariant_of-self-2
 invariant_of-self-2 c =
-    let lists = c.self.inside.lists.entries in
-    let kept = c.reserve.new.lists.entries in
+    let lists = c.self.inside.lists.items in
+    let kept = c.reserve.new.lists.items in
     let adds = AddsHolder-own _ _ c.args.pass c.args.id c.in_ok-own_first.ensures.adds c.in-Free.ensures.0 in
     let absent = c.self.invariant.listed c.args.id c.args.pass ∙ c.in-Free.ensures.1 in
     record {
