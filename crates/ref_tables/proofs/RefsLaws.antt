@@ -1,34 +1,55 @@
 -- What keeps the entries, their counts and the room in step.
-use Rattle.std.proofs.Common.{◌≡◌, ◌≢◌, ℕ, ◌+◌, ◌*◌, ◌^◌, ◌-◌, ◌≤◌, ◌<◌, ◌==◌, cond, zero, suc, List, [], ◌∷◌, ◌++◌, Option, None, Some, Result, Ok, Err, length, unwrap_or, nat_lt, nat_eq, ⊎_elim, refl, sym, ap, subst, ◌∙◌, arith}
+use Rattle.std.proofs.Common.{◌≡◌, ◌≢◌, ℕ, true, false, ◌+◌, ◌*◌, ◌^◌, ◌-◌, ◌≤◌, ◌<◌, ◌==◌, cond, zero, suc, List, [], ◌∷◌, ◌++◌, Option, None, Some, Result, Ok, Err, length, unwrap_or, slice_get, nat_lt, ⊎_elim, refl, sym, ap, subst, ◌∙◌, arith}
 use Rattle.std.specs.Global.{Vec}
 use Rattle.std.specs.List.{list_any}
-use Rattle.std.specs.Option.{option_map, option_map_or}
+use Rattle.std.specs.Option.{option_map_or}
 use Rattle.std.specs.Result.{OnErr}
 use Rattle.std.specs.Ordering.{nat_cmp}
 use Rattle.std.specs.BTreeMap.{is_at}
 use Rattle.std.specs.Map.{lookup}
 use Rattle.std.proofs.lemmas.Bool.{cases_eq, cases_lt}
 use Rattle.std.proofs.lemmas.Bool.Decides.{nat_tests}
-use Rattle.std.proofs.lemmas.Map.Made.{lookup-map_values}
 use Rattle.std.proofs.lemmas.List.Sums.{count_by-le-length, sum_by-cons, sum_by_push}
-use Rattle.indexmap.specs.IndexMap.{IndexMap, spare}
 use Rattle.ref_tables.specs.declared.kind.TempRef.{TempRef}
+use Rattle.ref_tables.specs.declared.counts.Counts.{Counts}
 use Rattle.ref_tables.specs.Lists.{Lists, list_of, HasRoom, KeepsRoom, AreSame, AddsEntry, EndsClient}
-use Rattle.ref_tables.specs.Counts.{count_of, count_in}
-use Rattle.ref_tables.specs.Refs.{entries_of, Names, seen, sum_below, AreRefsInside}
+use Rattle.ref_tables.specs.Counts.{count_of, count_in, room_in, HasSameCounts}
+use Rattle.ref_tables.specs.Refs.{Table, entries_of, Names, numbered, seen, sum_below, AreRefsInside}
 
 -- ---- what contracts see
 
--- the two ways to read an option
-read-option : (o : Option (Vec TempRef)) → unwrap_or (option_map (λ list. list.items) o) [] ≡ option_map_or (λ list. list.items) o []
-read-option None = refl
-read-option (Some list) = refl
+-- the test of a key, by its number
+at-key : (x y : ℕ) → is_at (nat_cmp x) y ≡ (x == y)
+at-key x y = grind (arith, nat_tests)
+
+-- the client that is so far behind the first one has the list at that place
+numbered-at : (lists : Lists) (n place : ℕ) → unwrap_or (lookup (is_at (nat_cmp (n + place))) (numbered n lists)) [] ≡ list_of lists place
+unfolding numbered
+numbered-at [] n place = refl
+numbered-at (list ∷ lists) n zero =
+    let here : is_at (nat_cmp (n + 0)) n ≡ true = at-key (n + 0) n ∙ grind (arith, nat_tests) in
+    ap (λ b. unwrap_or (cond b (Some list.items) (lookup (is_at (nat_cmp (n + 0))) (numbered (suc n) lists))) []) here
+numbered-at (list ∷ lists) n (suc place) =
+    let apart : is_at (nat_cmp (n + suc place)) n ≡ false = at-key (n + suc place) n ∙ grind (arith, nat_tests) in
+    let same : suc n + place ≡ n + suc place = omega arith in
+    ap (λ b. unwrap_or (cond b (Some list.items) (lookup (is_at (nat_cmp (n + suc place))) (numbered (suc n) lists))) []) apart
+    ∙ subst (λ m. unwrap_or (lookup (is_at (nat_cmp m)) (numbered (suc n) lists)) [] ≡ list_of lists place) same (numbered-at lists (suc n) place)
 
 -- the entries that contracts see are those of the lists
 pub entries-seen : (lists : Lists) (room_for room p : ℕ) → entries_of (record { clients = seen lists; room_for = room_for; room = room }) p ≡ list_of lists p
-entries-seen lists room_for room p = ap (λ o. unwrap_or o []) (lookup-map_values (λ list. list.items) (is_at (nat_cmp p)) lists) ∙ read-option (lookup (is_at (nat_cmp p)) lists)
+entries-seen lists room_for room p =
+    let same : 0 + p ≡ p = omega arith in
+    subst (λ m. unwrap_or (lookup (is_at (nat_cmp m)) (numbered 0 lists)) [] ≡ list_of lists p) same (numbered-at lists 0 p)
 
--- and so are those after a change
+-- without lists there is no client
+seen-none : (lists : Lists) → lists ≡ [] → seen lists ≡ []
+unfolding numbered
+seen-none lists none = ap (numbered 0) none
+
+pub table-none : (lists : Lists) (room_for room : ℕ) → lists ≡ [] → ◌≡◌ {A = Table} (record { clients = seen lists; room_for = room_for; room = room }) (record { clients = []; room_for = room_for; room = room })
+table-none lists room_for room none = let as_table : List (ℕ × List TempRef) → Table = λ clients. record { clients = clients; room_for = room_for; room = room } in ap as_table (seen-none lists none)
+
+-- the entries after a change
 pub seen-same : (old new : Lists) (f r g s : ℕ) → AreSame old new → (p : ℕ) → entries_of (record { clients = seen new; room_for = g; room = s }) p ≡ entries_of (record { clients = seen old; room_for = f; room = r }) p
 seen-same old new f r g s same p = entries-seen new g s p ∙ same p ∙ sym (entries-seen old f r p)
 
@@ -115,25 +136,25 @@ short-option : (o : Option (Vec TempRef)) → length (option_map_or (λ list. li
 short-option None = omega arith
 short-option (Some list) = omega (arith, list.small, list.ok)
 
-pub count-small : {S : Type 0} (lists : Lists) (counts : IndexMap ℕ ℕ S) (room_for room target : ℕ) → AreRefsInside lists counts room_for room → count_of counts target + 1 < 2 ^ 128
+pub count-small : (lists : Lists) (counts : Counts) (room_for room target : ℕ) → AreRefsInside lists counts room_for room → count_of counts target + 1 < 2 ^ 128
 count-small lists counts room_for room target sound =
-    let short : (p : ℕ) → count_in target (list_of lists p) ≤ 2 ^ 64 = λ p. let s = short-option (lookup (is_at (nat_cmp p)) lists) in let c = count_by-le-length (λ entry. entry.target == target) (list_of lists p) in omega (arith, s, c) in
+    let short : (p : ℕ) → count_in target (list_of lists p) ≤ 2 ^ 64 = λ p. let s = short-option (slice_get lists p) in let c = count_by-le-length (λ entry. entry.target == target) (list_of lists p) in omega (arith, s, c) in
     let all = sum_below-le 256 (2 ^ 64) (λ p. count_in target (list_of lists p)) short in
     omega (arith, all, sound.counted target)
 
 -- ---- what the calls keep
 
 -- a new table has nothing
-pub AreRefsInside-new : {S : Type 0} (lists : Lists) (counts : IndexMap ℕ ℕ S) → lists ≡ [] → counts.entries ≡ [] → AreRefsInside lists counts 0 0
+pub AreRefsInside-new : (lists : Lists) (counts : Counts) → lists ≡ [] → ((t : ℕ) → count_of counts t ≡ 0) → AreRefsInside lists counts 0 0
 AreRefsInside-new lists counts no_lists no_counts = record {
-  counted = λ t. ap (λ entries. unwrap_or (lookup (nat_eq t) entries) 0) no_counts ∙ sym (sum_below-zero 256 (λ p. count_in t (list_of lists p)) (λ p. ap (λ ls. count_in t (list_of ls p)) no_lists));
+  counted = λ t. no_counts t ∙ sym (sum_below-zero 256 (λ p. count_in t (list_of lists p)) (λ p. ap (λ ls. count_in t (list_of ls p)) no_lists));
   clients = λ p beyond. ap (λ ls. list_of ls p) no_lists;
   room_of_list = λ some. absurd (omega (arith, some));
   room_of_counts = omega arith;
 }
 
 -- the entries and their counts stay, and so does room
-pub AreRefsInside-same : {S : Type 0} (old new : Lists) (counts kept : IndexMap ℕ ℕ S) (room_for room : ℕ) → AreSame old new → KeepsRoom old new → ((t : ℕ) → count_of kept t ≡ count_of counts t) → room ≤ spare kept → AreRefsInside old counts room_for room → AreRefsInside new kept room_for room
+pub AreRefsInside-same : (old new : Lists) (counts kept : Counts) (room_for room : ℕ) → AreSame old new → KeepsRoom old new → HasSameCounts counts kept → room ≤ room_in kept → AreRefsInside old counts room_for room → AreRefsInside new kept room_for room
 AreRefsInside-same old new counts kept room_for room same keeps counted left sound = record {
   counted = λ t. counted t ∙ sound.counted t ∙ sym (sum_below-same 256 (λ p. count_in t (list_of old p)) (λ p. count_in t (list_of new p)) (λ p. ap (count_in t) (same p)));
   clients = λ p beyond. same p ∙ sound.clients p beyond;
@@ -142,16 +163,16 @@ AreRefsInside-same old new counts kept room_for room same keeps counted left sou
 }
 
 -- the counts have more room
-pub AreRefsInside-reserved : {S : Type 0} (lists : Lists) (counts kept : IndexMap ℕ ℕ S) (room_for room : ℕ) → kept.entries ≡ counts.entries → spare counts ≤ spare kept → AreRefsInside lists counts room_for room → AreRefsInside lists kept room_for room
+pub AreRefsInside-reserved : (lists : Lists) (counts kept : Counts) (room_for room : ℕ) → HasSameCounts counts kept → room_in counts ≤ room_in kept → AreRefsInside lists counts room_for room → AreRefsInside lists kept room_for room
 AreRefsInside-reserved lists counts kept room_for room same more sound = record {
-  counted = λ t. ap (λ entries. unwrap_or (lookup (nat_eq t) entries) 0) same ∙ sound.counted t;
+  counted = λ t. same t ∙ sound.counted t;
   clients = sound.clients;
   room_of_list = sound.room_of_list;
   room_of_counts = omega (arith, more, sound.room_of_counts);
 }
 
 -- with room for another client
-pub AreRefsInside-room : {S : Type 0} (lists : Lists) (counts : IndexMap ℕ ℕ S) (room_for room pass more : ℕ) → HasRoom lists pass more → more ≤ spare counts → AreRefsInside lists counts room_for room → AreRefsInside lists counts pass more
+pub AreRefsInside-room : (lists : Lists) (counts : Counts) (room_for room pass more : ℕ) → HasRoom lists pass more → more ≤ room_in counts → AreRefsInside lists counts room_for room → AreRefsInside lists counts pass more
 AreRefsInside-room lists counts room_for room pass more has left sound = record {
   counted = sound.counted;
   clients = sound.clients;
@@ -160,7 +181,7 @@ AreRefsInside-room lists counts room_for room pass more has left sound = record 
 }
 
 -- one entry more
-pub AreRefsInside-add : {S : Type 0} (old new : Lists) (counts added : IndexMap ℕ ℕ S) (room_for room left pass : ℕ) (entry : TempRef) → pass < 256 → AddsEntry old new pass entry → ((p n : ℕ) → HasRoom old p (n + 1) → HasRoom new p n) → ((t : ℕ) → count_of added t ≡ count_of counts t + cond (t == entry.target) 1 0) → spare counts ≤ spare added + 1 → left ≡ room - 1 → AreRefsInside old counts room_for room → AreRefsInside new added room_for left
+pub AreRefsInside-add : (old new : Lists) (counts added : Counts) (room_for room left pass : ℕ) (entry : TempRef) → pass < 256 → AddsEntry old new pass entry → ((p n : ℕ) → HasRoom old p (n + 1) → HasRoom new p n) → ((t : ℕ) → count_of added t ≡ count_of counts t + cond (t == entry.target) 1 0) → room_in counts ≤ room_in added + 1 → left ≡ room - 1 → AreRefsInside old counts room_for room → AreRefsInside new added room_for left
 AreRefsInside-add old new counts added room_for room left pass entry within adds uses counted spares less sound =
     let apart : (p : ℕ) → p ≢ pass → list_of new p ≡ list_of old p = λ p other. adds p ∙ grind (arith, nat_tests, other) in
     let here : list_of new pass ≡ list_of old pass ++ entry ∷ [] = adds pass ∙ grind (arith, nat_tests) in
@@ -177,7 +198,7 @@ AreRefsInside-add old new counts added room_for room left pass entry within adds
     }
 
 -- the client's entries go
-pub AreRefsInside-end : {S : Type 0} (old new : Lists) (counts left : IndexMap ℕ ℕ S) (room_for room pass : ℕ) → pass < 256 → EndsClient old new pass → KeepsRoom old new → ((t : ℕ) → count_of left t + count_in t (list_of old pass) ≡ count_of counts t) → spare counts ≤ spare left → AreRefsInside old counts room_for room → AreRefsInside new left room_for room
+pub AreRefsInside-end : (old new : Lists) (counts left : Counts) (room_for room pass : ℕ) → pass < 256 → EndsClient old new pass → KeepsRoom old new → ((t : ℕ) → count_of left t + count_in t (list_of old pass) ≡ count_of counts t) → room_in counts ≤ room_in left → AreRefsInside old counts room_for room → AreRefsInside new left room_for room
 AreRefsInside-end old new counts left room_for room pass within ends keeps counted spares sound =
     let apart : (p : ℕ) → p ≢ pass → list_of new p ≡ list_of old p = λ p other. ends p ∙ grind (arith, nat_tests, other) in
     let here : list_of new pass ≡ [] = ends pass ∙ grind (arith, nat_tests) in
@@ -194,18 +215,18 @@ AreRefsInside-end old new counts left room_for room pass within ends keeps count
     }
 
 -- the client's entries are counted
-pub AreRefsInside-part : {S : Type 0} (lists : Lists) (counts : IndexMap ℕ ℕ S) (room_for room pass : ℕ) → pass < 256 → AreRefsInside lists counts room_for room → (t : ℕ) → count_in t (list_of lists pass) ≤ count_of counts t
+pub AreRefsInside-part : (lists : Lists) (counts : Counts) (room_for room pass : ℕ) → pass < 256 → AreRefsInside lists counts room_for room → (t : ℕ) → count_in t (list_of lists pass) ≤ count_of counts t
 AreRefsInside-part lists counts room_for room pass within sound t = let part = sum_below-part 256 pass (λ p. count_in t (list_of lists p)) within in omega (arith, part, sound.counted t)
 
 -- a target that is counted is that of some entry
-pub AreRefsInside-named : {S : Type 0} (lists : Lists) (counts : IndexMap ℕ ℕ S) (room_for room id : ℕ) → AreRefsInside lists counts room_for room → 0 < count_of counts id → (p : ℕ) × Names (list_of lists p) id
+pub AreRefsInside-named : (lists : Lists) (counts : Counts) (room_for room id : ℕ) → AreRefsInside lists counts room_for room → 0 < count_of counts id → (p : ℕ) × Names (list_of lists p) id
 AreRefsInside-named lists counts room_for room id sound some =
     let found = sum_below-some 256 (λ p. count_in id (list_of lists p)) (omega (arith, some, sound.counted id)) in
     let any = count_in-any id (list_of lists found.0) in
     (found.0, sym any ∙ grind (arith, nat_tests, found.1))
 
 -- and one that is not counted is that of none
-pub AreRefsInside-unnamed : {S : Type 0} (lists : Lists) (counts : IndexMap ℕ ℕ S) (room_for room id : ℕ) → AreRefsInside lists counts room_for room → count_of counts id ≡ 0 → (p : ℕ) → ¬ Names (list_of lists p) id
+pub AreRefsInside-unnamed : (lists : Lists) (counts : Counts) (room_for room id : ℕ) → AreRefsInside lists counts room_for room → count_of counts id ≡ 0 → (p : ℕ) → ¬ Names (list_of lists p) id
 AreRefsInside-unnamed lists counts room_for room id sound none p named =
     let any = count_in-any id (list_of lists p) in
     let some : 0 < count_in id (list_of lists p) = grind (arith, nat_tests, any, named) in

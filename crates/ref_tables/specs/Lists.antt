@@ -1,23 +1,20 @@
 -- The entries of each client, and the room for more.
-use Rattle.std.specs.Prelude.{◌≡◌, ℕ, ◌+◌, ◌≤◌, ◌==◌, List, [], ◌∷◌, ◌++◌, vec_len, vec_capacity, IsSomeAnd, if◌then◌else◌}
+use Rattle.std.specs.Prelude.{◌≡◌, ℕ, ◌+◌, ◌≤◌, ◌==◌, List, [], ◌∷◌, ◌++◌, vec_len, vec_capacity, slice_get, IsSomeAnd, if◌then◌else◌}
 use Rattle.std.specs.Global.{Vec}
 use Rattle.std.specs.Option.{option_map_or}
-use Rattle.std.specs.Ordering.{nat_cmp}
-use Rattle.std.specs.BTreeMap.{is_at}
-use Rattle.std.specs.Map.{lookup}
 use Rattle.ref_tables.specs.declared.kind.TempRef.{TempRef}
 
--- the clients, ascending, each with its entries
+-- the entries of each client, which stand at its number
 abbrev pub Lists : Type 0
-Lists = List (ℕ × Vec TempRef)
+Lists = List (Vec TempRef)
 
 -- the client's entries
 abbrev pub list_of : Lists → ℕ → List TempRef
-list_of lists pass = option_map_or (λ list. list.items) (lookup (is_at (nat_cmp pass)) lists) []
+list_of lists pass = option_map_or (λ list. list.items) (slice_get lists pass) []
 
 -- the client's list can take n entries more without memory
 abbrev pub HasRoom : Lists → ℕ → ℕ → Type 0
-HasRoom lists pass n = IsSomeAnd (lookup (is_at (nat_cmp pass)) lists) (λ list. vec_len list + n ≤ vec_capacity list)
+HasRoom lists pass n = IsSomeAnd (slice_get lists pass) (λ list. vec_len list + n ≤ vec_capacity list)
 
 -- no client has less room than before
 abbrev pub KeepsRoom : Lists → Lists → Type 0

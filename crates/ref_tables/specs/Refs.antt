@@ -1,13 +1,13 @@
 -- The temporary reference table.
-use Rattle.std.specs.Prelude.{◌≡◌, ℕ, ◌+◌, ◌≤◌, ◌<◌, ◌==◌, true, zero, suc, List, [], ◌∷◌, ◌++◌, map, unwrap_or, if◌then◌else◌}
+use Rattle.std.specs.Prelude.{◌≡◌, ℕ, ◌+◌, ◌≤◌, ◌<◌, ◌==◌, true, zero, suc, List, [], ◌∷◌, ◌++◌, unwrap_or, if◌then◌else◌}
 use Rattle.std.specs.List.{list_any}
 use Rattle.std.specs.Ordering.{nat_cmp}
 use Rattle.std.specs.BTreeMap.{is_at}
 use Rattle.std.specs.Map.{lookup}
-use Rattle.indexmap.specs.IndexMap.{IndexMap, spare}
 use Rattle.ref_tables.specs.declared.kind.TempRef.{TempRef}
+use Rattle.ref_tables.specs.declared.counts.Counts.{Counts}
 use Rattle.ref_tables.specs.Lists.{Lists, list_of, HasRoom}
-use Rattle.ref_tables.specs.Counts.{count_of, count_in}
+use Rattle.ref_tables.specs.Counts.{count_of, count_in, room_in}
 
 -- the clients, each with its entries in the order in which they were added, and for how many more entries of which
 -- client there is room
@@ -46,9 +46,14 @@ Ends old new pass = (p : ℕ) → entries_of new p ≡ (if p == pass then [] els
 
 -- ---- what the table keeps
 
--- the lists without their capacities
+-- the lists without their capacities, each beside the number of its client, which counts from n
+unfoldable pub numbered : ℕ → Lists → List (ℕ × List TempRef)
+numbered n [] = []
+numbered n (list ∷ lists) = (n, list.items) ∷ numbered (suc n) lists
+
+-- the clients and their entries
 abbrev pub seen : Lists → List (ℕ × List TempRef)
-seen lists = map (λ client. (client.0, client.1.items)) lists
+seen lists = numbered 0 lists
 
 -- the sum of f over the numbers below n
 unfoldable pub sum_below : ℕ → (ℕ → ℕ) → ℕ
@@ -60,8 +65,8 @@ abbrev pub count_all : Lists → ℕ → ℕ
 count_all lists target = sum_below 256 (λ p. count_in target (list_of lists p))
 
 -- the counts are those of the entries, no other client has entries, and the room is there
-pub record AreRefsInside {S : Type 0} (lists : Lists) (counts : IndexMap ℕ ℕ S) (room_for room : ℕ) : Type 0 where
+pub record AreRefsInside (lists : Lists) (counts : Counts) (room_for room : ℕ) : Type 0 where
   pub counted : (target : ℕ) → count_of counts target ≡ count_all lists target
   pub clients : (p : ℕ) → 256 ≤ p → list_of lists p ≡ []
   pub room_of_list : 0 < room → HasRoom lists room_for room
-  pub room_of_counts : room ≤ spare counts
+  pub room_of_counts : room ≤ room_in counts

@@ -8,6 +8,7 @@
 mod counts;
 mod kind;
 mod lists;
+mod rest;
 mod ring;
 mod temp_refs;
 mod zero_queue;

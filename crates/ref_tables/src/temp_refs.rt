@@ -1,12 +1,15 @@
 //! The temporary reference table.
 ghost use Rattle.std.specs.Prelude.{◌≡◌, ◌≢◌, ◌<◌, ◌≤◌, ◌-◌, ℕ, [], OnOk, OnErr, IsOk, is_ok, if◌then◌else◌, true, false, slice_get, option_map};
+ghost use Rattle.ref_tables.specs.Counts.{room_in, HasSameCounts};
 
+use crate::counts::Counts;
 use crate::kind::{Kind, TempRef};
-use crate::{Memory, counts, lists};
-use indexmap::IndexMap;
+use crate::{Memory, lists};
 use std::alloc::Global;
-use std::collections::BTreeMap;
 use std::marker::Model;
+
+/// For how many entries room is taken at a time, so that the next calls find it there.
+const ROOM: u32 = 64;
 
 /// The references that the clients' running transactions made, laid into slots or cut, in order.
 /// An object that an entry names must not be deleted.
@@ -17,12 +20,28 @@ use std::marker::Model;
 #[derive(Debug, Drop)]
 pub struct TempRefs {
     alloc: Global,
-    lists: BTreeMap<u8, Vec<TempRef>>,
-    counts: IndexMap<u32, u128>,
+    /// The entries of each client, at its number.
+    lists: Vec<Vec<TempRef>>,
+    counts: Counts,
     /// The client that room is reserved for.
     room_for: u8,
     /// For how many more of its entries.
     room: u32,
+}
+
+/// Takes room for one more entry where none is reserved.
+#[inline(always)]
+fn reserve_count(counts: &mut Counts, room: u32) -> Result<(), Memory>
+    requires { room ≤ room_in counts.old }
+    ensures same { HasSameCounts counts.old counts.new }
+    ensures ok { OnOk result (0 < room_in counts.new) }
+    ensures succeeds { 0 < room → IsOk result }
+    ensures keeps { room_in counts.old ≤ room_in counts.new }
+{
+    if room > 0 {
+        return Ok(());
+    }
+    counts.reserve(1)
 }
 
 impl Model for TempRefs {
@@ -30,9 +49,9 @@ impl Model for TempRefs {
 
     ghost Value = { Table };
 
-    ghost view = { λ a. record { clients = seen a.lists.entries; room_for = a.room_for; room = a.room } };
+    ghost view = { λ a. record { clients = seen a.lists.items; room_for = a.room_for; room = a.room } };
 
-    ghost invariant = { λ a. AreRefsInside a.lists.entries a.counts a.room_for a.room };
+    ghost invariant = { λ a. AreRefsInside a.lists.items a.counts a.room_for a.room };
 }
 
 impl TempRefs {
@@ -44,8 +63,8 @@ impl TempRefs {
     {
         TempRefs {
             alloc,
-            lists: BTreeMap::new(alloc),
-            counts: IndexMap::new(alloc),
+            lists: Vec::new(alloc),
+            counts: Counts::new(alloc),
             room_for: 0,
             room: 0,
         }
@@ -61,9 +80,9 @@ impl TempRefs {
         ensures room { (p : ℕ) → room_of self.new p ≡ (if is_ok result then room_of self.old p - 1 else room_of self.old p) }
     {
         // With room for a count, only the append can fail, and nothing has to be undone.
-        self.counts.reserve(1)?;
+        reserve_count(&mut self.counts, self.room)?;
         lists::add(&mut self.lists, self.alloc, pass, TempRef { target, kind })?;
-        counts::add(&mut self.counts, target);
+        self.counts.add(target);
         self.room = self.room.saturating_sub(1);
         Ok(())
     }
@@ -80,10 +99,11 @@ impl TempRefs {
         if pass == self.room_for && more <= self.room {
             return Ok(());
         }
-        self.counts.reserve(more as usize)?;
-        lists::reserve(&mut self.lists, self.alloc, pass, more)?;
+        let room = more.max(ROOM);
+        self.counts.reserve(room)?;
+        lists::reserve(&mut self.lists, self.alloc, pass, room)?;
         self.room_for = pass;
-        self.room = more;
+        self.room = room;
         Ok(())
     }
 
@@ -92,7 +112,7 @@ impl TempRefs {
         ensures yes { result ≡ true → (pass : ℕ) × Names (entries_of self.now pass) id }
         ensures no { result ≡ false → (pass : ℕ) → ¬ Names (entries_of self.now pass) id }
     {
-        counts::get(&self.counts, id) > 0
+        self.counts.has(id)
     }
 
     /// The client's entries, in the order in which they were added.
@@ -116,7 +136,7 @@ impl TempRefs {
         ensures ends { Ends self.old self.new pass }
         ensures room { HasSameRoom self.old self.new }
     {
-        counts::forget_all(&mut self.counts, lists::list(&self.lists, pass));
+        self.counts.forget_all(lists::list(&self.lists, pass));
         lists::clear(&mut self.lists, pass);
     }
 }

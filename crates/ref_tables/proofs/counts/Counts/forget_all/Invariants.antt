@@ -1,5 +1,5 @@
 use Rattle.ref_tables.proofs.Forgetting.{AreBeingForgotten}
-use Rattle.ref_tables.proofs.counts.forget_all.Given as goal
+use Rattle.ref_tables.proofs.counts.Counts.forget_all.Given as goal
 
 abbrev pub invariant-loop-entry : goal.invariant-loop-entry
-invariant-loop-entry l = AreBeingForgotten l.initial.counts l.counts l.entries l.entry-index
+invariant-loop-entry l = AreBeingForgotten l.initial.self l.self l.entries l.entry-index

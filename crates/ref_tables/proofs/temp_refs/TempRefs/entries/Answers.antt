@@ -2,4 +2,4 @@ use Rattle.ref_tables.proofs.RefsLaws.{entries-seen}
 use Rattle.ref_tables.proofs.temp_refs.TempRefs.entries.Goals as goal
 
 pub returns : goal.returns
-returns c = rw (← c.self.view_is, entries-seen c.self.inside.lists.entries c.self.inside.room_for c.self.inside.room c.args.pass) c.list.ensures
+returns c = rw (← c.self.view_is, entries-seen c.self.inside.lists.items c.self.inside.room_for c.self.inside.room c.args.pass) c.list.ensures

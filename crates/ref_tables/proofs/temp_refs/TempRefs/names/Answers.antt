@@ -6,10 +6,10 @@ use Rattle.ref_tables.proofs.temp_refs.TempRefs.names.Goals as goal
 
 pub returns-clause-yes : goal.returns-clause-yes
 returns-clause-yes c = λ found.
-    let named = AreRefsInside-named c.self.inside.lists.entries _ _ _ c.args.id c.self.invariant (grind (arith, nat_tests, found, c.get.ensures)) in
-    (named.0, rw (← c.self.view_is) (subst (λ entries. Names entries c.args.id) (sym (entries-seen c.self.inside.lists.entries c.self.inside.room_for c.self.inside.room named.0)) named.1))
+    let named = AreRefsInside-named c.self.inside.lists.items _ _ _ c.args.id c.self.invariant (grind (arith, nat_tests, found, c.has.ensures)) in
+    (named.0, rw (← c.self.view_is) (subst (λ entries. Names entries c.args.id) (sym (entries-seen c.self.inside.lists.items c.self.inside.room_for c.self.inside.room named.0)) named.1))
 
 pub returns-clause-no : goal.returns-clause-no
 returns-clause-no c = λ found p.
-    let unnamed = AreRefsInside-unnamed c.self.inside.lists.entries _ _ _ c.args.id c.self.invariant (grind (arith, nat_tests, found, c.get.ensures)) p in
-    rw (← c.self.view_is) (subst (λ entries. ¬ Names entries c.args.id) (sym (entries-seen c.self.inside.lists.entries c.self.inside.room_for c.self.inside.room p)) unnamed)
+    let unnamed = AreRefsInside-unnamed c.self.inside.lists.items _ _ _ c.args.id c.self.invariant (grind (arith, nat_tests, found, c.has.ensures)) p in
+    rw (← c.self.view_is) (subst (λ entries. ¬ Names entries c.args.id) (sym (entries-seen c.self.inside.lists.items c.self.inside.room_for c.self.inside.room p)) unnamed)
