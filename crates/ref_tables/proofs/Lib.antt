@@ -1,5 +1,6 @@
 pub mod CountsLaws
 pub mod Forgetting
+pub mod LinkLaws
 pub mod MadeLists
 pub mod MemberLaws
 pub mod QueueLaws

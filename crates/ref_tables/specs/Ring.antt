@@ -1,5 +1,5 @@
 -- A ring of ids through 0, in which each knows its neighbours.
-use Rattle.std.specs.Prelude.{◌≡◌, ℕ, zero, suc, Bool, true, List, [], ◌∷◌, is_some, unwrap_or, nat_eq}
+use Rattle.std.specs.Prelude.{◌≡◌, ℕ, zero, suc, Bool, true, List, [], ◌∷◌, Some, is_some, unwrap_or, nat_eq, slice_get}
 use Rattle.indexmap.specs.IndexMap.{IndexMap, get}
 use Rattle.ref_tables.specs.declared.ring.Link.{Link}
 
@@ -22,6 +22,10 @@ next_of links id = (link_of links id).next
 -- the id before this one
 abbrev pub previous_of : {S : Type 0} → IndexMap ℕ Link S → ℕ → ℕ
 previous_of links id = (link_of links id).previous
+
+-- at the place that is its number stands the id with its link
+abbrev pub StandsAtItsNumber : {S : Type 0} → IndexMap ℕ Link S → ℕ → Type 0
+StandsAtItsNumber links id = (link : Link) × (slice_get links.entries id ≡ Some (id, link))
 
 -- the ids that so many steps to the next one meet
 abbrev pub along : (ℕ → ℕ) → ℕ → ℕ → List ℕ

@@ -1,6 +1,6 @@
 //! A ring of ids, in which each knows its neighbours.
-ghost use Rattle.std.specs.Prelude.{◌≡◌, ℕ, ◌≤◌, ◌==◌, if◌then◌else◌, IfOk};
-ghost use Rattle.ref_tables.specs.Ring.{next_of, previous_of, is_linked, IsLinked};
+ghost use Rattle.std.specs.Prelude.{◌≡◌, ℕ, ◌≤◌, ◌==◌, true, if◌then◌else◌, IfOk, IsTrue};
+ghost use Rattle.ref_tables.specs.Ring.{link_of, next_of, previous_of, is_linked, IsLinked, StandsAtItsNumber};
 
 use crate::Memory;
 use indexmap::IndexMap;
@@ -32,32 +32,29 @@ pub(crate) fn unlinked(alloc: Global, ids: u32) -> Result<IndexMap<u32, Link>, M
     Ok(links)
 }
 
-/// Behind the id stands this one.
-fn set_next(links: &mut IndexMap<u32, Link>, id: u32, next: u32)
-    requires { IsLinked links.old id }
-    ensures next { (at : ℕ) → next_of links.new at ≡ (if at == id then next else next_of links.old at) }
-    ensures previous { (at : ℕ) → previous_of links.new at ≡ previous_of links.old at }
-    ensures linked { (at : ℕ) → is_linked links.new at ≡ is_linked links.old at }
+/// Whether the link of the id stands at the place that the id's number is. The ids joined in their order, so it does.
+fn is_in_place(links: &IndexMap<u32, Link>, id: u32) -> bool
+    ensures { IsTrue result → StandsAtItsNumber links.now id }
 {
-    if let Some(link) = links.get_mut(&id) {
-        link.next = next;
-    }
-}
-
-/// Before the id stands this one.
-fn set_previous(links: &mut IndexMap<u32, Link>, id: u32, previous: u32)
-    requires { IsLinked links.old id }
-    ensures next { (at : ℕ) → next_of links.new at ≡ next_of links.old at }
-    ensures previous { (at : ℕ) → previous_of links.new at ≡ (if at == id then previous else previous_of links.old at) }
-    ensures linked { (at : ℕ) → is_linked links.new at ≡ is_linked links.old at }
-{
-    if let Some(link) = links.get_mut(&id) {
-        link.previous = previous;
+    match links.get_index(id as usize) {
+        Some((key, _)) => *key == id,
+        None => false,
     }
 }
 
 /// The neighbours of the id.
 pub(crate) fn neighbours(links: &IndexMap<u32, Link>, id: u32) -> Link
+    ensures next { result.next ≡ next_of links.now id }
+    ensures previous { result.previous ≡ previous_of links.now id }
+{
+    match links.get_index(id as usize) {
+        Some((key, link)) if *key == id => *link,
+        _ => found(links, id),
+    }
+}
+
+/// The neighbours of the id, wherever its link stands.
+fn found(links: &IndexMap<u32, Link>, id: u32) -> Link
     ensures next { result.next ≡ next_of links.now id }
     ensures previous { result.previous ≡ previous_of links.now id }
 {
@@ -68,6 +65,42 @@ pub(crate) fn neighbours(links: &IndexMap<u32, Link>, id: u32) -> Link
             next: 0,
         },
     }
+}
+
+/// The id gets this link in place of the one that it has.
+fn set(links: &mut IndexMap<u32, Link>, id: u32, link: Link)
+    requires { IsLinked links.old id }
+    ensures link { (at : ℕ) → link_of links.new at ≡ (if at == id then link else link_of links.old at) }
+    ensures linked { (at : ℕ) → is_linked links.new at ≡ is_linked links.old at }
+{
+    if is_in_place(links, id) {
+        let (_, old) = links.pair_mut(id as usize);
+        *old = link;
+    } else if let Some(old) = links.get_mut(&id) {
+        *old = link;
+    }
+}
+
+/// Behind the id stands this one.
+fn set_next(links: &mut IndexMap<u32, Link>, id: u32, next: u32)
+    requires { IsLinked links.old id }
+    ensures next { (at : ℕ) → next_of links.new at ≡ (if at == id then next else next_of links.old at) }
+    ensures previous { (at : ℕ) → previous_of links.new at ≡ previous_of links.old at }
+    ensures linked { (at : ℕ) → is_linked links.new at ≡ is_linked links.old at }
+{
+    let Link { previous, .. } = neighbours(links, id);
+    set(links, id, Link { previous, next });
+}
+
+/// Before the id stands this one.
+fn set_previous(links: &mut IndexMap<u32, Link>, id: u32, previous: u32)
+    requires { IsLinked links.old id }
+    ensures next { (at : ℕ) → next_of links.new at ≡ next_of links.old at }
+    ensures previous { (at : ℕ) → previous_of links.new at ≡ (if at == id then previous else previous_of links.old at) }
+    ensures linked { (at : ℕ) → is_linked links.new at ≡ is_linked links.old at }
+{
+    let Link { next, .. } = neighbours(links, id);
+    set(links, id, Link { previous, next });
 }
 
 /// Puts the id between the last one and 0.
