@@ -4,7 +4,7 @@ use Rattle.std.specs.Map.{lookup, set_value}
 use Rattle.std.proofs.lemmas.Bool.{cond_both}
 use Rattle.std.proofs.lemmas.Bool.Decides.{nat_tests}
 use Rattle.std.proofs.lemmas.Map.Steps.{set_value_same}
-use Rattle.strict_locks.specs.Locks.{Holders, Table, holders_of, no_holders, is_owner, is_sharer, Holds, IsExclusive, StandsInWayOfShare, StandsInWayOfOwn, Nobody, IsLeast, IsLeastOrNone, AreHeld}
+use Rattle.strict_locks.specs.Locks.{Holders, Table, holders_of, no_holders, is_owner, is_sharer, Holds, IsExclusive, StandsInWayOfShare, StandsInWayOfOwn, Nobody, IsLeast, IsLeastOrNone, GivesBack, AreHeld}
 
 -- the object stays exclusive when a client owns it that nobody stands in the way of
 pub exclusive-own : (h : Holders) (pass : ℕ) → Nobody (StandsInWayOfOwn h pass) → IsExclusive (record h { owner = Some pass })
@@ -48,3 +48,19 @@ AreHeld-put old new id h p holds puts held x =
 pub another-left : (old new : Holders) (pass : ℕ) (found : Option ℕ) → IsLeastOrNone (StandsInWayOfOwn old pass) found → is_none found ≡ false → ((p : ℕ) → is_owner new p ≡ (not (p == pass) && is_owner old p)) → ((p : ℕ) → is_sharer new p ≡ (not (p == pass) && is_sharer old p)) → (p : ℕ) × Holds new p
 another-left old new pass None least some owners sharers = cc
 another-left old new pass (Some p) least some owners sharers = let o = owners p in let s = sharers p in (p, grind (arith, nat_tests))
+
+-- where no other client holds the object, nobody stands in this one's way
+pub none-left : (h : Holders) (pass : ℕ) (found : Option ℕ) → IsLeastOrNone (StandsInWayOfOwn h pass) found → is_none found ≡ true → Nobody (StandsInWayOfOwn h pass)
+none-left h pass None least none = least
+none-left h pass (Some p) least none = cc
+
+-- an object that no other client holds has given this one's lock back where its entry is gone
+pub GivesBack-gone : (old new : Table) (pass id : ℕ) (h : Holders) → lookup (nat_eq id) old ≡ Some h → Nobody (StandsInWayOfOwn h pass) → lookup (nat_eq id) new ≡ None → ((x : ℕ) → x ≢ id → lookup (nat_eq x) new ≡ lookup (nat_eq x) old) → GivesBack old new pass id
+GivesBack-gone old new pass id h found free gone others =
+    let nobody : holders_of new id ≡ no_holders = ap (λ o. unwrap_or o no_holders) gone in
+    let was = holders_of-found old id h found in
+    record {
+      owners = λ p. let f = free p in ap (λ g. is_owner g p) nobody ∙ subst (λ g. false ≡ (not (p == pass) && is_owner g p)) (sym was) (grind (arith, nat_tests, f));
+      sharers = λ p. let f = free p in ap (λ g. is_sharer g p) nobody ∙ subst (λ g. false ≡ (not (p == pass) && is_sharer g p)) (sym was) (grind (arith, nat_tests, f));
+      others = λ x apart. ap (λ o. unwrap_or o no_holders) (others x apart);
+    }

@@ -106,11 +106,11 @@ fn give_back(locks: &mut IndexMap<u32, ObjectLock>, pass: u8, id: u32)
     ensures gives { GivesBack locks.old.entries locks.new.entries pass id }
     ensures held { AreHeld locks.old.entries → AreHeld locks.new.entries }
 {
-    let Some(lock) = locks.get(&id) else {
+    let Some((place, _, lock)) = locks.get_full(&id) else {
         return;
     };
     if lock.other_holder(pass).is_none() {
-        locks.swap_remove(&id);
+        locks.swap_remove_index(place);
     } else if let Some(lock) = locks.get_mut(&id) {
         lock.give_back(pass);
     }
