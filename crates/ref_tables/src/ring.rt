@@ -33,6 +33,7 @@ pub(crate) fn unlinked(alloc: Global, ids: u32) -> Result<IndexMap<u32, Link>, M
 }
 
 /// Whether the link of the id stands at the place that the id's number is. The ids joined in their order, so it does.
+#[inline(always)]
 fn is_in_place(links: &IndexMap<u32, Link>, id: u32) -> bool
     ensures { IsTrue result → StandsAtItsNumber links.now id }
 {
@@ -43,6 +44,7 @@ fn is_in_place(links: &IndexMap<u32, Link>, id: u32) -> bool
 }
 
 /// The neighbours of the id.
+#[inline(always)]
 pub(crate) fn neighbours(links: &IndexMap<u32, Link>, id: u32) -> Link
     ensures next { result.next ≡ next_of links.now id }
     ensures previous { result.previous ≡ previous_of links.now id }
@@ -67,7 +69,19 @@ fn found(links: &IndexMap<u32, Link>, id: u32) -> Link
     }
 }
 
+/// The id gets this link in place of the one that it has, wherever that stands.
+fn set_found(links: &mut IndexMap<u32, Link>, id: u32, link: Link)
+    requires { IsLinked links.old id }
+    ensures link { (at : ℕ) → link_of links.new at ≡ (if at == id then link else link_of links.old at) }
+    ensures linked { (at : ℕ) → is_linked links.new at ≡ is_linked links.old at }
+{
+    if let Some(old) = links.get_mut(&id) {
+        *old = link;
+    }
+}
+
 /// The id gets this link in place of the one that it has.
+#[inline(always)]
 fn set(links: &mut IndexMap<u32, Link>, id: u32, link: Link)
     requires { IsLinked links.old id }
     ensures link { (at : ℕ) → link_of links.new at ≡ (if at == id then link else link_of links.old at) }
@@ -76,8 +90,8 @@ fn set(links: &mut IndexMap<u32, Link>, id: u32, link: Link)
     if is_in_place(links, id) {
         let (_, old) = links.pair_mut(id as usize);
         *old = link;
-    } else if let Some(old) = links.get_mut(&id) {
-        *old = link;
+    } else {
+        set_found(links, id, link);
     }
 }
 
