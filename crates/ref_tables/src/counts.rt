@@ -37,7 +37,7 @@ impl Counts {
         if place < self.row.len() && self.row[place] > 0 {
             return true;
         }
-        rest::get(&self.rest, target) > 0
+        rest::has(&self.rest, target)
     }
 
     /// Takes room for so many entries more, whichever targets they have.

@@ -1,5 +1,5 @@
 //! The counts of targets that have no place in a row.
-ghost use Rattle.std.specs.Prelude.{◌≡◌, ◌<◌, ◌≤◌, ◌+◌, ◌^◌, ◌==◌, ℕ, if◌then◌else◌};
+ghost use Rattle.std.specs.Prelude.{◌≡◌, ◌<◌, ◌≤◌, ◌+◌, ◌^◌, ◌==◌, ℕ, nat_lt, if◌then◌else◌};
 ghost use Rattle.indexmap.specs.IndexMap.{spare};
 ghost use Rattle.ref_tables.specs.Counts.{count_at};
 
@@ -13,6 +13,13 @@ pub(crate) fn get(counts: &IndexMap<u32, u128>, target: u32) -> u128
         Some(count) => *count,
         None => 0,
     }
+}
+
+/// Whether some entry has the target. Mostly nothing is counted here at all.
+pub(crate) fn has(counts: &IndexMap<u32, u128>, target: u32) -> bool
+    ensures { result ≡ nat_lt 0 (count_at counts.now target) }
+{
+    !counts.is_empty() && get(counts, target) > 0
 }
 
 /// Counts an entry more with the target, for which there is room. It takes no memory.
