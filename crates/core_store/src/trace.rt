@@ -7,6 +7,9 @@ use crate::note::Note;
 use plain_model::Memory;
 use std::alloc::Global;
 
+/// For how many notes room is asked for at the opening, so that the first ones need not be moved as they grow more.
+const FIRST_ROOM: usize = 4_096;
+
 /// What happened since the opening, how far that may grow, and which answers were given.
 #[derive(Debug, Drop)]
 pub(crate) struct Trace {
@@ -18,15 +21,17 @@ pub(crate) struct Trace {
 }
 
 impl Trace {
-    /// Nothing happened, and no mark is set.
+    /// Nothing happened, and no mark is set. Where there is no memory for the first notes yet, each takes its own.
     pub(crate) fn new(alloc: Global, limits: Limits) -> Trace
         ensures notes { (result.notes.items ≡ []) × (vec_len result.notes ≡ 0) }
         ensures limits { result.limits ≡ limits }
         ensures marks { result.marks ≡ record { disk = false; trace = false; log = false } }
         ensures reserved { result.reserved ≡ false }
     {
+        let mut notes = Vec::new(alloc);
+        let _ = notes.reserve(FIRST_ROOM);
         Trace {
-            notes: Vec::new(alloc),
+            notes,
             limits,
             marks: Marks {
                 disk: false,
