@@ -1,5 +1,5 @@
 -- The refusals that a transaction itself shows, in their order.
-use Rattle.std.specs.Prelude.{◌≡◌, ℕ, false, if◌then◌else◌, Option, Some, None, Result, unwrap_or, MatchResult}
+use Rattle.std.specs.Prelude.{◌≡◌, ◌⊎◌, ℕ, false, if◌then◌else◌, Option, Some, None, Result, Err, unwrap_or, MatchResult}
 use Rattle.std.specs.Option.{option_map_or}
 use Rattle.plain_model.specs.declared.calls.Reply.{Reply}
 use Rattle.plain_model.specs.declared.calls.Reply.TheVariants.{NoTxn, Aborting, EmptyRegister}
@@ -35,3 +35,7 @@ pub record HasSubject (found : Option Running) (r id : ℕ) : Type 0 where
 abbrev pub HasSource : Option Running → Option ℕ → Result ℕ Reply → Type 0
 HasSource None «from» result = Unit {0}
 HasSource (Some t) «from» result = MatchResult result (λ v. (option_map_or (if_no_register t) «from» None ≡ None) × (v ≡ source_of t «from»)) (λ reply. option_map_or (if_no_register t) «from» None ≡ Some reply)
+
+-- why a store is refused by its registers: the object's comes first, and then that of what is laid
+abbrev pub IsStoreRefusal : Option Running → ℕ → Option ℕ → Reply → Type 0
+IsStoreRefusal found r «from» reply = (subject_refusal found r ≡ Some reply) ⊎ ((id : ℕ) × HasSubject found r id × HasSource found «from» (Err reply))

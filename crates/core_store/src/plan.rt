@@ -105,11 +105,12 @@ impl<const SLOTS: usize> Tables<SLOTS> {
         ensures ok { IfOk result (IsGranted (view_of self.now) pass (Call.Store r slot from)) }
         ensures err { IfErr result (λ reply. IsRefused SLOTS (view_of self.now) pass (Call.Store r slot from) reply) }
     {
-        let id = transactions::subject(&self.transactions, pass, r)?;
-        let target = transactions::source(&self.transactions, pass, from)?;
-        match self.blocked(pass, id, Lock::Owned) {
-            Some(reply) => Err(reply),
-            None => Ok(Plan::Store { id, slot, target }),
+        match transactions::subject_and_source(&self.transactions, pass, r, from) {
+            Err(reply) => Err(reply),
+            Ok((id, target)) => match self.blocked(pass, id, Lock::Owned) {
+                Some(reply) => Err(reply),
+                None => Ok(Plan::Store { id, slot, target }),
+            },
         }
     }
 

@@ -1,9 +1,9 @@
 //! A transaction, as a journal keeps it.
-ghost use Rattle.std.specs.Prelude.{◌≡◌, ℕ, ◌<◌, [], IfOk, IfErr, IfSome, IsSome, Some, None, length, OnOk, OnErr};
+ghost use Rattle.std.specs.Prelude.{◌≡◌, ℕ, ◌<◌, [], Ok, IfOk, IfErr, IfSome, IsSome, Some, None, length, OnOk, OnErr};
 ghost use Rattle.std.specs.Option.{option_map_or};
 ghost use Rattle.std.specs.List.{last_or};
 ghost use Rattle.core_store.specs.Transactions.{just_begun, held_in, loaded, writing, forgetting, undoing};
-ghost use Rattle.core_store.specs.Refusals.{if_no_register, source_of};
+ghost use Rattle.core_store.specs.Refusals.{if_no_register, source_of, subject_refusal, HasSubject, HasSource, IsStoreRefusal};
 
 use plain_model::{Memory, Reply, Write};
 use std::alloc::Global;
@@ -77,6 +77,38 @@ impl Transaction {
         match self.register(f) {
             Some(id) => Ok(id),
             None => Err(Reply::EmptyRegister { reg: f }),
+        }
+    }
+
+    /// The object that a register names; or the refusal, the first that applies: the transaction is being undone, the
+    /// register is empty.
+    pub(crate) fn subject(&self, r: u8) -> Result<u32, Reply>
+        requires { r < 8 }
+        ensures ok { IfOk result (HasSubject (Some self.now) r) }
+        ensures err { IfErr result (λ reply. subject_refusal (Some self.now) r ≡ Some reply) }
+    {
+        if self.aborting {
+            return Err(Reply::Aborting);
+        }
+        match self.register(r) {
+            Some(id) => Ok(id),
+            None => Err(Reply::EmptyRegister { reg: r }),
+        }
+    }
+
+    /// The object that a `Store` changes and the id that it lays; or the refusal, the first that applies.
+    pub(crate) fn subject_and_source(&self, r: u8, from: Option<u8>) -> Result<(u32, u32), Reply>
+        requires register { r < 8 }
+        requires source { IfSome from (λ f. f < 8) }
+        ensures ok { IfOk result (λ o. HasSubject (Some self.now) r o.0 × HasSource (Some self.now) from (Ok o.1)) }
+        ensures err { IfErr result (IsStoreRefusal (Some self.now) r from) }
+    {
+        match self.subject(r) {
+            Err(reply) => Err(reply),
+            Ok(id) => match self.source(from) {
+                Err(reply) => Err(reply),
+                Ok(target) => Ok((id, target)),
+            },
         }
     }
 

@@ -1,12 +1,12 @@
 //! The transactions of the active clients.
-ghost use Rattle.std.specs.Prelude.{◌≡◌, ℕ, ◌<◌, IfOk, IfErr, IfSome, IsSome, OnOk, OnErr, Some, None};
+ghost use Rattle.std.specs.Prelude.{◌≡◌, ℕ, ◌<◌, Ok, IfOk, IfErr, IfSome, IsSome, OnOk, OnErr, Some, None};
 ghost use Rattle.std.specs.Option.{option_map_or};
 ghost use Rattle.std.specs.List.{last_or};
 ghost use Rattle.std.specs.Ordering.{nat_cmp};
 ghost use Rattle.std.specs.BTreeMap.{insert_entry, is_at};
 ghost use Rattle.std.specs.Map.{remove_entry};
 ghost use Rattle.core_store.specs.Transactions.{Running, just_begun, loaded, running_at, writing, forgetting, undoing};
-ghost use Rattle.core_store.specs.Refusals.{HasSubject, HasSource, subject_refusal, if_not_running};
+ghost use Rattle.core_store.specs.Refusals.{HasSubject, HasSource, IsStoreRefusal, subject_refusal, if_not_running};
 ghost use Rattle.core_store.specs.Tables.{changed_at};
 
 use crate::transaction::Transaction;
@@ -23,15 +23,9 @@ pub(crate) fn subject(transactions: &Transactions, pass: u8, r: u8) -> Result<u3
     ensures ok { IfOk result (HasSubject (running_at transactions.now.entries pass) r) }
     ensures err { IfErr result (λ reply. subject_refusal (running_at transactions.now.entries pass) r ≡ Some reply) }
 {
-    let Some(transaction) = transactions.get(&pass) else {
-        return Err(Reply::NoTxn);
-    };
-    if transaction.is_aborting() {
-        return Err(Reply::Aborting);
-    }
-    match transaction.register(r) {
-        Some(id) => Ok(id),
-        None => Err(Reply::EmptyRegister { reg: r }),
+    match transactions.get(&pass) {
+        Some(transaction) => transaction.subject(r),
+        None => Err(Reply::NoTxn),
     }
 }
 
@@ -46,13 +40,20 @@ pub(crate) fn not_running(transactions: &Transactions, pass: u8) -> Option<Reply
     }
 }
 
-/// The id that a `Store` lays, or the refusal where its register is empty.
-pub(crate) fn source(transactions: &Transactions, pass: u8, from: Option<u8>) -> Result<u32, Reply>
-    requires { IfSome from (λ f. f < 8) }
-    ensures { HasSource (running_at transactions.now.entries pass) from result }
+/// The object that a `Store` changes and the id that it lays; or the refusal, the first that applies.
+pub(crate) fn subject_and_source(
+    transactions: &Transactions,
+    pass: u8,
+    r: u8,
+    from: Option<u8>,
+) -> Result<(u32, u32), Reply>
+    requires register { r < 8 }
+    requires source { IfSome from (λ f. f < 8) }
+    ensures ok { IfOk result (λ o. HasSubject (running_at transactions.now.entries pass) r o.0 × HasSource (running_at transactions.now.entries pass) from (Ok o.1)) }
+    ensures err { IfErr result (IsStoreRefusal (running_at transactions.now.entries pass) r from) }
 {
     match transactions.get(&pass) {
-        Some(transaction) => transaction.source(from),
+        Some(transaction) => transaction.subject_and_source(r, from),
         None => Err(Reply::NoTxn),
     }
 }
