@@ -22,6 +22,8 @@ use std::marker::Model;
 pub struct LockTable {
     alloc: Global,
     locks: IndexMap<u32, ObjectLock>,
+    /// The place at which the lock stands that was made last, unless locks were given back since. It is looked at first.
+    recent: usize,
     /// The objects that each client holds, at its number.
     lists: Vec<Vec<u32>>,
 }
@@ -48,6 +50,7 @@ impl LockTable {
         LockTable {
             alloc,
             locks: IndexMap::new(alloc),
+            recent: 0,
             lists: Vec::new(alloc),
         }
     }
@@ -62,7 +65,7 @@ impl LockTable {
         ensures busy { IfErr result (IsRefusal (StandsInWayOfShare (holders_of self.old id) pass)) }
         ensures err { OnErr result (self.new ≡ self.old) }
     {
-        match objects::standing_to_share(&self.locks, pass, id) {
+        match objects::standing_to_share(&self.locks, self.recent, pass, id) {
             Standing::Blocked(owner) => return Err(LockRefusal::Busy { pass: owner }),
             Standing::Granted => return Ok(()),
             Standing::Held => {
@@ -72,6 +75,7 @@ impl LockTable {
             Standing::Free => {}
         }
         clients::reserve(&mut self.lists, self.alloc, pass)?;
+        self.recent = self.locks.len();
         objects::share(&mut self.locks, pass, id)?;
         clients::note(&mut self.lists, pass, id);
         Ok(())
@@ -87,7 +91,7 @@ impl LockTable {
         ensures busy { IfErr result (IsRefusal (StandsInWayOfOwn (holders_of self.old id) pass)) }
         ensures err { OnErr result (self.new ≡ self.old) }
     {
-        match objects::standing_to_own(&self.locks, pass, id) {
+        match objects::standing_to_own(&self.locks, self.recent, pass, id) {
             Standing::Blocked(holder) => return Err(LockRefusal::Busy { pass: holder }),
             Standing::Granted => return Ok(()),
             Standing::Held => {
@@ -97,6 +101,7 @@ impl LockTable {
             Standing::Free => {}
         }
         clients::reserve(&mut self.lists, self.alloc, pass)?;
+        self.recent = self.locks.len();
         objects::own_first(&mut self.locks, pass, id)?;
         clients::note(&mut self.lists, pass, id);
         Ok(())
@@ -133,9 +138,9 @@ impl LockTable {
         ensures { IsLeastOrNone (StandsInWay alone (holders_of self.now id) pass) result }
     {
         if alone {
-            objects::other_holder(&self.locks, pass, id)
+            objects::other_holder(&self.locks, self.recent, pass, id)
         } else {
-            objects::other_owner(&self.locks, pass, id)
+            objects::other_owner(&self.locks, self.recent, pass, id)
         }
     }
 }

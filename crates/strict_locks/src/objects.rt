@@ -1,5 +1,7 @@
 //! The lock of each object.
-ghost use Rattle.std.specs.Prelude.{◌≡◌, OnOk, OnErr};
+ghost use Rattle.std.specs.Prelude.{◌≡◌, OnOk, OnErr, nat_eq};
+ghost use Rattle.std.specs.Option.{option_copied};
+ghost use Rattle.indexmap.specs.IndexMap.{get};
 ghost use Rattle.strict_locks.specs.Locks.{holders_of, is_owner, is_sharer, is_holder, Holds, IsExclusive, StandsInWayOfShare, StandsInWayOfOwn, Nobody, IsLeastOrNone, AddsShare, AddsOwner, GivesBack, DropsAll, AreHeld};
 ghost use Rattle.strict_locks.specs.Clients.{NamesHeld};
 ghost use Rattle.strict_locks.specs.Standing.{IsStanding};
@@ -9,18 +11,39 @@ use crate::standing::Standing;
 use indexmap::IndexMap;
 use std::alloc::AllocError;
 
-/// The client that keeps this one from sharing the object.
-pub(crate) fn other_owner(locks: &IndexMap<u32, ObjectLock>, pass: u8, id: u32) -> Option<u8>
-    ensures { IsLeastOrNone (StandsInWayOfShare (holders_of locks.now.entries id) pass) result }
+/// The lock of the object, which is looked for at this place first.
+#[inline(always)]
+fn found(locks: &IndexMap<u32, ObjectLock>, place: usize, id: u32) -> Option<&ObjectLock>
+    ensures { option_copied result ≡ get nat_eq locks.now id }
 {
-    locks.get(&id)?.other_owner(pass)
+    match locks.get_index(place) {
+        Some((key, lock)) if *key == id => Some(lock),
+        _ => locks.get(&id),
+    }
 }
 
-/// The least client that keeps this one from owning the object.
-pub(crate) fn other_holder(locks: &IndexMap<u32, ObjectLock>, pass: u8, id: u32) -> Option<u8>
+/// The client that keeps this one from sharing the object. Its lock is looked for at this place first.
+pub(crate) fn other_owner(
+    locks: &IndexMap<u32, ObjectLock>,
+    place: usize,
+    pass: u8,
+    id: u32,
+) -> Option<u8>
+    ensures { IsLeastOrNone (StandsInWayOfShare (holders_of locks.now.entries id) pass) result }
+{
+    found(locks, place, id)?.other_owner(pass)
+}
+
+/// The least client that keeps this one from owning the object. Its lock is looked for at this place first.
+pub(crate) fn other_holder(
+    locks: &IndexMap<u32, ObjectLock>,
+    place: usize,
+    pass: u8,
+    id: u32,
+) -> Option<u8>
     ensures { IsLeastOrNone (StandsInWayOfOwn (holders_of locks.now.entries id) pass) result }
 {
-    locks.get(&id)?.other_holder(pass)
+    found(locks, place, id)?.other_holder(pass)
 }
 
 /// The least client that holds the object.
@@ -31,21 +54,31 @@ pub(crate) fn least_holder(locks: &IndexMap<u32, ObjectLock>, id: u32) -> Option
     locks.get(&id)?.least_holder()
 }
 
-/// How the client stands to sharing the object.
-pub(crate) fn standing_to_share(locks: &IndexMap<u32, ObjectLock>, pass: u8, id: u32) -> Standing
+/// How the client stands to sharing the object. Its lock is looked for at this place first.
+pub(crate) fn standing_to_share(
+    locks: &IndexMap<u32, ObjectLock>,
+    place: usize,
+    pass: u8,
+    id: u32,
+) -> Standing
     ensures { IsStanding (StandsInWayOfShare (holders_of locks.now.entries id) pass) (is_sharer (holders_of locks.now.entries id) pass) (is_holder (holders_of locks.now.entries id) pass) result }
 {
-    match locks.get(&id) {
+    match found(locks, place, id) {
         Some(lock) => lock.standing_to_share(pass),
         None => Standing::Free,
     }
 }
 
-/// How the client stands to owning the object.
-pub(crate) fn standing_to_own(locks: &IndexMap<u32, ObjectLock>, pass: u8, id: u32) -> Standing
+/// How the client stands to owning the object. Its lock is looked for at this place first.
+pub(crate) fn standing_to_own(
+    locks: &IndexMap<u32, ObjectLock>,
+    place: usize,
+    pass: u8,
+    id: u32,
+) -> Standing
     ensures { IsStanding (StandsInWayOfOwn (holders_of locks.now.entries id) pass) (is_owner (holders_of locks.now.entries id) pass) (is_holder (holders_of locks.now.entries id) pass) result }
 {
-    match locks.get(&id) {
+    match found(locks, place, id) {
         Some(lock) => lock.standing_to_own(pass),
         None => Standing::Free,
     }
