@@ -43,8 +43,7 @@ use Rattle.core_store.specs.Collects.{Greens, IsWhite}
 use Rattle.core_store.specs.Collecting.{Collected}
 use Rattle.core_store.proofs.SlotBounds.{self-few}
 use Rattle.core_store.proofs.SlotLaws.{holds-old}
-use Rattle.core_store.proofs.SlotWeakens.{counted-some}
-use Rattle.core_store.proofs.SlotStrengthens.{weak-counted}
+use Rattle.core_store.proofs.SlotStrengths.{counted-some, weak-counted}
 use Rattle.core_store.proofs.CollectedLaws.{Stands-collected}
 use Rattle.core_store.proofs.ReadyRound.{green-live}
 use Rattle.core_store.proofs.WeakenRound.{can-null}

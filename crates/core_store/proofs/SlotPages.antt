@@ -1,11 +1,6 @@
 -- Held pages to which cells are given back.
-use Rattle.std.proofs.Common.{◌≡◌, ℕ, ◌<◌, List, [], ◌∷◌, ◌++◌, Bool, true, length, set, refl, sym, ap, ◌∙◌, subst, arith, append_assoc, eq-eqb}
-use Rattle.std.specs.Prelude.{◌==◌}
-use Rattle.std.proofs.lemmas.Bool.{or_left, or_right}
+use Rattle.std.proofs.Common.{◌≡◌, ℕ, ◌<◌, List, Bool, length, set, sym, ap, ◌∙◌, subst, arith}
 use Rattle.cell_model.specs.Cells.{Cell, edit}
-use Rattle.strength_counts.specs.Held.{Held, is_held as is_cell_held, AreOnce as AreCellsOnce}
-use Rattle.strength_counts.specs.Laws.{with_held}
-use Rattle.strength_counts.proofs.StoreEdits.{with_held-edit}
 use Rattle.cell_page.specs.Format.{page_of_id}
 use Rattle.core_store.specs.declared.three.HeldFrame.{HeldFrame}
 use Rattle.core_store.specs.Frames.{pages_held, Agree}
@@ -43,25 +38,3 @@ place-moved held new zeros marks id place pages long = record {
   page = is_held-pages new held (page_of_id id) pages ∙ place.page;
   mark = subst (λ (n : ℕ). id < n) (sym long) place.mark;
 }
-
--- ---- the last of the held cells, and those that were put back before
-
-is_held-append : (hs gs : List Held) (id : ℕ) → is_cell_held gs id ≡ true → is_cell_held (hs ++ gs) id ≡ true
-is_held-append [] gs id l = l
-is_held-append (h ∷ hs) gs id l = or_right (h.id == id) (is_cell_held (hs ++ gs) id) (is_held-append hs gs id l)
-
-once-rest : (hs gs : List Held) → AreCellsOnce (hs ++ gs) → AreCellsOnce gs
-once-rest [] gs once = once
-once-rest (h ∷ hs) gs once = once-rest hs gs once.1
-
-module _ (whole hs new done : List Held) (h : Held) (is : whole ≡ hs ++ done) (last : hs ≡ new ++ h ∷ []) where
-  pub whole-next : whole ≡ new ++ h ∷ done
-  whole-next = is ∙ ap (λ (xs : List Held). xs ++ done) last ∙ append_assoc new (h ∷ []) done
-
-  pub last-held : is_cell_held whole h.id ≡ true
-  last-held = subst (λ (xs : List Held). is_cell_held xs h.id ≡ true) (sym whole-next) (is_held-append new (h ∷ done) h.id (or_left (h.id == h.id) (is_cell_held done h.id) (eq-eqb h.id h.id refl)))
-
-  pub put-last : (cells : List Cell) → AreCellsOnce whole → edit (with_held done cells) h.id (λ _. h.cell) ≡ with_held (h ∷ done) cells
-  put-last cells once =
-      let none = (once-rest new (h ∷ done) (subst AreCellsOnce whole-next once)).0 in
-      sym (with_held-edit done cells h.id (λ _. h.cell) none)

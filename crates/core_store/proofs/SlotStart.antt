@@ -1,5 +1,5 @@
 -- The held pages and marks before a slot changes, and the cell that has the slot.
-use Rattle.std.proofs.Common.{◌≡◌, ℕ, ◌+◌, ◌<◌, ◌≤◌, List, ◌∷◌, ◌++◌, Bool, true, length, get_or, refl, sym, ap, ◌∙◌, subst, arith, ⊎_elim, zero-add}
+use Rattle.std.proofs.Common.{◌≡◌, ℕ, ◌+◌, ◌<◌, ◌≤◌, List, Bool, true, length, get_or, refl, sym, ap, ◌∙◌, subst, arith, ⊎_elim, zero-add}
 use Rattle.std.specs.Prelude.{◌==◌}
 use Rattle.std.specs.Int.{bit_at}
 use Rattle.std.specs.List.{AllByRecursion}
@@ -12,13 +12,12 @@ use Rattle.cell_page.specs.declared.cell.Cell.{Cell}
 use Rattle.cell_page.specs.Format.{IsCell, page_of_id}
 use Rattle.cell_page.specs.Stored.{pointers_from, cell_of}
 use Rattle.cell_page.proofs.PointerLemmas.{length-pointers_from, get_or-pointers_from}
-use Rattle.strength_counts.specs.Held.{Held}
 use Rattle.core_store.specs.declared.slots.SlotChange.{SlotChange}
 use Rattle.core_store.specs.declared.three.HeldFrame.{HeldFrame}
 use Rattle.core_store.specs.Frames.{is_held, Agree}
 use Rattle.core_store.specs.Changes.{has_no_strong}
-use Rattle.core_store.specs.Logged.{if_any, object_and_targets}
-use Rattle.core_store.specs.Slots.{HoldsCellsOf, IsReadyToChange, HasPlace}
+use Rattle.core_store.specs.Logged.{object_and_targets}
+use Rattle.core_store.specs.Slots.{IsReadyToChange, HasPlace}
 use Rattle.core_store.proofs.SlotReady.{first-of, second-of, each-of}
 use Rattle.core_store.proofs.SlotChanges.{id-above, live-small, or-small, old-live}
 
@@ -48,10 +47,6 @@ slot-null id c slot rules within none =
 module _ {slots : ℕ} (c : Cell slots) (cells : List StoredCell) (id slot : ℕ) (is : cell_of c ≡ cell_at cells id) where
   pub old-of : (pointer_at cells id slot).target ≡ get_or c.slots slot 0
   old-of = ap (λ (s : StoredCell). (pointer_in s slot).target) (sym is) ∙ slot-target c slot
-
-  -- the cells of the object, of this id and of another one are those of the object and its targets
-  pub held-of : (hs : List Held) (target : ℕ) → HoldsCellsOf hs (id ∷ if_any (get_or c.slots slot 0) ++ if_any target) → HoldsCellsOf hs (object_and_targets cells id slot target)
-  held-of hs target held = subst (λ (n : ℕ). HoldsCellsOf hs (id ∷ if_any n ++ if_any target)) (sym old-of) held
 
 pub same-change : (a b : ℕ) (s t u v w x : Bool) → a ≡ b → s ≡ t → u ≡ v → w ≡ x
     → (let left : SlotChange = record { old_target = a; old_strong = s; new_bit = u; new_strong = w } in left) ≡ record { old_target = b; old_strong = t; new_bit = v; new_strong = x }

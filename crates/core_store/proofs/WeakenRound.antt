@@ -33,7 +33,7 @@ use Rattle.core_store.specs.Stands.{Stands, Moves}
 use Rattle.core_store.specs.Collects.{is_let_go, Weakens}
 use Rattle.core_store.specs.Collecting.{objects_at, IsReadyToCollect, Collected}
 use Rattle.core_store.proofs.SlotLaws.{holds-old}
-use Rattle.core_store.proofs.SlotWeakens.{counted-some}
+use Rattle.core_store.proofs.SlotStrengths.{counted-some}
 use Rattle.core_store.proofs.CollectedLaws.{Stands-collected, mark-at, marks-long_of}
 use Rattle.core_store.proofs.NextLaws.{one-live}
 use Rattle.core_store.proofs.PlanLaws.{live-id}

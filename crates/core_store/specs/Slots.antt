@@ -1,14 +1,13 @@
 -- What a change of a slot is asked for, and what it leaves.
-use Rattle.std.specs.Prelude.{◌≡◌, ◌≢◌, ℕ, ◌<◌, ◌≤◌, ◌==◌, ◌&&◌, Bool, true, not, List, length, map}
-use Rattle.std.specs.List.{list_any, AllByRecursion}
+use Rattle.std.specs.Prelude.{◌≡◌, ◌≢◌, ℕ, ◌+◌, ◌^◌, ◌<◌, ◌≤◌, ◌==◌, ◌&&◌, Bool, true, not, List, length, map}
+use Rattle.std.specs.List.{AllByRecursion}
 use Rattle.plain_model.specs.Graphs.{root}
-use Rattle.cell_model.specs.Cells.{Pointer, Cell, is_live, is_strong, cell_at, pointer_at, other_strength, relinked, edit, flipped}
+use Rattle.cell_model.specs.Cells.{Pointer, Cell, is_live, is_strong, cell_at, pointer_at, other_strength, relinked, edit, flipped, counted, gains, loses}
 use Rattle.cell_model.specs.Consistent.{AreConsistent}
-use Rattle.strength_counts.specs.Held.{Held, is_held as is_cell_held}
-use Rattle.strength_counts.specs.Laws.{ArePart}
 use Rattle.cell_page.specs.Format.{page_of_id}
 use Rattle.core_store.specs.declared.three.HeldFrame.{HeldFrame}
 use Rattle.core_store.specs.declared.slots.SlotChange.{SlotChange}
+use Rattle.core_store.specs.declared.slots.Pointer.{Pointer as HeldPointer}
 use Rattle.core_store.specs.Frames.{is_held, Agree, IsSameElsewhere}
 use Rattle.core_store.specs.Changes.{after_change, has_no_strong, is_counted_strong}
 use Rattle.core_store.specs.Logged.{object_and_targets}
@@ -100,29 +99,15 @@ pub record IsReadyToEdit {slots : ℕ} (held : List (HeldFrame slots)) (id : ℕ
   pub live : is_live cells id ≡ true
   pub page : is_held held (page_of_id id) ≡ true
 
--- ---- the cells that a change reaches, taken from the pages
+-- ---- the parts of a change
 
--- the cells of these ids are held, and no others
-abbrev pub HoldsCellsOf : List Held → List ℕ → Type 0
-HoldsCellsOf held ids = (id : ℕ) → is_cell_held held id ≡ list_any (λ i. i == id) ids
+-- what a slot holds, as the laws of a store see it
+abbrev pub pointer_of : HeldPointer → Pointer
+pointer_of p = record { target = p.target; bit = p.bit }
 
--- the held cells are cells of the store, each once
-pub record AreCellsOf (cells : List Cell) (held : List Held) : Type 0 where
-  pub part : ArePart cells held
-  pub within : (id : ℕ) → is_cell_held held id ≡ true → (id ≢ 0) × (id < length cells)
-
--- they are cells of some store, whose slot can change, with those of the object, of the old target and of the new one
-pub record AreReadyToChange (slots : ℕ) (held : List Held) (id slot target : ℕ) : Type 0 where
-  pub ids : ℕ
-  pub cells : List Cell
-  pub of : AreCellsOf cells held
-  pub can : CanChange slots ids cells id slot target
-  pub there : AllByRecursion (λ i. is_cell_held held i ≡ true) (object_and_targets cells id slot target)
-
--- the same cells are held, and of whatever store they were cells, they are those of it after its slot was laid this pointer
-pub record AreRelinked (old new : List Held) (id slot : ℕ) (pointer : List Cell → Pointer) : Type 0 where
-  pub ids : (i : ℕ) → is_cell_held new i ≡ is_cell_held old i
-  pub of : (cells : List Cell) → AreCellsOf cells old → AreCellsOf (relinked cells id slot (pointer cells)) new
+-- the cell counts a pointer with the other bit in place of one with this bit
+abbrev pub turned : Bool → Cell → Cell
+turned bit c = gains (not bit) (loses bit c)
 
 -- the page of the id is held, and it has a mark
 pub record HasPlace {slots : ℕ} (held : List (HeldFrame slots)) (zeros : List Bool) (id : ℕ) : Type 0 where
@@ -130,3 +115,19 @@ pub record HasPlace {slots : ℕ} (held : List (HeldFrame slots)) (zeros : List 
   pub small : id < 65536
   pub page : is_held held (page_of_id id) ≡ true
   pub mark : id < length zeros
+
+-- some store's cells are held, and the object is a live one of them, with a mark, which counts a pointer with this bit
+pub record IsReadyToLose {slots : ℕ} (held : List (HeldFrame slots)) (zeros : List Bool) (id : ℕ) (bit : Bool) : Type 0 where
+  pub cells : List Cell
+  pub agree : Agree cells held
+  pub live : is_live cells id ≡ true
+  pub place : HasPlace held zeros id
+  pub some : 0 < counted bit (cell_at cells id)
+
+-- some store's cells are held, and the object is a live one of them, with a mark, which can count a pointer with this bit more
+pub record IsReadyToGain {slots : ℕ} (held : List (HeldFrame slots)) (zeros : List Bool) (id : ℕ) (bit : Bool) : Type 0 where
+  pub cells : List Cell
+  pub agree : Agree cells held
+  pub live : is_live cells id ≡ true
+  pub place : HasPlace held zeros id
+  pub room : counted bit (cell_at cells id) + 1 < 2 ^ 32

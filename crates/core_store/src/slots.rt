@@ -1,20 +1,18 @@
 //! The change of a slot, with the strengths of what it held and holds and the counts of its targets.
 
-ghost use Rattle.std.specs.Prelude.{◌≡◌, ◌≢◌, ℕ, ◌<◌, ◌==◌, List, [], ◌∷◌, ◌++◌, ◌&&◌, true, false, not, length, Some};
-ghost use Rattle.cell_model.specs.Cells.{Cell as StoredCell, null, cell_at, pointer_at, is_live, edit, pays};
+ghost use Rattle.std.specs.Prelude.{◌≡◌, ◌≢◌, ℕ, ◌<◌, ◌==◌, List, [], ◌∷◌, ◌&&◌, true, false, not, length, Some};
+ghost use Rattle.cell_model.specs.Cells.{Cell as StoredCell, null, same, cell_at, pointer_at, is_live, edit, relink, gains, loses, relinked, other_strength, pays};
 ghost use Rattle.cell_page.specs.Format.{IsSlotCount, IsCell};
 ghost use Rattle.cell_page.specs.Stored.{cell_of};
-ghost use Rattle.strength_counts.specs.Laws.{ArePart, with_held};
-ghost use Rattle.strength_counts.specs.Held.{is_held as is_cell_held, held_pointer, AreOnce};
 ghost use Rattle.core_store.specs.Frames.{pages_held, Agree};
-ghost use Rattle.core_store.specs.Logged.{if_any, object_and_targets};
+ghost use Rattle.core_store.specs.Logged.{object_and_targets};
 ghost use Rattle.core_store.specs.Work.{IsWork, HasSmallTargets};
 ghost use Rattle.core_store.specs.Changes.{is_counted_strong, is_laid_strong, bit_for, stored_change, restored_change};
-ghost use Rattle.core_store.specs.Slots.{HoldsPagesOf, IsReadyToWeaken, WeakensSlot, IsReadyToStrengthen, StrengthensSlot, IsReadyToFlip, FlipsCell, IsReadyToChange, IsReadyToEdit, IsChanged, Changes, HoldsCellsOf, AreCellsOf, AreReadyToChange, AreRelinked, HasPlace};
+ghost use Rattle.core_store.specs.Slots.{HoldsPagesOf, IsReadyToWeaken, WeakensSlot, IsReadyToStrengthen, StrengthensSlot, IsReadyToFlip, FlipsCell, IsReadyToChange, IsReadyToEdit, IsReadyToLose, IsReadyToGain, IsChanged, Changes, HasPlace, pointer_of, turned};
 
 use crate::three::Three;
 use cell_page::Cell;
-use strength_counts::Cells;
+use strength_counts::{flip_cell, gain, lose, takes_strong};
 
 /// How a slot changed: the id that it held, or 0, and whether that pointer was strong; the pointer bit that it has now,
 /// and whether what it holds is strong.
@@ -26,22 +24,26 @@ pub(crate) struct SlotChange {
     pub(crate) new_strong: bool,
 }
 
-/// The cells of an object, of what its slot holds and of what the slot is to hold, each once.
-fn gather<const SLOTS: usize>(held: &Three<SLOTS>, id: u32, old: u32, target: u32) -> Cells<SLOTS>
-    requires pages { HoldsPagesOf held.now (id ∷ if_any old ++ if_any target) }
-    requires small { (0 < id) × (id < 65536) × (old < 65536) × (target < 65536) }
-    requires agrees { (cells : List StoredCell) × Agree cells held.now }
-    ensures part { (cells : List StoredCell) → Agree cells held.now → ArePart cells result }
-    ensures held { HoldsCellsOf result (id ∷ if_any old ++ if_any target) }
+/// What a slot holds: the id that it names, or 0, and its pointer bit.
+#[derive(Clone, Copy)]
+struct Pointer {
+    target: u32,
+    bit: bool,
+}
+
+/// What the slot of an object holds.
+fn held_pointer<const SLOTS: usize>(held: &Three<SLOTS>, id: u32, slot: u8) -> Pointer
+    requires size { IsSlotCount SLOTS }
+    requires ready { IsReadyToEdit held.now id }
+    requires within { slot < SLOTS }
+    ensures stored { (cells : List StoredCell) → Agree cells held.now → pointer_at cells id slot ≡ pointer_of result }
+    ensures null { result.target ≡ 0 → result.bit ≡ false }
 {
-    let mut cells = Cells::new(*held.cell(id));
-    if old != 0 && old != id {
-        cells.add(*held.cell(old));
+    let cell = held.cell(id);
+    Pointer {
+        target: cell.slots[slot as usize],
+        bit: cell.pointer_bit(slot),
     }
-    if target != 0 && target != id && target != old {
-        cells.add(*held.cell(target));
-    }
-    cells
 }
 
 /// Puts a cell back, and marks whether no strong pointer leads to it.
@@ -59,63 +61,165 @@ fn put_back<const SLOTS: usize>(held: &mut Three<SLOTS>, zeros: &mut Vec<bool>, 
     zeros[id as usize] = zero;
 }
 
-/// Puts the cells back, each with its mark.
-fn scatter<const SLOTS: usize>(
-    held: &mut Three<SLOTS>,
-    zeros: &mut Vec<bool>,
-    mut cells: Cells<SLOTS>,
-)
+/// Lays a pointer in a slot, and lets the counts be.
+fn relink<const SLOTS: usize>(held: &mut Three<SLOTS>, id: u32, slot: u8, to: Pointer)
     requires size { IsSlotCount SLOTS }
-    requires place { (id : ℕ) → is_cell_held cells id ≡ true → HasPlace held.old zeros.old.items id }
-    requires once { AreOnce cells }
-    requires agrees { (all : List StoredCell) × Agree all held.old }
-    ensures changed { (all : List StoredCell) → Agree all held.old → IsChanged all (with_held cells.entry all) held.old held.new zeros.old.items zeros.new.items }
+    requires ready { IsReadyToEdit held.old id }
+    requires within { slot < SLOTS }
+    requires null { to.target ≡ 0 → to.bit ≡ false }
+    ensures stored { (cells : List StoredCell) → Agree cells held.old → Agree (edit cells id (relink slot (pointer_of to))) held.new }
     ensures pages { pages_held held.new ≡ pages_held held.old }
 {
-    'cells: while let Some(cell) = cells.take() {
-        put_back(held, zeros, cell);
-    }
+    let mut cell = *held.cell(id);
+    cell.set_pointer(slot, to.target, to.bit);
+    held.put_cell(cell);
 }
 
-/// Makes the slot null, and tells whether it held a strong pointer.
-fn cut<const SLOTS: usize>(cells: &mut Cells<SLOTS>, id: u32, slot: u8, old: u32) -> bool
+/// The target counts one pointer with this bit less. Tells whether it was strong.
+fn lower<const SLOTS: usize>(
+    held: &mut Three<SLOTS>,
+    zeros: &mut Vec<bool>,
+    target: u32,
+    bit: bool,
+) -> bool
     requires size { IsSlotCount SLOTS }
-    requires ready { AreReadyToChange SLOTS cells.old id slot 0 }
-    requires target { (held_pointer cells.old id slot).target ≡ old }
-    requires null { old ≡ 0 → held_pointer cells.old id slot ≡ null }
-    ensures strong { (all : List StoredCell) → AreCellsOf all cells.old → result ≡ is_counted_strong all (pointer_at all id slot) }
-    ensures relinked { AreRelinked cells.old cells.new id slot (λ all. null) }
+    requires ready { IsReadyToLose held.old zeros.old.items target bit }
+    ensures strong { (cells : List StoredCell) → Agree cells held.old → result ≡ same (cell_at cells target).bit bit }
+    ensures changed { (cells : List StoredCell) → Agree cells held.old → IsChanged cells (edit cells target (loses bit)) held.old held.new zeros.old.items zeros.new.items }
+    ensures pages { pages_held held.new ≡ pages_held held.old }
+    ensures marks { length zeros.new.items ≡ length zeros.old.items }
 {
-    if old == 0 {
+    let mut cell = *held.cell(target);
+    let strong = lose(&mut cell, bit);
+    put_back(held, zeros, cell);
+    strong
+}
+
+/// The target counts one pointer with this bit more.
+fn raise<const SLOTS: usize>(held: &mut Three<SLOTS>, zeros: &mut Vec<bool>, target: u32, bit: bool)
+    requires size { IsSlotCount SLOTS }
+    requires ready { IsReadyToGain held.old zeros.old.items target bit }
+    ensures changed { (cells : List StoredCell) → Agree cells held.old → IsChanged cells (edit cells target (gains bit)) held.old held.new zeros.old.items zeros.new.items }
+    ensures pages { pages_held held.new ≡ pages_held held.old }
+    ensures marks { length zeros.new.items ≡ length zeros.old.items }
+{
+    let mut cell = *held.cell(target);
+    gain(&mut cell, bit);
+    put_back(held, zeros, cell);
+}
+
+/// The target counts one pointer with the other bit in place of one with this bit.
+fn turn<const SLOTS: usize>(held: &mut Three<SLOTS>, zeros: &mut Vec<bool>, target: u32, bit: bool)
+    requires size { IsSlotCount SLOTS }
+    requires some { IsReadyToLose held.old zeros.old.items target bit }
+    requires room { IsReadyToGain held.old zeros.old.items target (not bit) }
+    ensures changed { (cells : List StoredCell) → Agree cells held.old → IsChanged cells (edit cells target (turned bit)) held.old held.new zeros.old.items zeros.new.items }
+    ensures pages { pages_held held.new ≡ pages_held held.old }
+{
+    let mut cell = *held.cell(target);
+    lose(&mut cell, bit);
+    gain(&mut cell, !bit);
+    put_back(held, zeros, cell);
+}
+
+/// Makes the slot null, which holds this pointer, and tells whether that was a strong one.
+fn cut<const SLOTS: usize>(
+    held: &mut Three<SLOTS>,
+    zeros: &mut Vec<bool>,
+    id: u32,
+    slot: u8,
+    from: Pointer,
+) -> bool
+    requires size { IsSlotCount SLOTS }
+    requires ready { IsReadyToChange held.old zeros.old.items id slot 0 }
+    requires from { (cells : List StoredCell) → Agree cells held.old → pointer_at cells id slot ≡ pointer_of from }
+    requires null { from.target ≡ 0 → from.bit ≡ false }
+    ensures strong { (cells : List StoredCell) → Agree cells held.old → result ≡ is_counted_strong cells (pointer_at cells id slot) }
+    ensures changed { (cells : List StoredCell) → Agree cells held.old → IsChanged cells (relinked cells id slot null) held.old held.new zeros.old.items zeros.new.items }
+    ensures pages { pages_held held.new ≡ pages_held held.old }
+    ensures marks { length zeros.new.items ≡ length zeros.old.items }
+{
+    if from.target == 0 {
         return false;
     }
-    cells.cut(id, slot)
+    let null = Pointer {
+        target: 0,
+        bit: false,
+    };
+    relink(held, id, slot, null);
+    lower(held, zeros, from.target, from.bit)
 }
 
-/// Lays a pointer in the null slot, strong by the rule of new pointers, and tells whether it is strong.
-fn put<const SLOTS: usize>(cells: &mut Cells<SLOTS>, id: u32, slot: u8, target: u32) -> bool
+/// Lays a pointer in the null slot.
+fn lay<const SLOTS: usize>(
+    held: &mut Three<SLOTS>,
+    zeros: &mut Vec<bool>,
+    id: u32,
+    slot: u8,
+    to: Pointer,
+)
     requires size { IsSlotCount SLOTS }
-    requires ready { AreReadyToChange SLOTS cells.old id slot target }
-    requires null { held_pointer cells.old id slot ≡ null }
-    ensures strong { (all : List StoredCell) → AreCellsOf all cells.old → result ≡ is_laid_strong all id target }
-    ensures relinked { AreRelinked cells.old cells.new id slot (λ all. record { target = target; bit = bit_for all target result }) }
+    requires ready { IsReadyToChange held.old zeros.old.items id slot to.target }
+    requires some { to.target ≢ 0 }
+    ensures changed { (cells : List StoredCell) → Agree cells held.old → pointer_at cells id slot ≡ null → IsChanged cells (relinked cells id slot (pointer_of to)) held.old held.new zeros.old.items zeros.new.items }
+    ensures pages { pages_held held.new ≡ pages_held held.old }
+{
+    relink(held, id, slot, to);
+    raise(held, zeros, to.target, to.bit);
+}
+
+/// Lays a pointer of this strength in the null slot, and gives its bit.
+fn put<const SLOTS: usize>(
+    held: &mut Three<SLOTS>,
+    zeros: &mut Vec<bool>,
+    id: u32,
+    slot: u8,
+    target: u32,
+    strong: bool,
+) -> bool
+    requires size { IsSlotCount SLOTS }
+    requires ready { IsReadyToChange held.old zeros.old.items id slot target }
+    ensures bit { (cells : List StoredCell) → Agree cells held.old → result ≡ bit_for cells target strong }
+    ensures changed { (cells : List StoredCell) → Agree cells held.old → pointer_at cells id slot ≡ null → IsChanged cells (relinked cells id slot (record { target = target; bit = result })) held.old held.new zeros.old.items zeros.new.items }
+    ensures pages { pages_held held.new ≡ pages_held held.old }
 {
     if target == 0 {
         return false;
     }
-    cells.put(id, slot, target)
+    let bit = held.cell(target).bit == strong;
+    lay(held, zeros, id, slot, Pointer { target, bit });
+    bit
 }
 
-/// Lays a weak pointer in the null slot.
-fn put_weak<const SLOTS: usize>(cells: &mut Cells<SLOTS>, id: u32, slot: u8, target: u32)
-    requires size { IsSlotCount SLOTS }
-    requires ready { AreReadyToChange SLOTS cells.old id slot target }
-    requires null { held_pointer cells.old id slot ≡ null }
-    ensures { AreRelinked cells.old cells.new id slot (λ all. record { target = target; bit = bit_for all target false }) }
+/// Whether a new pointer from the object to the target is strong.
+fn is_to_be_strong<const SLOTS: usize>(held: &Three<SLOTS>, id: u32, target: u32) -> bool
+    requires ready { target ≢ 0 → IsReadyToEdit held.now target }
+    ensures { (cells : List StoredCell) → Agree cells held.now → result ≡ is_laid_strong cells id target }
 {
-    if target != 0 {
-        cells.put_weak(id, slot, target);
-    }
+    target != 0 && id != target && takes_strong(held.cell(target))
+}
+
+/// Gives the slot's pointer, which isn't null, its other strength.
+fn switch<const SLOTS: usize>(
+    held: &mut Three<SLOTS>,
+    zeros: &mut Vec<bool>,
+    id: u32,
+    slot: u8,
+    from: Pointer,
+)
+    requires size { IsSlotCount SLOTS }
+    requires ready { IsReadyToChange held.old zeros.old.items id slot 0 }
+    requires from { (cells : List StoredCell) → Agree cells held.old → pointer_at cells id slot ≡ pointer_of from }
+    requires some { from.target ≢ 0 }
+    ensures changed { (cells : List StoredCell) → Agree cells held.old → IsChanged cells (relinked cells id slot (other_strength (pointer_at cells id slot))) held.old held.new zeros.old.items zeros.new.items }
+    ensures pages { pages_held held.new ≡ pages_held held.old }
+{
+    let to = Pointer {
+        bit: !from.bit,
+        ..from
+    };
+    relink(held, id, slot, to);
+    turn(held, zeros, from.target, from.bit);
 }
 
 /// Removes what the slot holds, and lays a pointer to the target, strong by the rule of new pointers.
@@ -131,14 +235,12 @@ pub(crate) fn store<const SLOTS: usize>(
     ensures changes { Changes held.old held.new zeros.old.items zeros.new.items id slot target (λ cells. stored_change cells id slot target) result }
     ensures pages { pages_held held.new ≡ pages_held held.old }
 {
-    let old_target = held.cell(id).slots[slot as usize];
-    let mut cells = gather(held, id, old_target, target);
-    let old_strong = cut(&mut cells, id, slot, old_target);
-    let new_strong = put(&mut cells, id, slot, target);
-    let new_bit = cells.get(id).pointer_bit(slot);
-    scatter(held, zeros, cells);
+    let from = held_pointer(held, id, slot);
+    let old_strong = cut(held, zeros, id, slot, from);
+    let new_strong = is_to_be_strong(held, id, target);
+    let new_bit = put(held, zeros, id, slot, target, new_strong);
     SlotChange {
-        old_target,
+        old_target: from.target,
         old_strong,
         new_bit,
         new_strong,
@@ -158,14 +260,11 @@ pub(crate) fn restore<const SLOTS: usize>(
     ensures changes { Changes held.old held.new zeros.old.items zeros.new.items id slot target (λ cells. restored_change cells id slot target) result }
     ensures pages { pages_held held.new ≡ pages_held held.old }
 {
-    let old_target = held.cell(id).slots[slot as usize];
-    let mut cells = gather(held, id, old_target, target);
-    let old_strong = cut(&mut cells, id, slot, old_target);
-    put_weak(&mut cells, id, slot, target);
-    let new_bit = cells.get(id).pointer_bit(slot);
-    scatter(held, zeros, cells);
+    let from = held_pointer(held, id, slot);
+    let old_strong = cut(held, zeros, id, slot, from);
+    let new_bit = put(held, zeros, id, slot, target, false);
     SlotChange {
-        old_target,
+        old_target: from.target,
         old_strong,
         new_bit,
         new_strong: false,
@@ -184,11 +283,9 @@ pub(crate) fn weaken<const SLOTS: usize>(
     ensures weakens { WeakensSlot held.old held.new zeros.old.items zeros.new.items id slot result }
     ensures pages { pages_held held.new ≡ pages_held held.old }
 {
-    let target = held.cell(id).slots[slot as usize];
-    let mut cells = gather(held, id, target, 0);
-    cells.weaken(id, slot);
-    scatter(held, zeros, cells);
-    target
+    let from = held_pointer(held, id, slot);
+    switch(held, zeros, id, slot, from);
+    from.target
 }
 
 /// Makes the slot's weak pointer strong.
@@ -203,10 +300,8 @@ pub(crate) fn strengthen<const SLOTS: usize>(
     ensures strengthens { StrengthensSlot held.old held.new zeros.old.items zeros.new.items id slot }
     ensures pages { pages_held held.new ≡ pages_held held.old }
 {
-    let target = held.cell(id).slots[slot as usize];
-    let mut cells = gather(held, id, target, 0);
-    cells.strengthen(id, slot);
-    scatter(held, zeros, cells);
+    let from = held_pointer(held, id, slot);
+    switch(held, zeros, id, slot, from);
 }
 
 /// Flips an object: its pointers to itself stay weak, and all others to it become strong.
@@ -216,9 +311,9 @@ pub(crate) fn flip<const SLOTS: usize>(held: &mut Three<SLOTS>, zeros: &mut Vec<
     ensures flips { FlipsCell held.old held.new zeros.old.items zeros.new.items id }
     ensures pages { pages_held held.new ≡ pages_held held.old }
 {
-    let mut cells = Cells::new(*held.cell(id));
-    cells.flip(id);
-    scatter(held, zeros, cells);
+    let mut cell = *held.cell(id);
+    flip_cell(&mut cell);
+    put_back(held, zeros, cell);
 }
 
 /// Whether the slot holds a strong pointer to this object.

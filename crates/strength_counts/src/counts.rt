@@ -26,14 +26,14 @@ fn are_null(slots: &[u32]) -> bool
 
 /// Whether a new pointer to this object, from another, is strong.
 #[tactic(auto, using(crate::proofs::Slots::list_all_pointers))]
-pub(crate) fn takes_strong<const SLOTS: usize>(cell: &Cell<SLOTS>) -> bool
+pub fn takes_strong<const SLOTS: usize>(cell: &Cell<SLOTS>) -> bool
     ensures { result ≡ takes_strong (cell_of cell.now) }
 {
     cell.strong == 0 && are_null(&cell.slots)
 }
 
 /// One pointer with this bit more.
-pub(crate) fn gain<const SLOTS: usize>(cell: &mut Cell<SLOTS>, bit: bool)
+pub fn gain<const SLOTS: usize>(cell: &mut Cell<SLOTS>, bit: bool)
     requires room { counted bit (cell_of cell.old) + 1 < 2 ^ 32 }
     ensures model { cell_of cell.new ≡ gains bit (cell_of cell.old) }
     ensures id { cell.new.id ≡ cell.old.id }
@@ -49,7 +49,7 @@ pub(crate) fn gain<const SLOTS: usize>(cell: &mut Cell<SLOTS>, bit: bool)
 }
 
 /// One pointer with this bit less; whether it was strong.
-pub(crate) fn lose<const SLOTS: usize>(cell: &mut Cell<SLOTS>, bit: bool) -> bool
+pub fn lose<const SLOTS: usize>(cell: &mut Cell<SLOTS>, bit: bool) -> bool
     requires some { 0 < counted bit (cell_of cell.old) }
     ensures strong { result ≡ same cell.old.bit bit }
     ensures model { cell_of cell.new ≡ loses bit (cell_of cell.old) }

@@ -53,7 +53,7 @@ fn switch_all_own<const SLOTS: usize>(cell: &mut Cell<SLOTS>)
 }
 
 /// Flips the target bit. Pointers of other objects exchange their strengths, and those of its own keep theirs.
-fn flip_cell<const SLOTS: usize>(cell: &mut Cell<SLOTS>)
+pub fn flip_cell<const SLOTS: usize>(cell: &mut Cell<SLOTS>)
     requires size { IsSlotCount SLOTS }
     requires live { cell.old.live ≡ true }
     requires above { 0 < cell.old.id }

@@ -8,4 +8,6 @@ mod laws;
 mod pointers;
 
 pub use cells::Cells;
+pub use counts::{gain, lose, takes_strong};
+pub use flip::flip_cell;
 pub use laws::{changes_are_of_the_store, counts_stay_exact, strengths_are_of_the_store};

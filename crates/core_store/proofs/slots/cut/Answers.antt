@@ -1,42 +1,47 @@
-use Rattle.std.proofs.Common.{rules, ◌≢◌, ◌≤◌, sym, ◌∙◌, refl, arith, ⊎_elim}
-use Rattle.cell_model.specs.Cells.{null}
-use Rattle.strength_counts.specs.Held.{held_pointer}
-use Rattle.core_store.proofs.SlotHeld.{cut-relinks, stays-relinked, counted-null, counted-holds}
-use Rattle.core_store.proofs.SlotReady.{object-there, object-live, old-there, old-live, old-counts}
+use Rattle.std.proofs.Common.{rules, ◌≢◌, ◌≤◌, List, Bool, refl, sym, ap, ◌∙◌, subst, arith, ⊎_elim}
+use Rattle.cell_model.specs.Cells.{Cell as StoredCell, Pointer, null, same, edit, relink, relinked}
+use Rattle.cell_model.proofs.EditLaws.{edit-keeps}
+use Rattle.core_store.specs.Changes.{is_counted_strong}
+use Rattle.core_store.specs.Slots.{IsReadyToLose, IsChanged, pointer_of}
+use Rattle.core_store.proofs.SlotPages.{changed-none}
+use Rattle.core_store.proofs.SlotEdits.{object-ready, old-loses, relinked-null, pointer-null, counted-same, changed-relink, cut-changed}
 use Rattle.core_store.proofs.slots.cut.Goals as goal
 
-pub returns-then-old-eq0-clause-strong : goal.returns-then-old-eq0-clause-strong
-returns-then-old-eq0-clause-strong g c all of =
-    let there = object-there g.row.SLOTS c.args.cells.now c.args.id c.args.slot 0 c.requires.ready in
-    counted-null all c.args.cells.now of c.args.id c.args.slot there (c.requires.target ∙ c.if-old-eq0.true)
+pub returns-then-from-eq0-clause-changed : goal.returns-then-from-eq0-clause-changed
+returns-then-from-eq0-clause-changed g c cells agree =
+    let held = c.args.held.now in
+    let zeros = c.args.zeros.now.items in
+    let none = c.if-from-eq0.true in
+    let is = c.requires.from cells agree ∙ pointer-null c.args.from.target c.args.from.bit none (c.requires.null none) in
+    subst (λ (cs : List StoredCell). IsChanged cells cs held held zeros zeros) (sym (relinked-null cells c.args.id c.args.slot is)) (changed-none cells held zeros agree)
 
-pub returns-then-old-eq0-clause-relinked : goal.returns-then-old-eq0-clause-relinked
-returns-then-old-eq0-clause-relinked g c =
-    let there = object-there g.row.SLOTS c.args.cells.now c.args.id c.args.slot 0 c.requires.ready in
-    stays-relinked c.args.cells.now c.args.id c.args.slot (λ all. null) there (c.requires.null c.if-old-eq0.true) (λ all. refl)
-
-pub cut-requires : goal.cut-requires
-cut-requires g c =
+pub relink-requires : goal.relink-requires
+relink-requires g c =
     let r = c.requires.ready in
-    let some : (held_pointer c.args.cells.now c.args.id c.args.slot).target ≢ 0 = λ e. c.if-old-eq0.false (sym c.requires.target ∙ e) in
     let small : g.row.SLOTS ≤ 14 = ⊎_elim (λ six. omega arith) (λ fourteen. omega arith) c.requires.size in
-    let object = object-live g.row.SLOTS c.args.cells.now c.args.id c.args.slot 0 r in
-    let live = old-live g.row.SLOTS c.args.cells.now c.args.id c.args.slot 0 r some in
-    let counts = old-counts g.row.SLOTS c.args.cells.now c.args.id c.args.slot 0 r some in
-    (search rules, (c.requires.size, (object, (r.can.within, (live, counts)))))
+    (search rules, (c.requires.size, (object-ready c.args.held.now c.args.zeros.now.items c.args.id c.args.slot 0 r, (r.can.within, λ none. refl))))
+
+pub lower-requires : goal.lower-requires
+lower-requires g c =
+    let r = c.requires.ready in
+    let small : g.row.SLOTS ≤ 14 = ⊎_elim (λ six. omega arith) (λ fourteen. omega arith) c.requires.size in
+    let is = c.requires.from r.cells r.agree in
+    let some = subst (λ (p : Pointer). p.target ≢ 0) (sym is) c.if-from-eq0.false in
+    let loses = old-loses c.args.held.now c.args.zeros.now.items c.args.id c.args.slot 0 r null c.relink.new.held (c.relink.ensures.stored r.cells r.agree) c.relink.ensures.pages some in
+    (search rules, (c.requires.size, subst (λ (p : Pointer). IsReadyToLose c.relink.new.held c.args.zeros.now.items p.target p.bit) is loses))
 
 pub returns-clause-strong : goal.returns-clause-strong
-returns-clause-strong g c all of =
-    let r = c.requires.ready in
-    let some : (held_pointer c.args.cells.now c.args.id c.args.slot).target ≢ 0 = λ e. c.if-old-eq0.false (sym c.requires.target ∙ e) in
-    let there = object-there g.row.SLOTS c.args.cells.now c.args.id c.args.slot 0 r in
-    let old = old-there g.row.SLOTS c.args.cells.now c.args.id c.args.slot 0 r some in
-    c.cut.ensures.strong ∙ counted-holds all c.args.cells.now of c.args.id c.args.slot there old some
+returns-clause-strong g c cells agree =
+    let p = pointer_of c.args.from in
+    c.lower.ensures.strong (edit cells c.args.id (relink c.args.slot null)) (c.relink.ensures.stored cells agree)
+    ∙ ap (λ (b : Bool). same b p.bit) (edit-keeps (λ s. s.bit) cells c.args.id p.target (relink c.args.slot null) (λ s. refl)) ∙ counted-same cells p c.if-from-eq0.false
+    ∙ ap (is_counted_strong cells) (sym (c.requires.from cells agree))
 
-pub returns-clause-relinked : goal.returns-clause-relinked
-returns-clause-relinked g c =
-    let r = c.requires.ready in
-    let some : (held_pointer c.args.cells.now c.args.id c.args.slot).target ≢ 0 = λ e. c.if-old-eq0.false (sym c.requires.target ∙ e) in
-    let there = object-there g.row.SLOTS c.args.cells.now c.args.id c.args.slot 0 r in
-    let old = old-there g.row.SLOTS c.args.cells.now c.args.id c.args.slot 0 r some in
-    cut-relinks c.args.cells.now c.cut.new.self c.args.id c.args.slot c.cut.ensures.held there old
+pub returns-clause-changed : goal.returns-clause-changed
+returns-clause-changed g c cells agree =
+    let held = c.args.held.now in
+    let zeros = c.args.zeros.now.items in
+    let ready = object-ready held zeros c.args.id c.args.slot 0 c.requires.ready in
+    let laid = c.relink.ensures.stored cells agree in
+    cut-changed cells c.args.id c.args.slot (pointer_of c.args.from) (c.requires.from cells agree) held c.relink.new.held c.lower.new.held zeros c.lower.new.zeros.items c.relink.ensures.pages
+    (changed-relink cells held c.relink.new.held zeros c.args.id c.args.slot null ready.page laid) (c.lower.ensures.changed (edit cells c.args.id (relink c.args.slot null)) laid)
