@@ -6,13 +6,10 @@ use Rattle.core_store.specs.declared.three.HeldFrame.{HeldFrame}
 use Rattle.core_store.specs.Frames.{pages_held, Agree}
 use Rattle.core_store.specs.Changes.{has_no_strong}
 use Rattle.core_store.specs.Slots.{IsChanged, HasPlace}
-use Rattle.core_store.proofs.PageLaws.{is_held-pages, elsewhere-refl, elsewhere-trans, elsewhere-pages, elsewhere-edit}
+use Rattle.core_store.proofs.PageLaws.{is_held-pages, elsewhere-trans, elsewhere-pages, elsewhere-edit}
 use Rattle.core_store.proofs.SlotLaws.{edit-marks}
 
 -- ---- changes one after another
-
-pub changed-none : {slots : ℕ} (cells : List Cell) (held : List (HeldFrame slots)) (zeros : List Bool) → Agree cells held → IsChanged cells cells held held zeros zeros
-changed-none cells held zeros agree = record { agree = agree; elsewhere = elsewhere-refl cells held; marks_are = λ e. e }
 
 pub changed-trans : {slots : ℕ} (cells middle after : List Cell) (held between new : List (HeldFrame slots)) (zeros some marks : List Bool) → IsChanged cells middle held between zeros some → IsChanged middle after between new some marks
     → pages_held between ≡ pages_held held → IsChanged cells after held new zeros marks

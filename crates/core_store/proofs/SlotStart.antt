@@ -1,7 +1,5 @@
 -- The held pages and marks before a slot changes, and the cell that has the slot.
-use Rattle.std.proofs.Common.{◌≡◌, ℕ, ◌+◌, ◌<◌, ◌≤◌, List, Bool, true, length, get_or, refl, sym, ap, ◌∙◌, subst, arith, ⊎_elim, zero-add}
-use Rattle.std.specs.Prelude.{◌==◌}
-use Rattle.std.specs.Int.{bit_at}
+use Rattle.std.proofs.Common.{◌≡◌, ℕ, ◌<◌, ◌≤◌, List, Bool, true, length, get_or, refl, sym, ap, ◌∙◌, subst, arith, ⊎_elim}
 use Rattle.std.specs.List.{AllByRecursion}
 use Rattle.std.proofs.lemmas.Bool.{cases_lt}
 use Rattle.std.proofs.lemmas.List.{get_or_past, length-map}
@@ -29,18 +27,6 @@ slot-target c slot =
     ⊎_elim
     (λ l. ap (λ (p : Pointer). p.target) (get_or-pointers_from c.bits 0 c.slots slot null l))
     (λ l. ap (λ (p : Pointer). p.target) (get_or_past (pointers_from c.bits 0 c.slots) slot null (subst (λ (n : ℕ). n ≤ slot) (sym (length-pointers_from c.bits 0 c.slots)) l)) ∙ sym (get_or_past c.slots slot 0 l))
-    (cases_lt slot (length c.slots))
-
--- a null slot has the null pointer
-pub slot-null : {slots : ℕ} (id : ℕ) (c : Cell slots) (slot : ℕ) → IsCell id c → slot < slots → get_or c.slots slot 0 ≡ 0 → pointer_in (cell_of c) slot ≡ null
-slot-null id c slot rules within none =
-    ⊎_elim
-    (λ l.
-    let bit : bit_at c.bits (0 + slot) ≡ 0 = ap (bit_at c.bits) (zero-add slot) ∙ rules.null_bit slot within none in
-    get_or-pointers_from c.bits 0 c.slots slot null l
-    ∙ ap (λ (t : ℕ). let p : Pointer = record { target = t; bit = bit_at c.bits (0 + slot) == 1 } in p) none
-    ∙ ap (λ (b : ℕ). let p : Pointer = record { target = 0; bit = b == 1 } in p) bit)
-    (λ l. get_or_past (pointers_from c.bits 0 c.slots) slot null (subst (λ (n : ℕ). n ≤ slot) (sym (length-pointers_from c.bits 0 c.slots)) l))
     (cases_lt slot (length c.slots))
 
 -- where the cell is the store's, its slot holds the id of the store's pointer

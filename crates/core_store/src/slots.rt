@@ -1,7 +1,7 @@
 //! The change of a slot, with the strengths of what it held and holds and the counts of its targets.
 
 ghost use Rattle.std.specs.Prelude.{◌≡◌, ◌≢◌, ℕ, ◌<◌, ◌==◌, List, [], ◌∷◌, ◌&&◌, true, false, not, length, Some};
-ghost use Rattle.cell_model.specs.Cells.{Cell as StoredCell, null, same, cell_at, pointer_at, is_live, edit, relink, gains, loses, relinked, other_strength, pays};
+ghost use Rattle.cell_model.specs.Cells.{Cell as StoredCell, same, cell_at, pointer_at, is_live, edit, relink, gains, loses, relinked, other_strength, pays};
 ghost use Rattle.cell_page.specs.Format.{IsSlotCount, IsCell};
 ghost use Rattle.cell_page.specs.Stored.{cell_of};
 ghost use Rattle.core_store.specs.Frames.{pages_held, Agree};
@@ -122,35 +122,20 @@ fn turn<const SLOTS: usize>(held: &mut Three<SLOTS>, zeros: &mut Vec<bool>, targ
     put_back(held, zeros, cell);
 }
 
-/// Makes the slot null, which holds this pointer, and tells whether that was a strong one.
-fn cut<const SLOTS: usize>(
-    held: &mut Three<SLOTS>,
-    zeros: &mut Vec<bool>,
-    id: u32,
-    slot: u8,
-    from: Pointer,
-) -> bool
+/// What the slot held counts its pointer no more. Tells whether that was a strong one.
+fn let_go<const SLOTS: usize>(held: &mut Three<SLOTS>, zeros: &mut Vec<bool>, from: Pointer) -> bool
     requires size { IsSlotCount SLOTS }
-    requires ready { IsReadyToChange held.old zeros.old.items id slot 0 }
-    requires from { (cells : List StoredCell) → Agree cells held.old → pointer_at cells id slot ≡ pointer_of from }
-    requires null { from.target ≡ 0 → from.bit ≡ false }
-    ensures strong { (cells : List StoredCell) → Agree cells held.old → result ≡ is_counted_strong cells (pointer_at cells id slot) }
-    ensures changed { (cells : List StoredCell) → Agree cells held.old → IsChanged cells (relinked cells id slot null) held.old held.new zeros.old.items zeros.new.items }
+    requires agrees { (cells : List StoredCell) × Agree cells held.old }
+    requires ready { from.target ≢ 0 → IsReadyToLose held.old zeros.old.items from.target from.bit }
+    ensures strong { (cells : List StoredCell) → Agree cells held.old → result ≡ is_counted_strong cells (pointer_of from) }
+    ensures changed { (cells : List StoredCell) → Agree cells held.old → IsChanged cells (edit cells from.target (loses from.bit)) held.old held.new zeros.old.items zeros.new.items }
     ensures pages { pages_held held.new ≡ pages_held held.old }
     ensures marks { length zeros.new.items ≡ length zeros.old.items }
 {
-    if from.target == 0 {
-        return false;
-    }
-    let null = Pointer {
-        target: 0,
-        bit: false,
-    };
-    relink(held, id, slot, null);
-    lower(held, zeros, from.target, from.bit)
+    from.target != 0 && lower(held, zeros, from.target, from.bit)
 }
 
-/// Lays a pointer in the null slot.
+/// Lays a pointer in the slot, which its target counts.
 fn lay<const SLOTS: usize>(
     held: &mut Three<SLOTS>,
     zeros: &mut Vec<bool>,
@@ -159,44 +144,48 @@ fn lay<const SLOTS: usize>(
     to: Pointer,
 )
     requires size { IsSlotCount SLOTS }
-    requires ready { IsReadyToChange held.old zeros.old.items id slot to.target }
-    requires some { to.target ≢ 0 }
-    ensures changed { (cells : List StoredCell) → Agree cells held.old → pointer_at cells id slot ≡ null → IsChanged cells (relinked cells id slot (pointer_of to)) held.old held.new zeros.old.items zeros.new.items }
+    requires ready { IsReadyToEdit held.old id }
+    requires within { slot < SLOTS }
+    requires null { to.target ≡ 0 → to.bit ≡ false }
+    requires room { to.target ≢ 0 → IsReadyToGain held.old zeros.old.items to.target to.bit }
+    ensures changed { (cells : List StoredCell) → Agree cells held.old → IsChanged cells (edit (edit cells id (relink slot (pointer_of to))) to.target (gains to.bit)) held.old held.new zeros.old.items zeros.new.items }
     ensures pages { pages_held held.new ≡ pages_held held.old }
 {
     relink(held, id, slot, to);
-    raise(held, zeros, to.target, to.bit);
+    if to.target != 0 {
+        raise(held, zeros, to.target, to.bit);
+    }
 }
 
-/// Lays a pointer of this strength in the null slot, and gives its bit.
-fn put<const SLOTS: usize>(
-    held: &mut Three<SLOTS>,
-    zeros: &mut Vec<bool>,
-    id: u32,
-    slot: u8,
-    target: u32,
-    strong: bool,
-) -> bool
-    requires size { IsSlotCount SLOTS }
-    requires ready { IsReadyToChange held.old zeros.old.items id slot target }
-    ensures bit { (cells : List StoredCell) → Agree cells held.old → result ≡ bit_for cells target strong }
-    ensures changed { (cells : List StoredCell) → Agree cells held.old → pointer_at cells id slot ≡ null → IsChanged cells (relinked cells id slot (record { target = target; bit = result })) held.old held.new zeros.old.items zeros.new.items }
-    ensures pages { pages_held held.new ≡ pages_held held.old }
+/// A new pointer from the object to the target, and whether it is strong by the rule of new pointers.
+fn new_pointer<const SLOTS: usize>(held: &Three<SLOTS>, id: u32, target: u32) -> (Pointer, bool)
+    requires agrees { (cells : List StoredCell) × Agree cells held.now }
+    requires ready { target ≢ 0 → IsReadyToEdit held.now target }
+    ensures target { result.0.target ≡ target }
+    ensures bit { (cells : List StoredCell) → Agree cells held.now → result.0.bit ≡ bit_for cells target result.1 }
+    ensures strong { (cells : List StoredCell) → Agree cells held.now → result.1 ≡ is_laid_strong cells id target }
+    ensures null { target ≡ 0 → result.0.bit ≡ false }
 {
     if target == 0 {
-        return false;
+        return (Pointer { target, bit: false }, false);
     }
-    let bit = held.cell(target).bit == strong;
-    lay(held, zeros, id, slot, Pointer { target, bit });
-    bit
+    let cell = held.cell(target);
+    let strong = id != target && takes_strong(cell);
+    let bit = cell.bit == strong;
+    (Pointer { target, bit }, strong)
 }
 
-/// Whether a new pointer from the object to the target is strong.
-fn is_to_be_strong<const SLOTS: usize>(held: &Three<SLOTS>, id: u32, target: u32) -> bool
+/// A new weak pointer to the target.
+fn weak_pointer<const SLOTS: usize>(held: &Three<SLOTS>, target: u32) -> Pointer
     requires ready { target ≢ 0 → IsReadyToEdit held.now target }
-    ensures { (cells : List StoredCell) → Agree cells held.now → result ≡ is_laid_strong cells id target }
+    ensures target { result.target ≡ target }
+    ensures bit { (cells : List StoredCell) → Agree cells held.now → result.bit ≡ bit_for cells target false }
+    ensures null { target ≡ 0 → result.bit ≡ false }
 {
-    target != 0 && id != target && takes_strong(held.cell(target))
+    Pointer {
+        target,
+        bit: target != 0 && !held.cell(target).bit,
+    }
 }
 
 /// Gives the slot's pointer, which isn't null, its other strength.
@@ -236,13 +225,13 @@ pub(crate) fn store<const SLOTS: usize>(
     ensures pages { pages_held held.new ≡ pages_held held.old }
 {
     let from = held_pointer(held, id, slot);
-    let old_strong = cut(held, zeros, id, slot, from);
-    let new_strong = is_to_be_strong(held, id, target);
-    let new_bit = put(held, zeros, id, slot, target, new_strong);
+    let old_strong = let_go(held, zeros, from);
+    let (to, new_strong) = new_pointer(held, id, target);
+    lay(held, zeros, id, slot, to);
     SlotChange {
         old_target: from.target,
         old_strong,
-        new_bit,
+        new_bit: to.bit,
         new_strong,
     }
 }
@@ -261,12 +250,13 @@ pub(crate) fn restore<const SLOTS: usize>(
     ensures pages { pages_held held.new ≡ pages_held held.old }
 {
     let from = held_pointer(held, id, slot);
-    let old_strong = cut(held, zeros, id, slot, from);
-    let new_bit = put(held, zeros, id, slot, target, false);
+    let old_strong = let_go(held, zeros, from);
+    let to = weak_pointer(held, target);
+    lay(held, zeros, id, slot, to);
     SlotChange {
         old_target: from.target,
         old_strong,
-        new_bit,
+        new_bit: to.bit,
         new_strong: false,
     }
 }

@@ -109,7 +109,7 @@ AreOf-with_held (h ∷ hs) cells once within =
 
 -- ---- a slot made null and then filled
 
-relink-loses : (slot : ℕ) (p : Pointer) (bit : Bool) (c : Cell) → relink slot p (loses bit c) ≡ loses bit (relink slot p c)
+pub relink-loses : (slot : ℕ) (p : Pointer) (bit : Bool) (c : Cell) → relink slot p (loses bit c) ≡ loses bit (relink slot p c)
 relink-loses slot p bit c = elim (same c.bit bit) as (λ (b : Bool). relink slot p (cond b (record c { strong = c.strong - 1 }) (record c { weak = c.weak - 1 })) ≡ (let d : Cell = relink slot p c in cond b (record d { strong = d.strong - 1 }) (record d { weak = d.weak - 1 }))) [ true ↦ refl | false ↦ refl ]
 
 relink-relink : (slot : ℕ) (p q : Pointer) (c : Cell) → relink slot q (relink slot p c) ≡ relink slot q c

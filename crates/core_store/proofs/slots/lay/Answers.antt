@@ -1,30 +1,30 @@
-use Rattle.std.proofs.Common.{rules, ◌≤◌, refl, arith, ⊎_elim}
-use Rattle.cell_model.specs.Cells.{edit, relink}
-use Rattle.core_store.specs.Slots.{pointer_of}
-use Rattle.core_store.proofs.SlotEdits.{object-ready, target-gains, changed-relink, lay-changed}
+use Rattle.std.proofs.Common.{rules, ◌≤◌, List, sym, subst, inl, arith, ⊎_elim}
+use Rattle.cell_model.specs.Cells.{Cell as StoredCell, edit, relink, gains}
+use Rattle.cell_model.proofs.EditLaws.{edit-none}
+use Rattle.core_store.specs.Slots.{IsChanged, pointer_of}
+use Rattle.core_store.proofs.SlotEdits.{gains-still, changed-relink, lay-changed}
 use Rattle.core_store.proofs.slots.lay.Goals as goal
-
-pub relink-requires : goal.relink-requires
-relink-requires g c =
-    let r = c.requires.ready in
-    let small : g.row.SLOTS ≤ 14 = ⊎_elim (λ six. omega arith) (λ fourteen. omega arith) c.requires.size in
-    let ready = object-ready c.args.held.now c.args.zeros.now.items c.args.id c.args.slot c.args.to.target r in
-    (search rules, (c.requires.size, (ready, (r.can.within, λ none. absurd (c.requires.some none)))))
 
 pub raise-requires : goal.raise-requires
 raise-requires g c =
-    let r = c.requires.ready in
+    let r = c.requires.room c.if-to-ne0.true in
     let small : g.row.SLOTS ≤ 14 = ⊎_elim (λ six. omega arith) (λ fourteen. omega arith) c.requires.size in
-    let gains = target-gains c.args.held.now c.args.zeros.now.items c.args.id c.args.slot c.args.to.target r (pointer_of c.args.to) c.relink.new.held (c.relink.ensures.stored r.cells r.agree) c.relink.ensures.pages in
-    (search rules, (c.requires.size, gains c.requires.size c.requires.some c.args.to.bit))
-
-pub returns-clause-changed : goal.returns-clause-changed
-returns-clause-changed g c cells agree none =
-    let r = c.requires.ready in
     let p = pointer_of c.args.to in
-    let held = c.args.held.now in
-    let zeros = c.args.zeros.now.items in
-    let ready = object-ready held zeros c.args.id c.args.slot c.args.to.target r in
+    let gains = gains-still c.args.held.now c.relink.new.held c.args.zeros.now.items p.target p.bit c.args.id c.args.slot p r (c.relink.ensures.stored r.cells r.agree) c.relink.ensures.pages in
+    (search rules, (c.requires.size, gains))
+
+pub returns-then-to-ne0-clause-changed : goal.returns-then-to-ne0-clause-changed
+returns-then-to-ne0-clause-changed g c cells agree =
+    let p = pointer_of c.args.to in
     let laid = c.relink.ensures.stored cells agree in
-    lay-changed cells c.args.id c.args.slot _ none held c.relink.new.held c.raise.new.held zeros c.raise.new.zeros.items c.relink.ensures.pages p refl
-    (changed-relink cells held c.relink.new.held zeros c.args.id c.args.slot p ready.page laid) (c.raise.ensures.changed (edit cells c.args.id (relink c.args.slot p)) laid)
+    let relinked = changed-relink cells c.args.held.now c.relink.new.held c.args.zeros.now.items c.args.id c.args.slot p c.requires.ready.page laid in
+    lay-changed cells c.args.id c.args.slot p c.args.held.now c.relink.new.held c.raise.new.held c.args.zeros.now.items c.raise.new.zeros.items c.relink.ensures.pages relinked
+    (c.raise.ensures.changed (edit cells c.args.id (relink c.args.slot p)) laid)
+
+pub returns-else-to-ne0-clause-changed : goal.returns-else-to-ne0-clause-changed
+returns-else-to-ne0-clause-changed g c cells agree =
+    let p = pointer_of c.args.to in
+    let laid = c.relink.ensures.stored cells agree in
+    let one = edit cells c.args.id (relink c.args.slot p) in
+    subst (λ (cs : List StoredCell). IsChanged cells cs c.args.held.now c.relink.new.held c.args.zeros.now.items c.args.zeros.now.items) (sym (edit-none one p.target (gains p.bit) (inl c.if-to-ne0.false)))
+    (changed-relink cells c.args.held.now c.relink.new.held c.args.zeros.now.items c.args.id c.args.slot p c.requires.ready.page laid)

@@ -1,7 +1,9 @@
-use Rattle.std.proofs.Common.{rules, ◌≤◌, sym, ap, ◌∙◌, arith, ⊎_elim, refl, false}
-use Rattle.cell_model.specs.Cells.{Pointer, null, relinked}
+use Rattle.std.proofs.Common.{rules, ℕ, ◌≢◌, ◌≤◌, sym, ap, ◌∙◌, subst, arith, ⊎_elim, false, refl}
+use Rattle.cell_model.specs.Cells.{Pointer, edit, loses}
+use Rattle.core_store.specs.Changes.{is_counted_strong}
+use Rattle.core_store.specs.Slots.{IsReadyToLose, IsReadyToGain, pointer_of}
 use Rattle.core_store.proofs.SlotStart.{same-change}
-use Rattle.core_store.proofs.SlotEdits.{object-ready, cut-ready, fill-ready, cut-null, cut-bit, filled-changed}
+use Rattle.core_store.proofs.SlotEdits.{object-ready, from-loses, object-then, target-then, target-gains, gone-bit, filled-changed}
 use Rattle.core_store.proofs.slots.restore.Goals as goal
 
 pub held_pointer-from-requires : goal.held_pointer-from-requires
@@ -10,34 +12,52 @@ held_pointer-from-requires g c =
     let small : g.row.SLOTS ≤ 14 = ⊎_elim (λ six. omega arith) (λ fourteen. omega arith) c.requires.size in
     (search rules, (c.requires.size, (object-ready c.args.held.now c.args.zeros.now.items c.args.id c.args.slot c.args.target r, r.can.within)))
 
-pub cut-old_strong-requires : goal.cut-old_strong-requires
-cut-old_strong-requires g c =
+pub let_go-old_strong-requires : goal.let_go-old_strong-requires
+let_go-old_strong-requires g c =
     let r = c.requires.ready in
     let small : g.row.SLOTS ≤ 14 = ⊎_elim (λ six. omega arith) (λ fourteen. omega arith) c.requires.size in
-    let ready = cut-ready c.args.held.now c.args.zeros.now.items c.args.id c.args.slot c.args.target r in
-    (search rules, (c.requires.size, (ready, (c.held_pointer-from.ensures.stored, c.held_pointer-from.ensures.null))))
+    let is = c.held_pointer-from.ensures.stored r.cells r.agree in
+    let loses = from-loses c.args.held.now c.args.zeros.now.items c.args.id c.args.slot c.args.target r in
+    (search rules, (c.requires.size, ((r.cells, r.agree), λ some. subst (λ (p : Pointer). IsReadyToLose c.args.held.now c.args.zeros.now.items p.target p.bit) is (loses (subst (λ (p : Pointer). p.target ≢ 0) (sym is) some)))))
 
-pub put-new_bit-requires : goal.put-new_bit-requires
-put-new_bit-requires g c =
+pub weak_pointer-to-requires : goal.weak_pointer-to-requires
+weak_pointer-to-requires g c =
     let r = c.requires.ready in
     let small : g.row.SLOTS ≤ 14 = ⊎_elim (λ six. omega arith) (λ fourteen. omega arith) c.requires.size in
-    let cut = c.cut-old_strong in
-    let ready = fill-ready c.args.held.now c.args.zeros.now.items c.args.id c.args.slot c.args.target r cut.new.held cut.new.zeros.items (cut.ensures.changed r.cells r.agree) cut.ensures.pages in
-    (search rules, (c.requires.size, ready))
+    let gone = c.let_go-old_strong in
+    let changed = gone.ensures.changed r.cells r.agree in
+    let ready = target-then c.args.held.now c.args.zeros.now.items c.args.id c.args.slot c.args.target r (pointer_of c.held_pointer-from.result) gone.new.held gone.new.zeros.items changed gone.ensures.pages gone.ensures.marks in
+    (search rules, ready)
+
+pub lay-requires : goal.lay-requires
+lay-requires g c =
+    let r = c.requires.ready in
+    let small : g.row.SLOTS ≤ 14 = ⊎_elim (λ six. omega arith) (λ fourteen. omega arith) c.requires.size in
+    let held = c.args.held.now in
+    let zeros = c.args.zeros.now.items in
+    let gone = c.let_go-old_strong in
+    let from = pointer_of c.held_pointer-from.result in
+    let changed = gone.ensures.changed r.cells r.agree in
+    let object = object-then held zeros c.args.id c.args.slot c.args.target r from gone.new.held gone.new.zeros.items changed gone.ensures.pages gone.ensures.marks in
+    let gains = target-gains held zeros c.args.id c.args.slot c.args.target r from gone.new.held gone.new.zeros.items changed gone.ensures.pages gone.ensures.marks c.requires.size in
+    let new = c.weak_pointer-to in
+    let target = new.ensures.target in
+    (search rules, (c.requires.size, (object, (r.can.within, (λ none. new.ensures.null (sym target ∙ none), λ some. subst (λ (t : ℕ). IsReadyToGain gone.new.held gone.new.zeros.items t (new.result).bit) (sym target) (gains (λ none. some (target ∙ none)) (new.result).bit))))))
 
 pub returns-clause-changes : goal.returns-clause-changes
 returns-clause-changes g c ids all agree can =
     let id = c.args.id in
     let slot = c.args.slot in
     let target = c.args.target in
-    let held = c.args.held.now in
-    let zeros = c.args.zeros.now.items in
-    let cut = c.cut-old_strong in
-    let put = c.put-new_bit in
-    let first = cut.ensures.changed all agree in
-    let old = ap (λ (p : Pointer). p.target) (sym (c.held_pointer-from.ensures.stored all agree)) in
-    let bit = put.ensures.bit (relinked all id slot null) first.agree ∙ cut-bit all id slot target false in
-    let second = put.ensures.changed (relinked all id slot null) first.agree (cut-null ids all id slot target can) in (
-      same-change _ _ _ _ _ _ _ _ old (cut.ensures.strong all agree) bit refl,
-      filled-changed ids all id slot target can _ held cut.new.held put.new.held zeros cut.new.zeros.items put.new.zeros.items first second cut.ensures.pages,
+    let gone = c.let_go-old_strong in
+    let from = pointer_of c.held_pointer-from.result in
+    let is = c.held_pointer-from.ensures.stored all agree in
+    let first = gone.ensures.changed all agree in
+    let between = edit all from.target (loses from.bit) in
+    let new = c.weak_pointer-to in
+    let second = c.lay.ensures.changed between first.agree in
+    let to = pointer_of new.result in
+    let bit = new.ensures.bit between first.agree ∙ gone-bit all id slot from is target false in (
+      same-change _ _ _ _ _ _ _ _ (ap (λ (p : Pointer). p.target) (sym is)) (gone.ensures.strong all agree ∙ ap (is_counted_strong all) (sym is)) bit refl,
+      filled-changed all id slot from is to target c.args.held.now gone.new.held c.lay.new.held c.args.zeros.now.items gone.new.zeros.items c.lay.new.zeros.items new.ensures.target first second gone.ensures.pages,
     )
