@@ -13,7 +13,7 @@ ghost use Rattle.log_replay.specs.Steps.{IsPart, IsStep, CanPay, CanBeFlipped, C
 
 use cell_page::{Cell, ROOT};
 use log_record::{CellRecord, PAYLOAD_PLACE};
-use strength_counts::Cells;
+use strength_counts::flip_cell;
 
 /// A slot of the object held one target and gets another pointer.
 #[derive(Drop)]
@@ -249,12 +249,9 @@ fn with_flip<const SLOTS: usize>(cell: &Cell<SLOTS>) -> Cell<SLOTS>
     ensures same { result.id ≡ cell.now.id }
     ensures rules { IsCell cell.now.id result }
 {
-    let mut cells = Cells::new(*cell);
-    cells.flip(cell.id);
-    match cells.take() {
-        Some(next) => next,
-        None => *cell,
-    }
+    let mut next = *cell;
+    flip_cell(&mut next);
+    next
 }
 
 /// The target bit of this object, to which no strong pointer leads, is flipped.
