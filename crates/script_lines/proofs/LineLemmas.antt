@@ -1,7 +1,8 @@
 -- The first line of a text.
-use Rattle.std.proofs.Common.{◌≡◌, ◌≢◌, ℕ, suc, ◌+◌, ◌-◌, ◌<◌, ◌≤◌, Bool, true, false, ◌&&◌, ◌==◌, cond, List, [], ◌∷◌, ◌++◌, Option, Some, None, MatchOption, take, length, append_assoc, refl, sym, ap, ◌∙◌, ⊎_elim, arith, slice_index}
-use Rattle.std.specs.List.{onto_first, position, position_from}
-use Rattle.std.proofs.lemmas.List.Sums.{sum_by-cons, sum_by-append}
+use Rattle.std.proofs.Common.{◌≡◌, ◌≢◌, ℕ, suc, ◌+◌, ◌-◌, ◌<◌, ◌≤◌, Bool, true, false, ◌&&◌, ◌==◌, cond, List, [], ◌∷◌, ◌++◌, Option, Some, None, MatchOption, take, length, append_assoc, refl, sym, ap, ◌∙◌, ⊎_elim, arith, slice_index, get_or}
+use Rattle.std.specs.List.{onto_first, position, position_from, position_or_len}
+use Rattle.memchr.specs.Find.{IsFirstByte, Passes, is_byte}
+use Rattle.std.proofs.lemmas.List.Sums.{sum_by-cons, sum_by-append, position_or_len_is}
 use Rattle.std.proofs.lemmas.Bool.{cases_eq}
 use Rattle.std.proofs.lemmas.Bool.Decides.{nat_tests}
 use Rattle.std.proofs.lemmas.Iterator.Adapters.{position_from-zero}
@@ -51,6 +52,23 @@ no_place bs e = rw (← e) at (place bs)
 
 pub at_place : (bs : List ℕ) (i : ℕ) → Some i ≡ position (λ b. b == line_feed) bs → (i < length bs) × (line_feeds (take i bs) ≡ 0) × (slice_index bs i ≡ line_feed)
 at_place bs i e = rw (← e) at (place bs)
+
+-- where a search finds the first line feed
+module _ (bs : List ℕ) where
+  not_line_feed : (k : ℕ) → ¬ Passes (is_byte line_feed) bs k → (get_or bs k 0 == line_feed) ≡ false
+  not_line_feed k n = other (get_or bs k 0 == line_feed) n
+    where
+      other : (b : Bool) → ¬ (b ≡ true) → b ≡ false
+      other true n = absurd (n refl)
+      other false n = refl
+
+  pub first_place : (r : Option ℕ) → IsFirstByte (is_byte line_feed) bs r → r ≡ position (λ b. b == line_feed) bs
+  first_place None h =
+      let n : position_or_len (λ b. b == line_feed) bs ≡ length bs = position_or_len_is (λ b. b == line_feed) bs (length bs) 0 (omega arith) (λ k l. not_line_feed k (h k (omega arith) l)) (λ l. absurd (omega (arith, l))) in
+      rw n (grind (arith, nat_tests))
+  first_place (Some k) h =
+      let n : position_or_len (λ b. b == line_feed) bs ≡ k = position_or_len_is (λ b. b == line_feed) bs k 0 (omega (arith, h.0.high)) (λ m l. not_line_feed m (h.0.before m (omega arith) l)) (λ l. h.1) in
+      rw n (grind (arith, nat_tests, h.0.high))
 
 -- ---- lines
 

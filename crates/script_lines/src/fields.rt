@@ -34,8 +34,7 @@ fn blank_start(bytes: &[u8]) -> Option<usize>
     bytes.iter().position(|b| is_blank(*b))
 }
 
-/// The first field, and the bytes behind it.
-#[inline(always)]
+/// The first field, and bytes behind it that hold the other fields.
 pub(crate) fn next_field(bytes: &[u8]) -> Option<(&[u8], &[u8])>
     ensures { MatchOption result (fields_of bytes.now ≡ [])
         (λ p. fields_of bytes.now ≡ p.0.now ∷ fields_of p.1.now) }
@@ -44,25 +43,42 @@ pub(crate) fn next_field(bytes: &[u8]) -> Option<(&[u8], &[u8])>
         return None;
     };
     let field = &bytes[start..];
-    let end = blank_start(field).unwrap_or(field.len());
-    Some(field.split_at(end))
+    match blank_start(field) {
+        Some(end) => Some((&field[..end], &field[end + 1..])),
+        None => Some((field, &field[field.len()..])),
+    }
+}
+
+/// The same, quick where the field is one byte and stands in front, before one space or the end.
+#[inline(always)]
+pub(crate) fn next_short_field(bytes: &[u8]) -> Option<(&[u8], &[u8])>
+    ensures { MatchOption result (fields_of bytes.now ≡ [])
+        (λ p. fields_of bytes.now ≡ p.0.now ∷ fields_of p.1.now) }
+{
+    match bytes {
+        [byte, b' ', rest @ ..] if !is_blank(*byte) => Some((&bytes[..1], rest)),
+        [byte] if !is_blank(*byte) => Some((bytes, &bytes[1..])),
+        [] => None,
+        _ => next_field(bytes),
+    }
 }
 
 /// All fields of the bytes, where there are at most three.
+#[inline(always)]
 pub(crate) fn operands_of(bytes: &[u8]) -> Option<Operands<'_>>
     ensures { MatchOption result (3 < length (fields_of bytes.now))
         (λ o. fields_of bytes.now ≡ listed o) }
 {
-    let Some((first, rest)) = next_field(bytes) else {
+    let Some((first, rest)) = next_short_field(bytes) else {
         return Some(Operands::Nil);
     };
-    let Some((second, rest)) = next_field(rest) else {
+    let Some((second, rest)) = next_short_field(rest) else {
         return Some(Operands::One(first));
     };
-    let Some((third, rest)) = next_field(rest) else {
+    let Some((third, rest)) = next_short_field(rest) else {
         return Some(Operands::Two(first, second));
     };
-    match next_field(rest) {
+    match next_short_field(rest) {
         None => Some(Operands::Three(first, second, third)),
         Some(_) => None,
     }

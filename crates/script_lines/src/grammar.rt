@@ -1,9 +1,11 @@
 //! What the lines of a script ask.
-ghost use Rattle.std.specs.Prelude.{◌≡◌, ◌↔◌, ◌*◌, ◌<◌, IfSome, MatchOption, Option, Some, true};
+ghost use Rattle.std.specs.Prelude.{◌≡◌, ◌↔◌, ◌*◌, ◌<◌, ◌∷◌, IfSome, MatchOption, Option, Some, None, false};
+ghost use Rattle.script_lines.specs.Fields.{fields_of};
+ghost use Rattle.script_lines.specs.Numbers.{client_of};
 ghost use Rattle.script_lines.specs.Operands.{listed};
-ghost use Rattle.script_lines.specs.Grammar.{request_of, is_collector, collector_line, is_cleaner, clean_line, is_crash, crash_line, lone_line, meaning_of, IsOfStore, IsAccepted, IsRefused, IsClient, IsLineInRange};
+ghost use Rattle.script_lines.specs.Grammar.{request_of, is_collector, collector_line, is_cleaner, clean_line, is_crash, crash_line, lone_line, line_of_party, is_comment, meaning_of, IsOfStore, IsAccepted, IsRefused, IsClient, IsLineInRange};
 
-use crate::fields::{Operands, next_field, operands_of};
+use crate::fields::{Operands, next_field, next_short_field, operands_of};
 use crate::numbers::{client_of, page_of, payload_of, pick_of, register_of, slot_of, source_of};
 use crate::verb::{Verb, verb_of};
 use plain_model::Call;
@@ -33,6 +35,14 @@ pub enum Line {
     Crash { pick: u32 },
 }
 
+/// The line that asks this call of the client.
+#[inline(always)]
+fn ask(client: u8, call: Call) -> Option<Line>
+    ensures { result ≡ Some (Line.Ask client call) }
+{
+    Some(Line::Ask { client, call })
+}
+
 /// What a client's line asks, by its verb and the fields behind it.
 #[inline(always)]
 fn request_of(client: u8, verb: Verb, operands: Operands<'_>) -> Option<Line>
@@ -40,32 +50,46 @@ fn request_of(client: u8, verb: Verb, operands: Operands<'_>) -> Option<Line>
     ensures value { result ≡ request_of client verb (listed operands.entry) }
     ensures in_range { IfSome result IsLineInRange }
 {
-    let call = match (verb, operands) {
-        (Verb::Begin, Operands::Nil) => Call::Begin,
-        (Verb::Read, Operands::Three(r, slot, into)) => Call::Read {
-            r: register_of(r)?,
-            slot: slot_of(slot)?,
-            into: register_of(into)?,
-        },
-        (Verb::Make, Operands::One(into)) => Call::Make {
-            into: register_of(into)?,
-        },
-        (Verb::Store, Operands::Three(r, slot, from)) => Call::Store {
-            r: register_of(r)?,
-            slot: slot_of(slot)?,
-            from: source_of(from)?,
-        },
-        (Verb::Get, Operands::One(r)) => Call::GetPay { r: register_of(r)? },
-        (Verb::Set, Operands::Two(r, value)) => Call::SetPay {
-            r: register_of(r)?,
-            value: payload_of(value)?,
-        },
-        (Verb::Commit, Operands::Nil) => Call::Commit,
-        (Verb::Abort, Operands::Nil) => return Some(Line::Abort { client }),
-        (Verb::Undo, Operands::Nil) => return Some(Line::Undo { client }),
-        _ => return None,
-    };
-    Some(Line::Ask { client, call })
+    match (verb, operands) {
+        (Verb::Begin, Operands::Nil) => ask(client, Call::Begin),
+        (Verb::Read, Operands::Three(r, slot, into)) => {
+            let r = register_of(r)?;
+            let slot = slot_of(slot)?;
+            let into = register_of(into)?;
+            ask(client, Call::Read { r, slot, into })
+        }
+        (Verb::Make, Operands::One(into)) => {
+            let into = register_of(into)?;
+            ask(client, Call::Make { into })
+        }
+        (Verb::Store, Operands::Three(r, slot, from)) => {
+            let r = register_of(r)?;
+            let slot = slot_of(slot)?;
+            let from = source_of(from)?;
+            ask(client, Call::Store { r, slot, from })
+        }
+        (Verb::Get, Operands::One(r)) => {
+            let r = register_of(r)?;
+            ask(client, Call::GetPay { r })
+        }
+        (Verb::Set, Operands::Two(r, value)) => {
+            let r = register_of(r)?;
+            let value = payload_of(value)?;
+            ask(client, Call::SetPay { r, value })
+        }
+        (Verb::Commit, Operands::Nil) => ask(client, Call::Commit),
+        (Verb::Abort, Operands::Nil) => Some(Line::Abort { client }),
+        (Verb::Undo, Operands::Nil) => Some(Line::Undo { client }),
+        _ => None,
+    }
+}
+
+/// Whether the first field begins a comment.
+#[inline(always)]
+fn is_comment(field: &[u8]) -> bool
+    ensures { result ≡ is_comment field.now }
+{
+    matches!(field, [b'#', ..])
 }
 
 /// Whether the first field names the collector.
@@ -134,30 +158,43 @@ fn lone_line(word: &[u8]) -> Option<Line>
     }
 }
 
+/// What a line asks of the store, by its first two fields and the bytes behind them.
+fn line_of_store(party: &[u8], word: &[u8], rest: &[u8]) -> Option<Line>
+    requires { client_of party.now ≡ None }
+    ensures value { result ≡ line_of_party party.now (word.now ∷ fields_of rest.now) }
+    ensures in_range { IfSome result IsLineInRange }
+{
+    let operands = operands_of(rest)?;
+    if is_collector(party) {
+        return collector_line(word, operands);
+    }
+    if is_cleaner(party) {
+        return clean_line(word, operands);
+    }
+    if is_crash(party) {
+        return crash_line(word, operands);
+    }
+    None
+}
+
 /// What a line asks, where it is in the grammar.
 fn meaning_of(line: &[u8]) -> Option<Line>
     ensures value { result ≡ meaning_of line.now }
     ensures in_range { IfSome result IsLineInRange }
 {
-    let Some((party, rest)) = next_field(line) else {
+    let Some((party, rest)) = next_short_field(line) else {
         return Some(Line::Nothing);
     };
-    if party.starts_with(b"#") {
+    if is_comment(party) {
         return Some(Line::Nothing);
     }
     let Some((verb, rest)) = next_field(rest) else {
         return lone_line(party);
     };
-    if is_collector(party) {
-        return collector_line(verb, operands_of(rest)?);
+    if let Some(client) = client_of(party) {
+        return request_of(client, verb_of(verb)?, operands_of(rest)?);
     }
-    if is_cleaner(party) {
-        return clean_line(verb, operands_of(rest)?);
-    }
-    if is_crash(party) {
-        return crash_line(verb, operands_of(rest)?);
-    }
-    request_of(client_of(party)?, verb_of(verb)?, operands_of(rest)?)
+    line_of_store(party, verb, rest)
 }
 
 /// The most bytes that a line may have, without its end.
@@ -166,20 +203,14 @@ const MAX_LINE: usize = 128;
 /// The most lines that a script may have.
 const MAX_LINES: u32 = 65_536;
 
-/// Whether a store with so many ids, eight a page, has the page that the line names, if it names one.
-fn is_of_store(ids: u32, line: Line) -> bool
-    ensures { (result ≡ true) ↔ IsOfStore ids line }
+/// Whether the line names a page, and a store with so many ids, eight a page, doesn't have it.
+#[inline(always)]
+fn is_beyond_store(ids: u32, asked: &Option<Line>) -> bool
+    ensures { (result ≡ false) ↔ IfSome asked.now (λ line. IsOfStore ids line) }
 {
-    match line {
-        Line::Clean { page } => 8 * u32::from(page) < ids,
-        Line::Nothing => true,
-        Line::Ask { .. } => true,
-        Line::Abort { .. } => true,
-        Line::Undo { .. } => true,
-        Line::CollectStep => true,
-        Line::CollectAll => true,
-        Line::Turn => true,
-        Line::Crash { .. } => true,
+    match asked {
+        Some(Line::Clean { page }) => 8 * u32::from(*page) >= ids,
+        _ => false,
     }
 }
 
@@ -194,9 +225,9 @@ pub fn accepted(ids: u32, number: u32, line: &[u8]) -> Option<Line>
     if line.len() > MAX_LINE || number > MAX_LINES {
         return None;
     }
-    let asked = meaning_of(line)?;
-    if !is_of_store(ids, asked) {
+    let asked = meaning_of(line);
+    if is_beyond_store(ids, &asked) {
         return None;
     }
-    Some(asked)
+    asked
 }

@@ -5,6 +5,7 @@ ghost use Rattle.disk_model.specs.Causes.{HasCause};
 ghost use Rattle.script_lines.specs.Lines.{line_feed, line_feeds};
 ghost use Rattle.script_lines.specs.Reading.{Finds, IsFirstLineFeed, without_return};
 
+use memchr::memchr;
 use outside_io::{ReadFailed, Source};
 
 /// How many bytes the buffer has. A line that fills it is longer than any line may be.
@@ -27,7 +28,7 @@ pub enum Found {
 fn first_line_feed(bytes: &[u8]) -> Option<usize>
     ensures { result ≡ position (λ b. b == line_feed) bytes.now }
 {
-    bytes.iter().position(|b| *b == b'\n')
+    memchr(b'\n', bytes)
 }
 
 /// How long a line is without a carriage return at its end.

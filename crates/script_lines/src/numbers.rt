@@ -35,7 +35,6 @@ pub(crate) fn payload_of(field: &[u8]) -> Option<u64>
 }
 
 /// The number that a field spells, where it is at least `low` and below `limit`.
-#[inline(always)]
 fn number_within(low: u64, limit: u64, field: &[u8]) -> Option<u64>
     ensures value { result ≡ number_within low limit field.now }
     ensures within { IfSome result (λ n. (low ≤ n) × (n < limit)) }
@@ -47,13 +46,29 @@ fn number_within(low: u64, limit: u64, field: &[u8]) -> Option<u64>
     Some(number)
 }
 
+/// The number below `limit` that a field spells, which mostly is one digit.
+#[inline(always)]
+fn number_below(limit: u8, field: &[u8]) -> Option<u8>
+    requires { limit ≤ 10 }
+    ensures value { result ≡ number_within 0 limit field.now }
+    ensures below { IfSome result (λ n. n < limit) }
+{
+    match field {
+        [digit] if b'0' <= *digit && *digit < b'0' + limit => Some(*digit - b'0'),
+        _ => Some(number_within(0, u64::from(limit), field)? as u8),
+    }
+}
+
 /// The client that a field names.
 #[inline(always)]
 pub(crate) fn client_of(field: &[u8]) -> Option<u8>
     ensures value { result ≡ client_of field.now }
     ensures within { IfSome result (λ c. IsClient c) }
 {
-    Some(number_within(1, 65, field)? as u8)
+    match field {
+        [digit] if b'1' <= *digit && *digit <= b'9' => Some(*digit - b'0'),
+        _ => Some(number_within(1, 65, field)? as u8),
+    }
 }
 
 /// The register that a field names.
@@ -62,7 +77,7 @@ pub(crate) fn register_of(field: &[u8]) -> Option<u8>
     ensures value { result ≡ register_of field.now }
     ensures below { IfSome result (λ r. r < 8) }
 {
-    Some(number_within(0, 8, field)? as u8)
+    number_below(8, field)
 }
 
 /// The slot that a field names.
@@ -71,7 +86,7 @@ pub(crate) fn slot_of(field: &[u8]) -> Option<u8>
     ensures value { result ≡ slot_of field.now }
     ensures below { IfSome result (λ s. s < 6) }
 {
-    Some(number_within(0, 6, field)? as u8)
+    number_below(6, field)
 }
 
 /// The page that a field names: 0 to 1,023, whether or not a store has it.
@@ -125,8 +140,8 @@ pub(crate) fn source_of(field: &[u8]) -> Option<Option<u8>>
     ensures value { result ≡ source_of field.now }
     ensures below { IfSome result (λ f. IfSome f (λ r. r < 8)) }
 {
-    if field == b"-".as_slice() {
-        return Some(None);
+    match field {
+        b"-" => Some(None),
+        _ => Some(Some(register_of(field)?)),
     }
-    Some(Some(register_of(field)?))
 }

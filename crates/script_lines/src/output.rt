@@ -1,5 +1,5 @@
 //! Printed lines.
-ghost use Rattle.std.specs.Prelude.{◌≡◌, ◌+◌, ◌<◌, ◌≤◌, ◌++◌, [], ◌∷◌, IfOk, OnOk, string_bytes, length, decimal};
+ghost use Rattle.std.specs.Prelude.{◌≡◌, ◌+◌, ◌<◌, ◌≤◌, ◌++◌, [], ◌∷◌, IfOk, OnOk, string_bytes, codes, length, decimal};
 ghost use Rattle.std.specs.Io.KnownBytes.{Appends};
 ghost use Rattle.arrayvec.specs.ArrayString.{array_string_len};
 ghost use Rattle.plain_model.specs.Text.{line_of, stored_line, numbers, newline, verb, reply_text};
@@ -16,35 +16,45 @@ use store_opening::{OpenRefusal, Place};
 /// The bytes that the longest printed line takes but for those with ids.
 pub const LINE_ROOM: usize = 160;
 
-fn verb_of(call: &Call) -> &'static str
-    ensures text { result.now ≡ verb call.now }
-    ensures short { length result.now ≤ 6 }
-{
-    match call {
-        Call::Begin => "begin",
-        Call::Read { .. } => "read",
-        Call::Make { .. } => "make",
-        Call::Store { .. } => "store",
-        Call::GetPay { .. } => "get",
-        Call::SetPay { .. } => "set",
-        Call::Commit => "commit",
-        Call::Abort => "abort",
-    }
-}
+/// The bytes that the longest line of a call takes, and some more.
+const CALL_ROOM: usize = 64;
 
 #[inline(always)]
-fn push_number(line: &mut ArrayString<LINE_ROOM>, number: u64)
-    requires { array_string_len line.old + 20 ≤ 160 }
+fn push_number<const CAP: usize>(line: &mut ArrayString<CAP>, number: u64)
+    requires { array_string_len line.old + 20 ≤ CAP }
     ensures text { line.new.bytes ≡ line.old.bytes ++ decimal number }
     ensures short { array_string_len line.new ≤ array_string_len line.old + 20 }
 {
+    if number < 10 {
+        line.push(char::from(b'0' + number as u8));
+        return;
+    }
     let mut digits = Buffer::new();
     line.push_str(digits.format(number));
 }
 
+/// Appends the verb of a call, between a space and what stands before a reply.
 #[inline(always)]
-fn push_reply(line: &mut ArrayString<LINE_ROOM>, reply: &Reply)
-    requires { array_string_len line.old + 26 ≤ 160 }
+fn push_verb<const CAP: usize>(line: &mut ArrayString<CAP>, call: &Call)
+    requires { array_string_len line.old + 10 ≤ CAP }
+    ensures text { line.new.bytes ≡ line.old.bytes ++ codes " " ++ verb call.now ++ codes ": " }
+    ensures short { array_string_len line.new ≤ array_string_len line.old + 10 }
+{
+    match call {
+        Call::Begin => line.push_str(" begin: "),
+        Call::Read { .. } => line.push_str(" read: "),
+        Call::Make { .. } => line.push_str(" make: "),
+        Call::Store { .. } => line.push_str(" store: "),
+        Call::GetPay { .. } => line.push_str(" get: "),
+        Call::SetPay { .. } => line.push_str(" set: "),
+        Call::Commit => line.push_str(" commit: "),
+        Call::Abort => line.push_str(" abort: "),
+    }
+}
+
+#[inline(always)]
+fn push_reply<const CAP: usize>(line: &mut ArrayString<CAP>, reply: &Reply)
+    requires { array_string_len line.old + 26 ≤ CAP }
     ensures text { line.new.bytes ≡ line.old.bytes ++ reply_text reply.now }
     ensures short { array_string_len line.new ≤ array_string_len line.old + 26 }
 {
@@ -69,18 +79,41 @@ fn push_reply(line: &mut ArrayString<LINE_ROOM>, reply: &Reply)
     }
 }
 
+/// Appends the line of a call.
+#[inline(always)]
+fn push_call<const CAP: usize>(line: &mut ArrayString<CAP>, client: u8, call: &Call, reply: &Reply)
+    requires { array_string_len line.old + 57 ≤ CAP }
+    ensures { line.new.bytes ≡ line.old.bytes ++ line_of (Entry.Call client call.now reply.now) }
+{
+    push_number(line, u64::from(client));
+    push_verb(line, call);
+    push_reply(line, reply);
+    line.push_str("\n");
+}
+
 /// The line of a call. It takes no memory.
 pub fn call_line(client: u8, call: &Call, reply: &Reply) -> ArrayString<LINE_ROOM>
     ensures { result.bytes ≡ line_of (Entry.Call client call.now reply.now) }
 {
     let mut line = ArrayString::new();
-    push_number(&mut line, u64::from(client));
-    line.push_str(" ");
-    line.push_str(verb_of(call));
-    line.push_str(": ");
-    push_reply(&mut line, reply);
-    line.push_str("\n");
+    push_call(&mut line, client, call, reply);
     line
+}
+
+/// Writes the line of a call, or a front of it where the sink fails. It takes no memory.
+pub fn write_call<W: Sink>(
+    out: &mut W,
+    client: u8,
+    call: &Call,
+    reply: &Reply,
+) -> Result<(), WriteFailed>
+    ensures ok { OnOk result (Appends (W.written out.old) (W.written out.new) (line_of (Entry.Call client call.now reply.now))) }
+    ensures front { AppendsFront (W.written out.old) (W.written out.new) (line_of (Entry.Call client call.now reply.now)) }
+    ensures cause { HasCause (W.faults out.old) (W.faults out.new) result }
+{
+    let mut line: ArrayString<CALL_ROOM> = ArrayString::new();
+    push_call(&mut line, client, call, reply);
+    write_all(out, line.as_str().as_bytes())
 }
 
 /// The line of a deletion. It takes no memory.

@@ -1,0 +1,7 @@
+use Rattle.std.proofs.Common.{arith}
+use Rattle.std.proofs.lemmas.Fmt.{decimal_digit}
+use Rattle.script_lines.proofs.output.push_number.Goals as goal
+
+pub returns-then-number-lt10-clause-text : goal.returns-then-number-lt10-clause-text
+returns-then-number-lt10-clause-text g c =
+    rw (decimal_digit c.args.number c.if-number-lt10.true, ← c.from.ensures) (c.push.ensures.ascii (omega (arith, c.from.ensures, c.if-number-lt10.true)))
