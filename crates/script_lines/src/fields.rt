@@ -56,8 +56,8 @@ pub(crate) fn next_short_field(bytes: &[u8]) -> Option<(&[u8], &[u8])>
         (λ p. fields_of bytes.now ≡ p.0.now ∷ fields_of p.1.now) }
 {
     match bytes {
-        [byte, b' ', rest @ ..] if !is_blank(*byte) => Some((&bytes[..1], rest)),
-        [byte] if !is_blank(*byte) => Some((bytes, &bytes[1..])),
+        [byte, b' ', rest @ ..] if *byte > b' ' => Some((&bytes[..1], rest)),
+        [byte] if *byte > b' ' => Some((bytes, &bytes[1..])),
         [] => None,
         _ => next_field(bytes),
     }
