@@ -13,25 +13,25 @@ use Rattle.core_store.specs.declared.journal.Journal.TheInside.{Inside}
 use Rattle.core_store.specs.declared.note.Note.{Note}
 use Rattle.core_store.specs.declared.three.HeldFrame.{HeldFrame}
 use Rattle.core_store.specs.declared.trace.Trace.{Trace}
-use Rattle.core_store.specs.declared.want.Want.TheVariants.{Ready}
 use Rattle.core_store.specs.declared.want.Work.{Work}
-use Rattle.core_store.specs.Collecting.{CanCollect, pages_to_collect}
-use Rattle.core_store.specs.Frames.{Agree, is_held, pages_held}
+use Rattle.core_store.specs.Collecting.{CanCollect, objects_at, pages_to_collect}
+use Rattle.core_store.specs.RoundView.{asked}
+use Rattle.core_store.specs.Frames.{Agree, HasPages}
 use Rattle.core_store.specs.JournalView.{JournalView, cells_of, core_of}
 use Rattle.core_store.specs.Journal.{view_of, IsJournalInside, Keeps}
 use Rattle.core_store.specs.Limited.{is_past_limit, pages_for_call, pages_for_collector, entries_counted, WasFull}
-use Rattle.core_store.specs.Logged.{want_of, pages_for, pages_for_undo, objects_of_undo}
+use Rattle.core_store.specs.Logged.{pages_for, pages_for_undo, objects_of_undo}
 use Rattle.core_store.specs.Owed.{entries_needed, entries_owed}
 use Rattle.core_store.specs.Ready.{IsStanding, IsReadyToCall, IsReadyToUndo}
 use Rattle.core_store.specs.Replaced.{next_to_restore}
-use Rattle.core_store.specs.Slots.{HoldsPagesOf}
 use Rattle.core_store.specs.Steppings.{IsReadyForCollector}
 use Rattle.core_store.specs.Tables.{TablesView}
 use Rattle.core_store.specs.Views.{view_of as tables_of}
 use Rattle.core_store.specs.Work.{IsWorkIn}
 use Rattle.core_store.proofs.JournalSteps.{ids-same}
-use Rattle.core_store.proofs.ReplyLaws.{each-map}
-use Rattle.core_store.proofs.WantLaws.{ready-all}
+use Rattle.core_store.proofs.PlanUndo.{undo-within}
+use Rattle.core_store.proofs.ReadyRound.{asked-few}
+use Rattle.core_store.proofs.WantLaws.{has-objects}
 
 -- ---- within the limit, and past it
 
@@ -109,12 +109,13 @@ standing a now held s is agree = record {
 }
 
 pub ready-call : {slots : ℕ} (a : Inside slots) (now : JournalView) (held : List (HeldFrame slots)) (pass : ℕ) (call : TransactionCall) → IsJournalInside a → view_of a ≡ now → Agree (cells_of now) held → is_past_limit now (entries_needed call) ≡ false
-    → want_of (pages_for_call now pass call) (pages_held held) ≡ Ready → IsReadyToCall (tables_of a.tables) held pass call
+    → HasPages now.history.ids (pages_for_call now pass call) held → IsReadyToCall (tables_of a.tables) held pass call
 ready-call a now held pass call s is agree within ready = record {
   standing = standing a now held s is agree;
   pages =
-      subst (λ (j : JournalView). AllByRecursion (λ p. is_held held p ≡ true) (pages_for (end_of j.history).state (cells_of j) pass call)) (sym is)
-      (ready-all (pages_for (end_of now.history).state (cells_of now) pass call) held (sym (ap (λ ps. want_of ps (pages_held held)) (call-within now pass call within)) ∙ ready));
+      subst (λ n. HasPages n (pages_for (end_of (view_of a).history).state (cells_of (view_of a)) pass call) held) (sym (ids-same (view_of a) (tables_of a.tables) s.keeps))
+      (subst (λ (j : JournalView). HasPages j.history.ids (pages_for (end_of j.history).state (cells_of j) pass call) held) (sym is)
+      (subst (λ ps. HasPages now.history.ids ps held) (call-within now pass call within) ready));
 }
 
 -- what is work in the store of the tables is work in the journal's
@@ -129,11 +130,13 @@ works-tables {slots} a now work s is works =
 -- ---- an abort step
 
 pub ready-undo : {slots : ℕ} (a : Inside slots) (now : JournalView) (held : List (HeldFrame slots)) (pass : ℕ) → IsJournalInside a → view_of a ≡ now → Agree (cells_of now) held
-    → want_of (pages_for_undo (cells_of now) (next_to_restore (end_of now.history) pass)) (pages_held held) ≡ Ready → IsReadyToUndo (tables_of a.tables) held pass
+    → HasPages now.history.ids (pages_for_undo (cells_of now) (next_to_restore (end_of now.history) pass)) held → IsReadyToUndo (tables_of a.tables) held pass
 ready-undo a now held pass s is agree ready = record {
   standing = standing a now held s is agree;
-  pages = subst (λ (j : JournalView). HoldsPagesOf held (option_map_or (objects_of_undo (cells_of j)) (next_to_restore (end_of j.history) pass) [])) (sym is)
-      (each-map (λ p. is_held held p ≡ true) page_of_id (option_map_or (objects_of_undo (cells_of now)) (next_to_restore (end_of now.history) pass) []) (ready-all (pages_for_undo (cells_of now) (next_to_restore (end_of now.history) pass)) held ready));
+  pages =
+      let own = subst (λ (j : JournalView). HasPages j.history.ids (pages_for_undo (cells_of j) (next_to_restore (end_of j.history) pass)) held) (sym is) ready in
+      has-objects a.tables.ids (option_map_or (objects_of_undo (cells_of (view_of a))) (next_to_restore (end_of (view_of a).history) pass) []) held (undo-within s.keeps.stands pass)
+      (subst (λ n. HasPages n (pages_for_undo (cells_of (view_of a)) (next_to_restore (end_of (view_of a).history) pass)) held) (sym (ids-same (view_of a) (tables_of a.tables) s.keeps)) own);
 }
 
 -- ---- an event of the collector
@@ -146,5 +149,11 @@ ready-collect {slots} a now held s is agree within ready =
       core = core_of (view_of a);
       stands = s.keeps.stands;
       agree = subst (λ (j : JournalView). Agree (cells_of j) held) (sym is) agree;
-      ready = record { pages = sym (ap (λ ps. want_of ps (pages_held held)) (collector-within (view_of a) few)) ∙ r.pages; event = r.event few };
+      ready = record {
+        pages =
+            has-objects a.tables.ids (objects_at (cells_of (view_of a)) (asked (view_of a).round)) held (asked-few s.keeps.stands).within
+            (subst (λ n. HasPages n (pages_to_collect (cells_of (view_of a)) (view_of a).round) held) (sym (ids-same (view_of a) (tables_of a.tables) s.keeps))
+            (subst (λ ps. HasPages (view_of a).history.ids ps held) (collector-within (view_of a) few) r.pages));
+        event = r.event few;
+      };
     }

@@ -44,7 +44,7 @@ use Rattle.core_store.proofs.NextLaws.{one-live}
 use Rattle.core_store.proofs.PassLaws.{round-next_slot, IsEmptied-next_slot}
 use Rattle.core_store.proofs.PlanLaws.{live-id}
 use Rattle.core_store.proofs.QueueLaws.{joined-there, joined-new}
-use Rattle.core_store.proofs.ReadyRound.{IsThere, asked-there, ready-pages}
+use Rattle.core_store.proofs.ReadyRound.{IsThere, asked-there}
 use Rattle.core_store.proofs.RestLaws.{IsEmptied-kept}
 use Rattle.core_store.proofs.WeakenRound.{can-null, not-let_go}
 
@@ -101,7 +101,7 @@ module _ (slots : ℕ) (v : TablesView) (c : Core) (held : List (HeldFrame slots
     agree = agree;
     marks = h.zeros;
     can = can-null slots v c h id slot cut-there.0 cut-there.1;
-    pages = subst (λ (a : RoundAt). HoldsPagesOf held (objects_at c.cells a)) look (ready-pages c.cells v.round held ready.pages);
+    pages = subst (λ (a : RoundAt). HoldsPagesOf held (objects_at c.cells a)) look ready.pages;
   }
 
   pub cut-of : (new : List (HeldFrame slots)) (marks : List Bool) (change : SlotChange) → Changes held new v.zeros marks id slot 0 (λ cells. restored_change cells id slot 0) change → IsCut slots v c held new marks id slot change.old_target change.old_strong

@@ -21,7 +21,6 @@ use Rattle.core_store.specs.Stands.{Stands}
 use Rattle.core_store.specs.Collecting.{objects_at, CanCollect, IsReadyToCollect, Collected}
 use Rattle.core_store.proofs.AskedGreen.{IsAskedBy}
 use Rattle.core_store.proofs.AskedLaws.{IsGreenAt, asked-by_green}
-use Rattle.core_store.proofs.ReadyRound.{ready-pages}
 use Rattle.core_store.proofs.WeakenRound.{can-null}
 use Rattle.core_store.proofs.GreenRound.{flip-can, flip-answer, flip-collected, into-live, into-within, into-parts, into-answer, into-collected, strengthen-live, strengthen-within, strengthen-weak, strengthen-answer, strengthen-collected}
 
@@ -57,7 +56,7 @@ module _ (slots : ℕ) (v : TablesView) (id : ℕ) (b : AsksGreen v (at.Flip id)
     agree = r.agree;
     marks = r.stands.zeros;
     can = flip-can slots v r.core r.stands b.walk b.swept b.slot b.greening b.is b.end id b.asks.0 b.asks.1 b.asks.2 b.asks.3;
-    page = (subst (λ (x : RoundAt). HoldsPagesOf held (objects_at r.core.cells x)) asks (ready-pages r.core.cells v.round held r.ready.pages)).0;
+    page = (subst (λ (x : RoundAt). HoldsPagesOf held (objects_at r.core.cells x)) asks r.ready.pages).0;
   }
 
   pub flip-answers : {held : List (HeldFrame slots)} → CanCollect v held → IsGreenAnswer v.round (Made id)
@@ -91,7 +90,7 @@ module _ (slots : ℕ) (v : TablesView) («from» k to : ℕ) (b : AsksGreen v (
       agree = r.agree;
       marks = r.stands.zeros;
       can = into-can r.core r.stands held r.ready;
-      pages = subst (λ (x : RoundAt). HoldsPagesOf held (objects_at r.core.cells x)) asks (ready-pages r.core.cells v.round held r.ready.pages);
+      pages = subst (λ (x : RoundAt). HoldsPagesOf held (objects_at r.core.cells x)) asks r.ready.pages;
     };
     strong = into-strong r.core r.stands held r.ready;
   }
@@ -124,7 +123,7 @@ module _ (slots : ℕ) (v : TablesView) («from» k to : ℕ) (b : AsksGreen v (
       agree = r.agree;
       marks = r.stands.zeros;
       can = strengthen-can r.core r.stands;
-      pages = subst (λ (x : RoundAt). HoldsPagesOf held (objects_at r.core.cells x)) asks (ready-pages r.core.cells v.round held r.ready.pages);
+      pages = subst (λ (x : RoundAt). HoldsPagesOf held (objects_at r.core.cells x)) asks r.ready.pages;
     };
     weak = strengthen-is_weak r.core r.stands;
   }

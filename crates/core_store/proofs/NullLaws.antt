@@ -22,11 +22,16 @@ use Rattle.core_store.specs.Changes.{has_no_strong, is_counted_strong}
 use Rattle.core_store.specs.RoundView.{RoundView, Sweeping, asked, asked_by_walk, asked_by_sweep, asked_by_green, is_event, is_white, looked_past, next_slot, IsInStep, IsSweeping, Passes, none, more}
 use Rattle.core_store.specs.Tables.{TablesView}
 use Rattle.core_store.specs.Stands.{Stands}
+use Rattle.core_store.specs.Frames.{Agree, HoldsAll}
+use Rattle.core_store.specs.Slots.{HoldsPagesOf}
+use Rattle.core_store.specs.Collecting.{objects_at}
 use Rattle.core_store.specs.Nulls.{slot_at, at_slot, IsNullAt}
 use Rattle.core_store.proofs.AskedLaws.{asked-look, asked-cut}
 use Rattle.core_store.proofs.LookLaws.{null-look}
 use Rattle.core_store.proofs.SeenLaws.{GreenOf, green-of, waiting-live, work-at, there-at}
 use Rattle.core_store.proofs.PassLaws.{HasPassed}
+use Rattle.core_store.proofs.ReadyRound.{asked-few}
+use Rattle.core_store.proofs.WantLaws.{all-objects}
 
 -- ---- there is nothing to do
 
@@ -237,3 +242,8 @@ passed-behind slots u v w held p q = record {
   passes = λ c h agree. looks-behind slots c.cells (p.passes c h agree) (q.passes c (p.stands c h agree) agree);
   stands = λ c h agree. q.stands c (p.stands c h agree) agree;
 }
+
+-- where all pages are held, so are those of what is looked at next
+pub pages-looked : {slots : ℕ} {v w : TablesView} {held : List (HeldFrame slots)} → HasPassed slots v w held → (c : Core) → Stands slots v c → Agree c.cells held → HoldsAll v.ids held → HoldsPagesOf held (objects_at c.cells (asked w.round))
+pages-looked {slots} {v} {w} {held} p c h agree all =
+    all-objects w.ids (objects_at c.cells (asked w.round)) held (asked-few (p.stands c h agree)).within (subst (λ n. HoldsAll n held) (sym (ap (λ (x : TablesView). x.ids) p.same)) all)

@@ -12,7 +12,6 @@ use Rattle.cell_page.proofs.Pages.{place_within}
 use Rattle.cell_page.proofs.HeldPages.{held_cell, HoldsPage-edit}
 use Rattle.core_store.specs.declared.three.HeldFrame.{HeldFrame}
 use Rattle.core_store.specs.Frames.{pages_held, is_held, Agree}
-use Rattle.core_store.specs.Inside.{AreThreeInside}
 use Rattle.core_store.proofs.PageLaws.{id-low, id-high, AreOnce-pages, Agree-edit}
 
 -- the place of a page is within the frames
@@ -24,6 +23,21 @@ held-within (h ∷ hs) (suc k) page held none =
     let other : (h.page == page) ≡ false = none 0 h (omega arith) in
     let rest = held-within hs k page (rw other at held) (λ j d m. none (suc j) d (omega arith)) in
     omega (arith, rest)
+
+-- ---- a page in which an id lies
+
+module _ {slots : ℕ} (cells : List StoredCell) (id : ℕ) (page : List (Cell slots)) (above : 0 < id) (holds : HoldsPage cells (page_of_id id) page) where
+  pub IsCell-held : (c : Cell slots) → IsCell id (get_or page (place_of id) c)
+  IsCell-held c =
+      let w = place_within (page_of_id id) id (id-low id above) (id-high id above) in
+      let at : first_id (page_of_id id) + place_of id ≡ id = omega arith in
+      subst (λ (n : ℕ). IsCell n (get_or page (place_of id) c)) at (holds.rules.each (place_of id) c (omega arith))
+
+  pub HasId-held : HasId page id
+  HasId-held = record { above = above; there = λ c. (IsCell-held c).placed }
+
+  pub cell-held : (c : Cell slots) → cell_of (get_or page (place_of id) c) ≡ cell_at cells id
+  cell-held c = held_cell cells (page_of_id id) id page c holds (id-low id above) (id-high id above)
 
 -- ---- one of the held frames of a program
 
@@ -37,18 +51,6 @@ module _ {slots : ℕ} (cells : List StoredCell) (frames : List (HeldFrame slots
   holds-place = rw frame-place (subst (λ (p : ℕ). HoldsPage cells p (get_or (take count frames) place d).frame.page) here
       (All-from_recursion (λ h. HoldsPage cells h.page h.frame.page) (take count frames) agree place d within))
 
-  pub IsCell-place : (c : Cell slots) → IsCell id (get_or (get_or frames place d).frame.page (place_of id) c)
-  IsCell-place c =
-      let w = place_within (page_of_id id) id (id-low id above) (id-high id above) in
-      let at : first_id (page_of_id id) + place_of id ≡ id = omega arith in
-      subst (λ (n : ℕ). IsCell n (get_or (get_or frames place d).frame.page (place_of id) c)) at (holds-place.rules.each (place_of id) c (omega arith))
-
-  pub HasId-place : HasId (get_or frames place d).frame.page id
-  HasId-place = record { above = above; there = λ c. (IsCell-place c).placed }
-
-  pub cell-place : (c : Cell slots) → cell_of (get_or (get_or frames place d).frame.page (place_of id) c) ≡ cell_at cells id
-  cell-place c = held_cell cells (page_of_id id) id (get_or frames place d).frame.page c holds-place (id-low id above) (id-high id above)
-
 -- ---- a cell of one of them changes
 
 pub pages-set : {slots : ℕ} (hs : List (HeldFrame slots)) (k : ℕ) (h d : HeldFrame slots) → h.page ≡ (get_or hs k d).page → pages_held (set hs k h) ≡ pages_held hs
@@ -57,32 +59,14 @@ pages-set (x ∷ hs) zero h d same = ap (λ (p : ℕ). p ∷ pages_held hs) same
 pages-set (x ∷ hs) (suc k) h d same = ap (λ (ps : List ℕ). x.page ∷ ps) (pages-set hs k h d same)
 
 module _ {slots : ℕ} (frames : List (HeldFrame slots)) (count place : ℕ) (h d : HeldFrame slots) (within : place < length (take count frames)) (same : h.page ≡ (get_or frames place d).page) where
-  below : place < count
+  pub below : place < count
   below = let n = length-take count frames in omega (arith, n, within)
 
-  take-place : take count (set frames place h) ≡ set (take count frames) place h
+  pub take-place : take count (set frames place h) ≡ set (take count frames) place h
   take-place = take-set-lt count frames place h below
 
-  same-place : h.page ≡ (get_or (take count frames) place d).page
+  pub same-place : h.page ≡ (get_or (take count frames) place d).page
   same-place = same ∙ ap (λ (x : HeldFrame slots). x.page) (sym (get_or-take count frames place d below))
 
   pub pages-place : pages_held (take count (set frames place h)) ≡ pages_held (take count frames)
   pages-place = ap (λ (hs : List (HeldFrame slots)). pages_held hs) take-place ∙ pages-set (take count frames) place h d same-place
-
-  pub AreThreeInside-set : AreThreeInside frames count → AreThreeInside (set frames place h) count
-  AreThreeInside-set kept = record {
-    three = length-set frames place h ∙ kept.three;
-    most = kept.most;
-    once = AreOnce-pages (take count frames) (take count (set frames place h)) (sym pages-place) kept.once;
-  }
-
--- the held frames agree with the edited cells
-pub Agree-place : {slots : ℕ} (cells : List StoredCell) (frames : List (HeldFrame slots)) (count place : ℕ) (h d : HeldFrame slots) (c : Cell slots) → AreThreeInside frames count → Agree cells (take count frames)
-    → 0 < c.id → IsCell c.id c → place < length (take count frames) → (get_or (take count frames) place d).page ≡ page_of_id c.id
-    → h.page ≡ (get_or frames place d).page → h.frame.page ≡ set (get_or frames place d).frame.page (place_of c.id) c
-    → Agree (edit cells c.id (λ _. cell_of c)) (take count (set frames place h))
-Agree-place {slots} cells frames count place h d c kept agree above rules within here number placed =
-    let was = holds-place cells frames count place c.id d agree above within here in
-    let now = HoldsPage-edit cells (page_of_id c.id) c.id (get_or frames place d).frame.page c (λ _. cell_of c) was (id-low c.id above) (id-high c.id above) rules refl in
-    let same = same-place frames count place h d within number in
-    rw (take-place frames count place h d within number) (Agree-edit cells (take count frames) place h d c.id (λ _. cell_of c) kept.once agree within here (same ∙ here) (rw placed now))

@@ -1,7 +1,7 @@
 -- What an undo step lays again, in the words of the tables.
-use Rattle.std.proofs.Common.{◌≡◌, ℕ, ◌<◌, List, [], refl, ap, Option, Some, None, ⊎_elim, arith, map}
+use Rattle.std.proofs.Common.{◌≡◌, ℕ, ◌<◌, ◌≤◌, List, [], refl, sym, ◌∙◌, ap, Option, Some, None, ⊎_elim, arith, map}
 use Rattle.std.specs.Prelude.{take}
-use Rattle.std.specs.List.{last_or}
+use Rattle.std.specs.List.{last_or, AllByRecursion}
 use Rattle.std.specs.Option.{option_map_or}
 use Rattle.plain_model.specs.declared.write.Place.{Place}
 use Rattle.plain_model.specs.declared.write.Place.TheVariants.{Slot, Payload, Whole}
@@ -21,6 +21,7 @@ use Rattle.core_store.specs.Tables.{TablesView}
 use Rattle.core_store.specs.Stands.{CanLay, Stands}
 use Rattle.core_store.proofs.PlanActive.{active-of, inactive-of}
 use Rattle.core_store.proofs.PlanLaws.{live-id}
+use Rattle.core_store.proofs.NextLaws.{few-undo}
 use Rattle.core_store.proofs.ReplacedLists.{last-contained}
 use Rattle.core_store.proofs.UndoneLaws.{next-kept}
 
@@ -52,6 +53,14 @@ module _ {slots : ℕ} {v : TablesView} {core : Core} (h : Stands slots v core) 
       by : (o : Option Running) → running_at v.transactions pass ≡ o → option_map_or (λ t. last_or None t.replaced) o None ≡ Some w → CanLay slots core.cells w
       by None n k = absurd (cc)
       by (Some kept) n k = h.restorable pass kept n w (last-contained kept.replaced w k)
+
+  -- what the next undo step works on is of the store
+  pub undo-within : (pass : ℕ) → AllByRecursion (λ id. (0 < id) × (id ≤ v.ids)) (option_map_or (objects_of_undo core.cells) (next_to_restore core.moment pass) [])
+  undo-within pass = by (next_to_restore core.moment pass) refl
+    where
+      by : (o : Option Write) → next_to_restore core.moment pass ≡ o → AllByRecursion (λ id. (0 < id) × (id ≤ v.ids)) (option_map_or (objects_of_undo core.cells) o [])
+      by None e = tt
+      by (Some w) e = (few-undo h w (can-lay pass w (sym (next-noted pass) ∙ e))).within
 
   lay-work : (id : ℕ) (p : Place) (value : ℕ) → CanLay slots core.cells (record { id = id; place = p; value = value }) → IsWork slots (work_of_undo (record { id = id; place = p; value = value })) × FitsPlace p value
   lay-work id (Slot slot) value c =

@@ -1,19 +1,17 @@
 -- What was planned for a call.
 use Rattle.std.proofs.Common.{◌≡◌, ℕ, ◌+◌, ◌≤◌, List, true, arith, refl, sym, ap, ◌∙◌, subst, None}
 use Rattle.std.specs.Prelude.{Result, Ok, Err, IfOk, IfErr, is_ok, is_none}
-use Rattle.std.specs.List.{AllByRecursion}
 use Rattle.plain_model.specs.declared.calls.Call.{Call as TransactionCall}
 use Rattle.plain_model.specs.declared.calls.Reply.{Reply}
 use Rattle.plain_model.specs.declared.calls.Call.TheVariants as call
 use Rattle.plain_model.specs.Machine.{refusal_of, IsInRange}
 use Rattle.store_model.specs.Core.{Core}
-use Rattle.cell_page.specs.Format.{page_of_id}
 use Rattle.core_store.specs.declared.handlers.Performed.{Performed}
 use Rattle.core_store.specs.declared.plan.Plan.{Plan}
 use Rattle.core_store.specs.declared.plan.Plan.TheVariants as plan
 use Rattle.core_store.specs.Stands.{Stands}
 use Rattle.core_store.specs.declared.three.HeldFrame.{HeldFrame}
-use Rattle.core_store.specs.Frames.{is_held}
+use Rattle.core_store.specs.Frames.{HasPages}
 use Rattle.core_store.specs.Owed.{entries_needed}
 use Rattle.core_store.specs.Plans.{IsGranted, IsRefused, IsPlanned, entries_needed_by, room_needed}
 use Rattle.core_store.specs.Ready.{Does, DoesPlanned, IsReady, IsReadyToCall, objects_of_plan}
@@ -21,7 +19,8 @@ use Rattle.core_store.specs.Tables.{TablesView}
 use Rattle.core_store.proofs.NeededLaws.{needed-granted, needed-few}
 use Rattle.core_store.proofs.PlanRecords.{pages-plan, plan-in_range, unrefused-plan}
 use Rattle.core_store.proofs.RefusalLaws.{performs-refused}
-use Rattle.core_store.proofs.ReplyLaws.{each-map}
+use Rattle.core_store.proofs.NextLaws.{few-plan}
+use Rattle.core_store.proofs.WantLaws.{has-objects}
 
 -- the plan is the call's, or the refusal is
 pub planned-so : (slots : ℕ) (v : TablesView) (pass : ℕ) (c : TransactionCall) (r : Result Plan Reply) → IfOk r (IsGranted v pass c) → IfErr r (λ reply. IsRefused slots v pass c reply) → IsPlanned slots v pass c r
@@ -49,7 +48,7 @@ ready-planned {slots} v held pass c (Ok p) in_range ready granted =
       granted = granted;
       in_range = plan-in_range slots v pass c p in_range granted;
       standing = s;
-      pages = each-map (λ n. is_held held n ≡ true) page_of_id (objects_of_plan s.core.cells p) (subst (AllByRecursion (λ n. is_held held n ≡ true)) (pages-plan s.stands pass c p granted) ready.pages);
+      pages = has-objects v.ids (objects_of_plan s.core.cells p) held (few-plan s.stands pass c p granted).within (subst (λ (ps : List ℕ). HasPages v.ids ps held) (pages-plan s.stands pass c p granted) ready.pages);
     }
 ready-planned v held pass c (Err reply) in_range ready granted = granted
 

@@ -196,7 +196,7 @@ module _ {slots : ℕ} (v : TablesView) {held : List (HeldFrame slots)} (r : Can
   can-there a e = subst (IsThere slots r.core.cells) e (asked-there r.stands)
 
   pub can-pages : (a : RoundAt) → asked v.round ≡ a → HoldsPagesOf held (objects_at r.core.cells a)
-  can-pages a e = subst (λ (x : RoundAt). HoldsPagesOf held (objects_at r.core.cells x)) e (ready-pages r.core.cells v.round held r.ready.pages)
+  can-pages a e = subst (λ (x : RoundAt). HoldsPagesOf held (objects_at r.core.cells x)) e r.ready.pages
 
   pub can-small : (id : ℕ) → is_live r.core.cells id ≡ true → (0 < id) × (id < 65536)
   can-small id l = small r.stands id l

@@ -28,7 +28,7 @@ use Rattle.core_store.proofs.CollectedLaws.{marks-long}
 use Rattle.core_store.proofs.GreenAsks.{test-answers}
 use Rattle.core_store.proofs.HeldEvents.{IsAbove, event-same}
 use Rattle.core_store.proofs.PassLaws.{Stands-passed}
-use Rattle.core_store.proofs.ReadyRound.{IsThere, asked-there, asked-work, ready-pages, green-live}
+use Rattle.core_store.proofs.ReadyRound.{IsThere, asked-there, asked-work, green-live}
 
 -- ---- what is asked for
 
@@ -171,4 +171,4 @@ above-work slots at.End w = tt
 -- where there is nothing to do in some cells with these held pages, there isn't in others
 pub idle-in : {slots : ℕ} (v : TablesView) (held : List (HeldFrame slots)) (r : CanPass v held) (c : Core) → Agree c.cells held → is_event c.cells (asked v.round) ≡ false
 idle-in {slots} v held r c agree =
-    sym (event-same r.core.cells c.cells held r.agree agree (asked v.round) (above-work slots (asked v.round) (asked-work r.stands)) (ready-pages r.core.cells v.round held r.pages)) ∙ r.none
+    sym (event-same r.core.cells c.cells held r.agree agree (asked v.round) (above-work slots (asked v.round) (asked-work r.stands)) r.pages) ∙ r.none

@@ -15,7 +15,7 @@ use Rattle.cell_page.specs.Format.{page_of_id}
 use Rattle.core_store.specs.declared.three.HeldFrame.{HeldFrame}
 use Rattle.core_store.specs.declared.want.Want.{Want}
 use Rattle.core_store.specs.declared.want.Want.TheVariants.{Page, LetGo, Ready}
-use Rattle.core_store.specs.Frames.{pages_held, is_page_among, are_all_among, is_held, AreOnce}
+use Rattle.core_store.specs.Frames.{pages_held, is_page_among, are_all_among, is_held, AreOnce, HasPages, HoldsAll}
 use Rattle.core_store.specs.Logged.{begins_late, next_page, want_of}
 use Rattle.core_store.proofs.PageLaws.{page-there, is_held-among, pages_held-put}
 
@@ -182,3 +182,26 @@ needed-there ids p (id ∷ objects) within there =
       | inl e ↦ subst (λ (q : ℕ). 8 * q < ids) (eqb-true (page_of_id id) p e) (page-there ids id within.0.0 within.0.1)
       | inr e ↦ needed-there ids p objects within.1 (rw e at there)
     ]
+
+-- ---- the pages that are needed are held
+
+-- where they are ready
+pub ready-has : {slots : ℕ} (ids : ℕ) (needed : List ℕ) (held : List (HeldFrame slots)) → want_of needed (pages_held held) ≡ Ready → HasPages ids needed held
+ready-has ids needed held ready = each needed held (ready-all needed held ready)
+  where
+    each : {slots : ℕ} (needed : List ℕ) (held : List (HeldFrame slots)) → AllByRecursion (λ p. is_held held p ≡ true) needed → HasPages ids needed held
+    each [] held all = tt
+    each (p ∷ needed) held all = (λ there. all.0, each needed held all.1)
+
+-- where all pages of the store are
+pub all-has : {slots : ℕ} (ids : ℕ) (needed : List ℕ) (held : List (HeldFrame slots)) → HoldsAll ids held → HasPages ids needed held
+all-has ids [] held all = tt
+all-has ids (p ∷ needed) held all = (all p, all-has ids needed held all)
+
+-- those of objects of the store
+pub has-objects : {slots : ℕ} (ids : ℕ) (objects : List ℕ) (held : List (HeldFrame slots)) → AllByRecursion (λ id. (0 < id) × (id ≤ ids)) objects → HasPages ids (map page_of_id objects) held → AllByRecursion (λ id. is_held held (page_of_id id) ≡ true) objects
+has-objects ids [] held within has = tt
+has-objects ids (id ∷ objects) held within has = (has.0 (page-there ids id within.0.0 within.0.1), has-objects ids objects held within.1 has.1)
+
+pub all-objects : {slots : ℕ} (ids : ℕ) (objects : List ℕ) (held : List (HeldFrame slots)) → AllByRecursion (λ id. (0 < id) × (id ≤ ids)) objects → HoldsAll ids held → AllByRecursion (λ id. is_held held (page_of_id id) ≡ true) objects
+all-objects ids objects held within all = has-objects ids objects held within (all-has ids (map page_of_id objects) held all)

@@ -37,7 +37,7 @@ use Rattle.core_store.proofs.SlotStrengths.{counted-some}
 use Rattle.core_store.proofs.CollectedLaws.{Stands-collected, mark-at, marks-long_of}
 use Rattle.core_store.proofs.NextLaws.{one-live}
 use Rattle.core_store.proofs.PlanLaws.{live-id}
-use Rattle.core_store.proofs.ReadyRound.{IsThere, asked-there, ready-pages}
+use Rattle.core_store.proofs.ReadyRound.{IsThere, asked-there}
 
 -- a slot that was looked at changes nothing
 pub moved-same : (slots : ℕ) (w : Walk) → walked (moved slots w) ≡ walked w
@@ -189,7 +189,7 @@ module _ (slots : ℕ) (v : TablesView) (c : Core) (held : List (HeldFrame slots
       agree = agree;
       marks = h.zeros;
       can = can-null slots v c h id slot look-there.0 look-there.1;
-      pages = subst (λ (a : RoundAt). HoldsPagesOf held (objects_at c.cells a)) look (ready-pages c.cells v.round held ready.pages);
+      pages = subst (λ (a : RoundAt). HoldsPagesOf held (objects_at c.cells a)) look ready.pages;
     };
     strong = look-strong slots v c held id slot ready look;
   }

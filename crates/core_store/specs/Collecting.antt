@@ -12,9 +12,8 @@ use Rattle.core_store.specs.declared.collect.Collect.{Collect}
 use Rattle.core_store.specs.declared.collect.Collect.TheVariants.{Did, Deleted}
 use Rattle.core_store.specs.declared.round_at.RoundAt.{RoundAt}
 use Rattle.core_store.specs.declared.round_at.RoundAt.TheVariants as at
-use Rattle.core_store.specs.Frames.{Agree, pages_held}
-use Rattle.core_store.specs.Logged.{want_of}
-use Rattle.core_store.specs.declared.want.Want.TheVariants.{Ready}
+use Rattle.core_store.specs.Frames.{Agree}
+use Rattle.core_store.specs.Slots.{HoldsPagesOf}
 use Rattle.std.specs.Option.{option_map_or}
 use Rattle.core_store.specs.Work.{objects_of, pages_of_work}
 use Rattle.core_store.specs.Events.{core_after}
@@ -46,7 +45,7 @@ pages_to_collect cells r = pages_of_work cells (work_at (asked r))
 
 -- the pages are held that the next event needs, and it is no look
 pub record IsReadyToCollect {slots : ℕ} (cells : List Cell) (r : RoundView) (held : List (HeldFrame slots)) : Type 0 where
-  pub pages : want_of (pages_to_collect cells r) (pages_held held) ≡ Ready
+  pub pages : HoldsPagesOf held (objects_at cells (asked r))
   pub event : is_event cells (asked r) ≡ true
 
 -- the tables stand for some journal, and its next event can be made with the held pages
@@ -61,7 +60,7 @@ pub record CanPass {slots : ℕ} (v : TablesView) (held : List (HeldFrame slots)
   pub core : Core
   pub stands : Stands slots v core
   pub agree : Agree core.cells held
-  pub pages : want_of (pages_to_collect core.cells v.round) (pages_held held) ≡ Ready
+  pub pages : HoldsPagesOf held (objects_at core.cells (asked v.round))
   pub none : is_event core.cells (asked v.round) ≡ false
 
 -- the round goes on behind a look at which there was nothing to do, nothing else changes, and the tables stand for the journal as before

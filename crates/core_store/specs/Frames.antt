@@ -1,5 +1,5 @@
 -- Pages of the store that are held, and what it is for them to agree with its cells.
-use Rattle.std.specs.Prelude.{◌≡◌, ℕ, ◌*◌, ◌<◌, ◌==◌, Bool, true, false, List, [], ◌∷◌, length, map, Some, slice_get}
+use Rattle.std.specs.Prelude.{◌≡◌, ℕ, ◌+◌, ◌*◌, ◌<◌, ◌==◌, Bool, true, false, List, [], ◌∷◌, length, map, Some, slice_get}
 use Rattle.std.specs.List.{list_any, list_all, AllByRecursion}
 use Rattle.cell_model.specs.Cells.{Cell as StoredCell}
 use Rattle.cell_page.specs.Stored.{page_of, HoldsPage}
@@ -49,3 +49,16 @@ pub record IsNext {slots : ℕ} (ids : ℕ) (held : List (HeldFrame slots)) (pag
   pub there : 8 * page < ids
   pub other : is_held held page ≡ false
   pub room : length held < 3
+
+-- the frames, each with the number of its page, counted on from this one
+abbrev pub numbered : {slots : ℕ} → ℕ → List (Frame slots) → List (HeldFrame slots)
+numbered page [] = []
+numbered page (frame ∷ frames) = record { page = page; frame = frame } ∷ numbered (page + 1) frames
+
+-- each page of the store is held
+abbrev pub HoldsAll : {slots : ℕ} → ℕ → List (HeldFrame slots) → Type 0
+HoldsAll ids held = (page : ℕ) → 8 * page < ids → is_held held page ≡ true
+
+-- of these pages each is held that the store has
+abbrev pub HasPages : {slots : ℕ} → ℕ → List ℕ → List (HeldFrame slots) → Type 0
+HasPages ids pages held = AllByRecursion (λ page. 8 * page < ids → is_held held page ≡ true) pages

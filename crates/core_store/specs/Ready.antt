@@ -14,7 +14,7 @@ use Rattle.core_store.specs.declared.three.HeldFrame.{HeldFrame}
 use Rattle.core_store.specs.declared.plan.Plan.{Plan}
 use Rattle.core_store.specs.declared.plan.Plan.TheVariants as plan
 use Rattle.core_store.specs.declared.handlers.Performed.{Performed}
-use Rattle.core_store.specs.Frames.{Agree, is_held}
+use Rattle.core_store.specs.Frames.{Agree, HasPages}
 use Rattle.log_record.specs.declared.cell_record.CellRecord.{CellRecord}
 use Rattle.log_record.specs.Records.{after_cell_record}
 use Rattle.core_store.specs.Slots.{HoldsPagesOf, IsReadyToChange, IsReadyToEdit, CanChange, IsChanged}
@@ -83,7 +83,7 @@ pub record IsReadyToUndo {slots : ℕ} (v : TablesView) (held : List (HeldFrame 
 -- the pages are held on which the call works
 pub record IsReadyToCall {slots : ℕ} (v : TablesView) (held : List (HeldFrame slots)) (pass : ℕ) (call : TransactionCall) : Type 0 where
   pub standing : IsStanding v held
-  pub pages : AllByRecursion (λ p. is_held held p ≡ true) (pages_for standing.core.moment.state standing.core.cells pass call)
+  pub pages : HasPages v.ids (pages_for standing.core.moment.state standing.core.cells pass call) held
 
 -- ---- the undo of a write
 

@@ -9,9 +9,7 @@ use Rattle.core_store.specs.declared.act.Act.TheVariants as act
 use Rattle.core_store.specs.declared.collect.Collect.{Collect}
 use Rattle.core_store.specs.declared.collect.Collect.TheVariants.{Did, Deleted}
 use Rattle.core_store.specs.declared.three.HeldFrame.{HeldFrame}
-use Rattle.core_store.specs.declared.want.Want.TheVariants.{Ready}
-use Rattle.core_store.specs.Frames.{pages_held}
-use Rattle.core_store.specs.Logged.{want_of}
+use Rattle.core_store.specs.Frames.{HasPages}
 use Rattle.core_store.specs.JournalView.{JournalView, cells_of, core_of, with_note}
 use Rattle.core_store.specs.Limited.{is_past_limit, pages_for_collector}
 use Rattle.core_store.specs.declared.round_at.RoundAt.{RoundAt}
@@ -63,7 +61,7 @@ pub record OnlyLooks (slots : ℕ) (old new : JournalView) : Type 0 where
 
 -- the pages are held that the collector's next event needs, unless the history is full
 pub record IsReadyForCollector {slots : ℕ} (j : JournalView) (held : List (HeldFrame slots)) : Type 0 where
-  pub pages : want_of (pages_for_collector j) (pages_held held) ≡ Ready
+  pub pages : HasPages j.history.ids (pages_for_collector j) held
   pub event : is_past_limit j 1 ≡ false → is_event (cells_of j) (asked j.round) ≡ true
 
 -- the collector made the event that came next: it is noted with its entry, the queue and the round are what it makes of them, and the answer tells of it

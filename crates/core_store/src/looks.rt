@@ -3,7 +3,7 @@ ghost use Rattle.std.specs.Prelude.{◌≡◌, ◌<◌, ◌*◌, ℕ, List, slic
 ghost use Rattle.cell_page.specs.Format.{IsSlotCount, page_of_id};
 ghost use Rattle.store_model.specs.Core.{Core};
 ghost use Rattle.core_store.specs.RoundView.{asked, is_event, IsLookAt, Passes, looked_past};
-ghost use Rattle.core_store.specs.Frames.{Agree, IsNext, pages_held, is_held};
+ghost use Rattle.core_store.specs.Frames.{Agree, HoldsAll, IsNext, pages_held, is_held};
 ghost use Rattle.core_store.specs.Logged.{want_of};
 ghost use Rattle.core_store.specs.Work.{IsWork, HasSmallTargets};
 ghost use Rattle.core_store.specs.Views.{view_of};
@@ -136,6 +136,24 @@ impl<const SLOTS: usize> Tables<SLOTS> {
             let want = wanted(held, work_at(at));
             if want != Want::Ready || is_event(held, at) {
                 return want;
+            }
+            self.look_past(held, at);
+        }
+    }
+
+    /// Looks at what the held pages show, and goes on where there is nothing to do, up to the next event. All pages are held.
+    pub(crate) fn look_on(&mut self, held: &Three<SLOTS>)
+        requires standing { IsStanding (view_of self.old) held.now }
+        requires all { HoldsAll self.old.ids held.now }
+        ensures passes { (c : Core) → Stands SLOTS (view_of self.old) c → Agree c.cells held.now → Passes SLOTS c.cells (view_of self.old).round (view_of self.new).round }
+        ensures stands { (c : Core) → Stands SLOTS (view_of self.old) c → Agree c.cells held.now → Stands SLOTS (view_of self.new) c }
+        ensures event { (c : Core) → Stands SLOTS (view_of self.old) c → Agree c.cells held.now → is_event c.cells (asked (view_of self.new).round) ≡ true }
+        ensures same { view_of self.new ≡ record (view_of self.old) { round = (view_of self.new).round } }
+    {
+        'looks: loop {
+            let at = self.next_look(held);
+            if is_event(held, at) {
+                return;
             }
             self.look_past(held, at);
         }

@@ -1,11 +1,12 @@
 //! The pages that a call works on.
 
-ghost use Rattle.std.specs.Prelude.{◌≡◌, ℕ, ◌<◌, ◌==◌, List, [], ◌∷◌, ◌++◌, length, true, false, slice_index_or, slice_set, IfSome, IfNone};
+ghost use Rattle.std.specs.Prelude.{◌≡◌, ℕ, ◌<◌, ◌≤◌, ◌==◌, List, [], ◌∷◌, ◌++◌, length, true, false, nat_lt, slice_index_or, slice_set, IfSome, IfNone, is_some};
 ghost use Rattle.std.specs.List.{AllByRecursion};
 ghost use Rattle.cell_model.specs.Cells.{Cell as StoredCell, cell_at, edit};
-ghost use Rattle.cell_page.specs.Format.{IsSlotCount, IsCell, page_of_id};
+ghost use Rattle.cell_page.specs.Format.{IsSlotCount, IsCell, HasId, page_of_id, place_of as place_in_page};
 ghost use Rattle.cell_page.specs.Stored.{cell_of};
-ghost use Rattle.core_store.specs.Frames.{pages_held, is_held, holds_nothing, are_all_among, AreOnce, Agree};
+ghost use Rattle.core_store.specs.Frames.{pages_held, is_held, holds_nothing, are_all_among, AreOnce, Agree, numbered};
+ghost use Rattle.core_store.specs.Inside.{frames_of_all};
 
 use crate::frame::Frame;
 use cell_page::{Cell, Page, page_of};
@@ -21,25 +22,27 @@ pub(crate) struct HeldFrame<const SLOTS: usize> {
     pub(crate) frame: Frame<SLOTS>,
 }
 
-/// Up to three frames of different pages: those that a call works on.
+/// The frames that a call works on: up to three of different pages, or those of all pages.
 #[derive(Drop)]
 pub struct Three<const SLOTS: usize> {
-    /// The held ones come first.
+    /// The frames of the pages from 0 on, if they are all held.
+    all: Option<Vec<Frame<SLOTS>>>,
+    /// Those that were put, of which the first so many are held, behind all others.
     frames: [HeldFrame<SLOTS>; MOST],
     count: usize,
 }
 
 /// Contracts see the held frames in order, each with the number of its page.
 impl<const SLOTS: usize> Model for Three<SLOTS> {
-    ghost use Rattle.std.specs.Prelude.{List, take};
+    ghost use Rattle.std.specs.Prelude.{List};
     ghost use Rattle.core_store.specs.declared.three.HeldFrame.{HeldFrame};
-    ghost use Rattle.core_store.specs.Inside.{AreThreeInside};
+    ghost use Rattle.core_store.specs.Inside.{AreThreeInside, held_in};
 
     ghost Value = { List (HeldFrame SLOTS) };
 
-    ghost view = { λ s. take s.count s.frames };
+    ghost view = { λ s. held_in s.all s.frames s.count };
 
-    ghost invariant = { λ s. AreThreeInside s.frames s.count };
+    ghost invariant = { λ s. AreThreeInside s.all s.frames s.count };
 }
 
 /// The place of the frame of this page.
@@ -57,6 +60,67 @@ fn place_of<const SLOTS: usize>(frames: &[HeldFrame<SLOTS>], page: u16) -> usize
     frames.len()
 }
 
+/// The frames of all pages, if they are held.
+fn all_of<const SLOTS: usize>(all: &Option<Vec<Frame<SLOTS>>>) -> &[Frame<SLOTS>]
+    ensures { result.now ≡ frames_of_all all.now }
+{
+    match all {
+        Some(frames) => frames.as_slice(),
+        None => &[],
+    }
+}
+
+/// Puts a cell in the place of the one with the same id, in its page among the frames of all pages.
+fn put_in_all<const SLOTS: usize>(all: &mut Option<Vec<Frame<SLOTS>>>, cell: Cell<SLOTS>)
+    requires above { (0 < cell.id) × (cell.id < 65536) }
+    requires within { page_of_id cell.id < length (frames_of_all all.old) }
+    requires ids { (d : Frame SLOTS) → HasId (slice_index_or (frames_of_all all.old) (page_of_id cell.id) d).page cell.id }
+    requires rules { IsCell cell.id cell }
+    ensures put { (d : Frame SLOTS) → frames_of_all all.new ≡ slice_set (frames_of_all all.old) (page_of_id cell.entry.id) (record { page = slice_set (slice_index_or (frames_of_all all.old) (page_of_id cell.entry.id) d).page (place_in_page cell.entry.id) cell.entry }) }
+{
+    if let Some(frames) = all {
+        frames[page_of(cell.id) as usize].page.put_cell(cell);
+    }
+}
+
+/// Takes the last of the frames of all pages, with its page.
+fn take_of_all<const SLOTS: usize>(
+    all: &mut Option<Vec<Frame<SLOTS>>>,
+) -> Option<(u16, Frame<SLOTS>)>
+    requires { length (frames_of_all all.old) ≤ 65536 }
+    ensures last { IfSome result (λ r. (frames_of_all all.old ≡ frames_of_all all.new ++ r.1 ∷ []) × (r.0 ≡ length (frames_of_all all.new))) }
+    ensures none { IfNone result ((frames_of_all all.old ≡ []) × (frames_of_all all.new ≡ [])) }
+    ensures fewer { length (frames_of_all all.new) ≤ length (frames_of_all all.old) }
+{
+    let frames = all.as_mut()?;
+    let frame = frames.pop()?;
+    Some((frames.len() as u16, frame))
+}
+
+/// Whether the page of each of these frames, which are those of the pages from 0 on, is among these.
+fn are_all_pages_among<const SLOTS: usize>(frames: &[Frame<SLOTS>], pages: &[u16]) -> bool
+    requires { length frames.now ≤ 65536 }
+    ensures { result ≡ are_all_among (pages_held (numbered 0 frames.now)) pages.now }
+{
+    for page in 0..frames.len() {
+        if !pages.contains(&(page as u16)) {
+            return false;
+        }
+    }
+    true
+}
+
+/// Whether one of the frames is of this page.
+fn is_among<const SLOTS: usize>(frames: &[HeldFrame<SLOTS>], page: u16) -> bool
+    ensures { result ≡ is_held frames.now page }
+{
+    frames.iter().any(
+        |held| -> bool
+            ensures { result ≡ (held.now.page == page) }
+        { held.page == page },
+    )
+}
+
 /// Whether the page of each frame is among these.
 fn are_among<const SLOTS: usize>(frames: &[HeldFrame<SLOTS>], pages: &[u16]) -> bool
     ensures { result ≡ are_all_among (pages_held frames.now) pages.now }
@@ -70,10 +134,11 @@ fn are_among<const SLOTS: usize>(frames: &[HeldFrame<SLOTS>], pages: &[u16]) -> 
 }
 
 impl<const SLOTS: usize> Three<SLOTS> {
-    /// No frame is held.
-    pub fn new() -> Three<SLOTS>
-        requires { IsSlotCount SLOTS }
-        ensures { result ≡ [] }
+    /// The frames of all pages are held, or none.
+    fn with(all: Option<Vec<Frame<SLOTS>>>) -> Three<SLOTS>
+        requires size { IsSlotCount SLOTS }
+        requires few { length (frames_of_all all) ≤ 65536 }
+        ensures { result ≡ numbered 0 (frames_of_all all.entry) }
     {
         let blank = HeldFrame {
             page: 0,
@@ -82,15 +147,58 @@ impl<const SLOTS: usize> Three<SLOTS> {
             },
         };
         Three {
+            all,
             frames: [blank; MOST],
             count: 0,
         }
+    }
+
+    /// No frame is held.
+    pub fn new() -> Three<SLOTS>
+        requires { IsSlotCount SLOTS }
+        ensures { result ≡ [] }
+    {
+        Three::with(None)
+    }
+
+    /// The frames of all pages from 0 on are held, in order.
+    pub fn whole(frames: Vec<Frame<SLOTS>>) -> Three<SLOTS>
+        requires size { IsSlotCount SLOTS }
+        requires few { length frames.items ≤ 65536 }
+        ensures { result ≡ numbered 0 frames.entry.items }
+    {
+        Three::with(Some(frames))
+    }
+
+    /// Whether more than three frames are held, which are then those of all pages from 0 on.
+    pub fn is_whole(&self) -> bool
+        ensures { result ≡ nat_lt 3 (length self.now) }
+    {
+        all_of(&self.all).len() > MOST
+    }
+
+    /// The frames of all pages from 0 on, where more than three are held; else `None`.
+    pub fn all(&self) -> Option<&[Frame<SLOTS>]>
+        ensures all { IfSome result (λ frames. self.now ≡ numbered 0 frames.now) }
+        ensures some { is_some result ≡ nat_lt 3 (length self.now) }
+    {
+        let all = all_of(&self.all);
+        if all.len() > MOST { Some(all) } else { None }
+    }
+
+    /// The frames of all pages from 0 on, where more than three are held; else `None`.
+    pub fn into_all(self) -> Option<Vec<Frame<SLOTS>>>
+        ensures all { IfSome result (λ frames. self.entry ≡ numbered 0 frames.items) }
+        ensures some { is_some result ≡ nat_lt 3 (length self.entry) }
+    {
+        if self.is_whole() { self.all } else { None }
     }
 
     /// Lets all frames go.
     pub fn clear(&mut self)
         ensures { self.new ≡ [] }
     {
+        self.all = None;
         self.count = 0;
     }
 
@@ -100,8 +208,10 @@ impl<const SLOTS: usize> Three<SLOTS> {
         requires other { is_held self.old page ≡ false }
         ensures { self.new ≡ self.old ++ record { page = page; frame = frame.now } ∷ [] }
     {
-        self.frames[self.count].page = page;
-        self.frames[self.count].frame = *frame;
+        self.frames[self.count] = HeldFrame {
+            page,
+            frame: *frame,
+        };
         self.count += 1;
     }
 
@@ -112,13 +222,9 @@ impl<const SLOTS: usize> Three<SLOTS> {
         ensures last { IfSome result (λ page. (frame : Frame SLOTS) × (self.old ≡ self.new ++ record { page = page; frame = frame } ∷ []) × (frames.new ≡ slice_set frames.old page frame)) }
         ensures none { IfNone result ((self.old ≡ []) × (self.new ≡ []) × (frames.new ≡ frames.old)) }
     {
-        if self.count == 0 {
-            return None;
-        }
-        self.count -= 1;
-        let held = &self.frames[self.count];
-        frames[held.page as usize] = held.frame;
-        Some(held.page)
+        let (page, frame) = self.take()?;
+        frames[page as usize] = frame;
+        Some(page)
     }
 
     /// Lets the frame that was put last go, and gives it with its page; `None` exactly where none is held.
@@ -127,7 +233,7 @@ impl<const SLOTS: usize> Three<SLOTS> {
         ensures none { IfNone result ((self.old ≡ []) × (self.new ≡ [])) }
     {
         if self.count == 0 {
-            return None;
+            return take_of_all(&mut self.all);
         }
         self.count -= 1;
         let held = &self.frames[self.count];
@@ -139,25 +245,25 @@ impl<const SLOTS: usize> Three<SLOTS> {
         ensures exact { result ≡ holds_nothing self.now }
         ensures once { AreOnce self.now }
     {
-        self.count == 0
+        self.count == 0 && all_of(&self.all).is_empty()
     }
 
     /// Whether the page is held.
     pub(crate) fn holds(&self, page: u16) -> bool
         ensures { result ≡ is_held self.now page }
     {
-        self.frames[..self.count].iter().any(
-            |held| -> bool
-                ensures { result ≡ (held.now.page == page) }
-            { held.page == page },
-        )
+        if (page as usize) < all_of(&self.all).len() {
+            return true;
+        }
+        is_among(&self.frames[..self.count], page)
     }
 
     /// Whether each held page is among these.
     pub(crate) fn holds_only(&self, pages: &[u16]) -> bool
         ensures { result ≡ are_all_among (pages_held self.now) pages.now }
     {
-        are_among(&self.frames[..self.count], pages)
+        are_all_pages_among(all_of(&self.all), pages)
+            && are_among(&self.frames[..self.count], pages)
     }
 
     /// The cell of an id whose page is held.
@@ -169,7 +275,12 @@ impl<const SLOTS: usize> Three<SLOTS> {
         ensures id { result.now.id ≡ id }
         ensures rules { IsCell id result.now }
     {
-        let place = place_of(&self.frames[..self.count], page_of(id));
+        let page = page_of(id);
+        let all = all_of(&self.all);
+        if (page as usize) < all.len() {
+            return all[page as usize].page.cell(id);
+        }
+        let place = place_of(&self.frames[..self.count], page);
         self.frames[place].frame.page.cell(id)
     }
 
@@ -182,7 +293,12 @@ impl<const SLOTS: usize> Three<SLOTS> {
         ensures stored { (cells : List StoredCell) → Agree cells self.old → Agree (edit cells cell.entry.id (λ _. cell_of cell.entry)) self.new }
         ensures pages { pages_held self.new ≡ pages_held self.old }
     {
-        let place = place_of(&self.frames[..self.count], page_of(cell.id));
+        let page = page_of(cell.id);
+        if (page as usize) < all_of(&self.all).len() {
+            put_in_all(&mut self.all, cell);
+            return;
+        }
+        let place = place_of(&self.frames[..self.count], page);
         self.frames[place].frame.page.put_cell(cell);
     }
 }

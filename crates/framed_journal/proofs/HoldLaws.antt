@@ -58,6 +58,12 @@ none-let_go needed held e go = nothing-let_go needed (rw e at go)
 pub less_room : {slots : ℕ} (held new : List (HeldFrame slots)) (h : HeldFrame slots) → length held < 3 → new ≡ held ++ h ∷ [] → 3 - length new < 3 - length held
 less_room held new h room more = rw more (omega (arith, length-append held (h ∷ []), room))
 
+pub short-none : {slots : ℕ} (held : List (HeldFrame slots)) → held ≡ [] → length held ≤ 3
+short-none held e = rw e (omega arith)
+
+pub short-put : {slots : ℕ} (held new : List (HeldFrame slots)) (h : HeldFrame slots) → length held < 3 → new ≡ held ++ h ∷ [] → length new ≤ 3
+short-put held new h room more = rw more (omega (arith, length-append held (h ∷ []), room))
+
 -- where no page is wanted and none is to be let go, those that are needed are held
 pub wanted-ready : (wanted now : Want) → wanted ≡ now → ((page : ℕ) → wanted ≡ Page page → ⊥) → now ≢ LetGo → now ≡ Ready
 wanted-ready (Page page) now is none kept = absurd (none page refl)

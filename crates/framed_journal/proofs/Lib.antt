@@ -6,3 +6,4 @@ pub mod UndoLaws
 pub mod SizeLaws
 pub mod StopLaws
 pub mod UpkeepLaws
+pub mod WholeLaws

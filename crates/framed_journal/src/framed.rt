@@ -26,7 +26,10 @@ ghost use Rattle.framed_journal.specs.Holding.{AreFramesOf};
 ghost use Rattle.framed_journal.specs.Upkeep.{CleansPage};
 ghost use Rattle.framed_journal.specs.Steps.{CollectsNext, CollectsOnFrames, FillsLog, UndoesAll, with_undos};
 
-use crate::holding::{hold_for_abort_step, hold_for_call, hold_for_collect_step, put_back};
+use crate::holding::{
+    all_frames, held_between, hold_for_abort_step, hold_for_call, hold_for_collect_step,
+    into_frames, put_back,
+};
 use core_store::{AbortStep, Collect, Frame, Limits, Three};
 use disk_model::Disk;
 use gate_log::GateLog;
@@ -43,22 +46,22 @@ use std::marker::Model;
 #[derive(Drop)]
 pub struct FramedJournal<const SLOTS: usize, D: Disk> {
     logged: LoggedJournal<SLOTS, D>,
+    /// The frames of a store of at most three pages.
     frames: Vec<Frame<SLOTS>>,
-    /// The frames of the call that is made. Between calls none is held.
+    /// The frames of a larger store, which are all held for good; else those of the call that is made, and none between calls.
     held: Three<SLOTS>,
 }
 
 /// Contracts see the journal and its log. The frames are the pages of its store.
 impl<const SLOTS: usize, D: Disk> Model for FramedJournal<SLOTS, D> {
-    ghost use Rattle.std.specs.Prelude.{◌≡◌, []};
     ghost use Rattle.logged_journal.specs.View.{LoggedView};
-    ghost use Rattle.framed_journal.specs.Holding.{AreFramesOf};
+    ghost use Rattle.framed_journal.specs.Holding.{AreFramesIn};
 
     ghost Value = { LoggedView D };
 
     ghost view = { λ s. s.logged };
 
-    ghost invariant = { λ s. AreFramesOf s.logged.journal s.frames.items × (s.held ≡ []) };
+    ghost invariant = { λ s. AreFramesIn s.logged.journal s.frames.items s.held };
 }
 
 impl<const SLOTS: usize, D: Disk> FramedJournal<SLOTS, D> {
@@ -96,10 +99,11 @@ impl<const SLOTS: usize, D: Disk> FramedJournal<SLOTS, D> {
         ensures back { IfErr result (λ e. e.1 ≡ disk) }
     {
         let logged = LoggedJournal::resume(alloc, disk, log, marks, frames.as_slice(), limits)?;
+        let (frames, held) = held_between(alloc, frames);
         Ok(FramedJournal {
             logged,
             frames,
-            held: Three::new(),
+            held,
         })
     }
 
@@ -115,7 +119,7 @@ impl<const SLOTS: usize, D: Disk> FramedJournal<SLOTS, D> {
     pub fn frames(&self) -> &[Frame<SLOTS>]
         ensures { AreFramesOf self.now.journal result.now }
     {
-        self.frames.as_slice()
+        all_frames(&self.frames, &self.held)
     }
 
     /// Does the call, adds its entry and answers what the entry says. What it changed joins the log with it, and a commit
@@ -255,7 +259,8 @@ impl<const SLOTS: usize, D: Disk> FramedJournal<SLOTS, D> {
         ensures moments { LeavesOnlyImages D.moment D.left_since self.old.disk self.new.disk (MayHaveAll self.old) }
         ensures opens { LeavesOnlyImages D.moment D.left_since self.old.disk self.new.disk (OpensAfter SLOTS (history_of self.old)) }
     {
-        self.logged.clean(&self.frames[page as usize], page)
+        let frames = all_frames(&self.frames, &self.held);
+        self.logged.clean(&frames[page as usize], page)
     }
 
     /// Turns the log: images of all pages that changed since it began join it where none is current, it is forced, and each of
@@ -291,7 +296,7 @@ impl<const SLOTS: usize, D: Disk> FramedJournal<SLOTS, D> {
         ensures moments { LeavesOnlyImages D.moment D.left_since self.old.disk self.new.disk (MayHaveAll self.old) }
         ensures opens { LeavesOnlyImages D.moment D.left_since self.old.disk self.new.disk (OpensAfter SLOTS (history_of self.old)) }
     {
-        self.logged.turn(self.frames.as_slice())
+        self.logged.turn(all_frames(&self.frames, &self.held))
     }
 
     /// The journal with its log, without the frames.
@@ -306,6 +311,6 @@ impl<const SLOTS: usize, D: Disk> FramedJournal<SLOTS, D> {
         ensures logged { result.0 ≡ self }
         ensures frames { AreFramesOf self.journal result.1.items }
     {
-        (self.logged, self.frames)
+        (self.logged, into_frames(self.frames, self.held))
     }
 }

@@ -6,10 +6,10 @@ ghost use Rattle.disk_model.specs.Time.{LeavesOnlyImages};
 ghost use Rattle.cell_page.specs.Format.{IsSlotCount};
 ghost use Rattle.cell_page.specs.Stored.{HoldsPage};
 ghost use Rattle.core_store.specs.declared.three.HeldFrame.{HeldFrame};
-ghost use Rattle.core_store.specs.Frames.{Agree, AllAgree, is_held, pages_held};
+ghost use Rattle.core_store.specs.Frames.{Agree, AllAgree, HasPages, is_held};
 ghost use Rattle.core_store.specs.JournalView.{cells_of};
 ghost use Rattle.core_store.specs.Limited.{pages_for_call};
-ghost use Rattle.core_store.specs.Logged.{pages_for_undo, want_of};
+ghost use Rattle.core_store.specs.Logged.{pages_for_undo};
 ghost use Rattle.core_store.specs.Replaced.{next_to_restore};
 ghost use Rattle.logged_journal.specs.View.{KeepsLog, history_of};
 ghost use Rattle.logged_journal.specs.Records.{MayHave};
@@ -20,7 +20,7 @@ ghost use Rattle.journal_chronicle.specs.View.{origin_of, notes_of, history_afte
 ghost use Rattle.journal_chronicle.specs.Steps.{entered_by_call, marked_by_call, entered_by_abort_step, marked_by_abort_step, GoesOnWith};
 
 use crate::origin::JournalOrigin;
-use core_store::{AbortStep, Frame, Note, Three, Want};
+use core_store::{AbortStep, Frame, Note, Three};
 use disk_model::Disk;
 use latch_table::Chronicle;
 use logged_journal::{LoggedJournal, Stopped};
@@ -158,7 +158,7 @@ impl<const SLOTS: usize, D: Disk> JournalChronicle<SLOTS, D> {
         requires in_range { IsInRange SLOTS call.now }
         requires no_abort { call.now ≡ Call.Abort → transaction_of (end_of self.old.journal.history).state pass ≡ None }
         requires agree { Agree (cells_of self.old.journal) held.old }
-        requires ready { want_of (pages_for_call self.old.journal pass call.now) (pages_held held.old) ≡ Want.Ready }
+        requires ready { HasPages self.old.journal.history.ids (pages_for_call self.old.journal pass call.now) held.old }
 
         // A call that is answered that it was done or refused, or that the disk failed it, enters that, and changes no frames but
         // the held ones. Any other one leaves the notes, and the held frames.
@@ -206,7 +206,7 @@ impl<const SLOTS: usize, D: Disk> JournalChronicle<SLOTS, D> {
     pub fn abort_step(&mut self, held: &mut Three<SLOTS>, pass: u8) -> Result<AbortStep, Stopped>
         requires active { IsSome (transaction_of (end_of self.old.journal.history).state pass) }
         requires agree { Agree (cells_of self.old.journal) held.old }
-        requires ready { want_of (pages_for_undo (cells_of self.old.journal) (next_to_restore (end_of self.old.journal.history) pass)) (pages_held held.old) ≡ Want.Ready }
+        requires ready { HasPages self.old.journal.history.ids (pages_for_undo (cells_of self.old.journal) (next_to_restore (end_of self.old.journal.history) pass)) held.old }
 
         // Where the store isn't stopped, the step enters its entry, and changes no frames but the held ones.
         ensures chronicle { GoesOnWith SLOTS (is_held held.old) self.old self.new (entered_by_abort_step pass result) (marked_by_abort_step result) }

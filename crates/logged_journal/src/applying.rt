@@ -3,10 +3,10 @@ ghost use Rattle.std.specs.Prelude.{◌≡◌, ◌≢◌, ◌↔◌, ℕ, ◌≤
 ghost use Rattle.plain_model.specs.Machine.{IsInRange, refusal_of, transaction_of};
 ghost use Rattle.plain_model.specs.History.{end_of};
 ghost use Rattle.disk_model.specs.Time.{LeavesOnlyImages};
-ghost use Rattle.core_store.specs.Frames.{Agree, pages_held};
+ghost use Rattle.core_store.specs.Frames.{Agree, HasPages};
 ghost use Rattle.core_store.specs.JournalView.{cells_of};
 ghost use Rattle.core_store.specs.Limited.{AreLimits, is_past_limit, pages_for_call};
-ghost use Rattle.core_store.specs.Logged.{pages_for_undo, want_of};
+ghost use Rattle.core_store.specs.Logged.{pages_for_undo};
 ghost use Rattle.core_store.specs.Owed.{bytes_needed, entries_needed};
 ghost use Rattle.core_store.specs.Replaced.{next_to_restore};
 ghost use Rattle.logged_journal.specs.View.{IsPast, KeepsLog};
@@ -17,7 +17,7 @@ ghost use Rattle.logged_journal.specs.Calls.{IsOfJournal, IsGranted, IsPastLog, 
 use crate::failed::{FailedCall, Stopped};
 use crate::logged::LoggedJournal;
 use crate::spell::{append_last, append_record};
-use core_store::{AbortStep, Three, Want, bytes_needed};
+use core_store::{AbortStep, Three, bytes_needed};
 use disk_model::Disk;
 use log_record::CellRecord;
 use plain_model::{Call, Reply};
@@ -29,7 +29,7 @@ impl<const SLOTS: usize, D: Disk> LoggedJournal<SLOTS, D> {
         requires in_range { IsInRange SLOTS call.now }
         requires no_abort { call.now ≡ Call.Abort → transaction_of (end_of self.old.journal.history).state pass ≡ None }
         requires agree { Agree (cells_of self.old.journal) held.old }
-        requires ready { want_of (pages_for_call self.old.journal pass call.now) (pages_held held.old) ≡ Want.Ready }
+        requires ready { HasPages self.old.journal.history.ids (pages_for_call self.old.journal pass call.now) held.old }
         requires running { self.old.failed ≡ None }
         requires refused { IsGranted self.old.journal pass call.now → ⊥ }
         ensures journal { IsOfJournal result }
@@ -62,7 +62,7 @@ impl<const SLOTS: usize, D: Disk> LoggedJournal<SLOTS, D> {
         requires in_range { IsInRange SLOTS call.now }
         requires no_abort { call.now ≡ Call.Abort → transaction_of (end_of self.old.journal.history).state pass ≡ None }
         requires agree { Agree (cells_of self.old.journal) held.old }
-        requires ready { want_of (pages_for_call self.old.journal pass call.now) (pages_held held.old) ≡ Want.Ready }
+        requires ready { HasPages self.old.journal.history.ids (pages_for_call self.old.journal pass call.now) held.old }
         requires running { self.old.failed ≡ None }
         requires history { is_past_limit self.old.journal (entries_needed call.now) ≡ false }
         requires other { call.now ≢ Call.Commit }
@@ -99,7 +99,7 @@ impl<const SLOTS: usize, D: Disk> LoggedJournal<SLOTS, D> {
     fn commit(&mut self, held: &mut Three<SLOTS>, pass: u8) -> Reply
         requires client { (1 ≤ pass) × (pass ≤ 64) }
         requires agree { Agree (cells_of self.old.journal) held.old }
-        requires ready { want_of (pages_for_call self.old.journal pass Call.Commit) (pages_held held.old) ≡ Want.Ready }
+        requires ready { HasPages self.old.journal.history.ids (pages_for_call self.old.journal pass Call.Commit) held.old }
         requires running { self.old.failed ≡ None }
         requires granted { IsGranted self.old.journal pass Call.Commit }
         ensures done { IsOfJournal result → (result ≡ Reply.Done) × (self.new.durable ≡ length self.new.journal.notes) }
@@ -139,7 +139,7 @@ impl<const SLOTS: usize, D: Disk> LoggedJournal<SLOTS, D> {
         requires in_range { IsInRange SLOTS call.now }
         requires no_abort { call.now ≡ Call.Abort → transaction_of (end_of self.old.journal.history).state pass ≡ None }
         requires agree { Agree (cells_of self.old.journal) held.old }
-        requires ready { want_of (pages_for_call self.old.journal pass call.now) (pages_held held.old) ≡ Want.Ready }
+        requires ready { HasPages self.old.journal.history.ids (pages_for_call self.old.journal pass call.now) held.old }
         ensures stopped { IfSome self.old.failed (λ f. (result ≡ Reply.Stopped f.faults) × (self.new ≡ self.old) × (held.new ≡ held.old)) }
         ensures only_stopped { (faults : ℕ) → result ≡ Reply.Stopped faults → IsSome self.old.failed }
         ensures log_full { (result ≡ Reply.LogFull) ↔ IsPastLog self.old pass call.now }
@@ -193,7 +193,7 @@ impl<const SLOTS: usize, D: Disk> LoggedJournal<SLOTS, D> {
     pub fn abort_step(&mut self, held: &mut Three<SLOTS>, pass: u8) -> Result<AbortStep, Stopped>
         requires active { IsSome (transaction_of (end_of self.old.journal.history).state pass) }
         requires agree { Agree (cells_of self.old.journal) held.old }
-        requires ready { want_of (pages_for_undo (cells_of self.old.journal) (next_to_restore (end_of self.old.journal.history) pass)) (pages_held held.old) ≡ Want.Ready }
+        requires ready { HasPages self.old.journal.history.ids (pages_for_undo (cells_of self.old.journal) (next_to_restore (end_of self.old.journal.history) pass)) held.old }
         ensures stopped { IfSome self.old.failed (λ f. (IsErrOf result (record { faults = f.faults })) × (self.new ≡ self.old) × (held.new ≡ held.old)) }
         ensures only_stopped { IfErr result (λ _. IsSome self.old.failed) }
         ensures does { IfOk result (λ step. DoesAbortStep SLOTS self.old.journal self.new.journal pass step) }

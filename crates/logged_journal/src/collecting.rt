@@ -1,6 +1,6 @@
 //! The collector's steps of a journal with its log.
 ghost use Rattle.std.specs.Prelude.{◌≡◌, ◌⊎◌, ◌↔◌, ℕ, ◌<◌, [], true, false, IfOk, IfSome, IsErrOf, IsSome, None};
-ghost use Rattle.core_store.specs.Frames.{Agree, IsNext, pages_held};
+ghost use Rattle.core_store.specs.Frames.{Agree, HoldsAll, IsNext, pages_held};
 ghost use Rattle.core_store.specs.JournalView.{cells_of};
 ghost use Rattle.core_store.specs.Limited.{AreLimits, is_past_limit, pages_for_collector};
 ghost use Rattle.core_store.specs.Logged.{want_of};
@@ -30,6 +30,20 @@ impl<const SLOTS: usize, D: Disk> LoggedJournal<SLOTS, D> {
         ensures left { (self.new.journal.round ≡ self.old.journal.round) ⊎ (left_of SLOTS self.new.journal.round < left_of SLOTS self.old.journal.round) }
     {
         self.journal.wants_collect_step(held)
+    }
+
+    /// Looks at what the held pages show, and goes on where there is nothing to do, up to the collector's next event. All pages
+    /// of the store are held.
+    ///
+    /// Nothing else changes, and no event is made.
+    pub fn look_on(&mut self, held: &Three<SLOTS>)
+        requires agree { Agree (cells_of self.old.journal) held.now }
+        requires all { HoldsAll self.old.journal.history.ids held.now }
+        ensures ready { IsReadyForCollector self.new.journal held.now }
+        ensures looks { OnlyLooks SLOTS self.old.journal self.new.journal }
+        ensures same { self.new ≡ record self.old { journal = self.new.journal } }
+    {
+        self.journal.look_on(held);
     }
 
     /// A step of the collector that makes no event. It logs nothing.

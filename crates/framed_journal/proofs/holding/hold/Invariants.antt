@@ -1,4 +1,4 @@
-use Rattle.std.proofs.Common.{◌≢◌, ◌-◌, length}
+use Rattle.std.proofs.Common.{◌≢◌, ◌-◌, ◌≤◌, length}
 use Rattle.core_store.specs.declared.want.Want.TheVariants.{LetGo}
 use Rattle.core_store.specs.Frames.{pages_held}
 use Rattle.core_store.specs.JournalView.{cells_of}
@@ -11,6 +11,7 @@ use Rattle.framed_journal.proofs.holding.hold.Given as goal
 abbrev pub invariant-pages : goal.invariant-pages
 invariant-pages g l = record {
   held : AreHeldOf l.journal l.held;
+  few : length l.held ≤ 3;
   needed : want_of (pages_of_work (cells_of l.journal) l.work) (pages_held l.held) ≢ LetGo;
 }
 

@@ -2,10 +2,11 @@ use Rattle.std.proofs.Common.{◌≡◌, false, sym, ap, ◌∙◌, subst}
 use Rattle.core_store.specs.Frames.{Agree, IsNext, pages_held}
 use Rattle.core_store.specs.JournalView.{JournalView, cells_of, core_of}
 use Rattle.core_store.specs.Journal.{view_of}
-use Rattle.core_store.specs.Limited.{is_past_limit}
+use Rattle.core_store.specs.Limited.{is_past_limit, pages_for_collector}
 use Rattle.core_store.specs.Logged.{want_of}
 use Rattle.core_store.specs.RoundView.{none}
 use Rattle.core_store.proofs.AskLaws.{collector-within}
+use Rattle.core_store.proofs.WantLaws.{ready-has}
 use Rattle.core_store.proofs.JournalLooks.{looked-ids, looked-sound, looked-view, looked-core, looked-passes, looked-left}
 use Rattle.core_store.proofs.journal.Journal.wants_collect_step.Given.{Over}
 use Rattle.core_store.proofs.journal.Journal.wants_collect_step.Goals as goal
@@ -32,7 +33,7 @@ returns-clause-exact g c =
 pub returns-clause-ready : goal.returns-clause-ready
 returns-clause-ready g c = λ e.
     let agree = subst (λ (j : JournalView). Agree (cells_of j) c.args.held.now) (sym c.self.view_is) c.requires.agree in
-    record { pages = sym (returns-clause-exact g c) ∙ e; event = λ _. c.wants_collect_step.ensures.event (core_of (view_of c.self.inside)) c.self.invariant.keeps.stands agree e }
+    record { pages = ready-has (view_of (record { alloc = c.self.inside.alloc; opening = c.self.inside.opening; trace = c.self.inside.trace; tables = c.wants_collect_step.new.self })).history.ids (pages_for_collector (view_of (record { alloc = c.self.inside.alloc; opening = c.self.inside.opening; trace = c.self.inside.trace; tables = c.wants_collect_step.new.self }))) c.args.held.now (sym (returns-clause-exact g c) ∙ e); event = λ _. c.wants_collect_step.ensures.event (core_of (view_of c.self.inside)) c.self.invariant.keeps.stands agree e }
 
 pub returns-clause-next : goal.returns-clause-next
 returns-clause-next g c = λ page e.

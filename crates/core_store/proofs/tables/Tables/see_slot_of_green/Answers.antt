@@ -10,7 +10,6 @@ use Rattle.core_store.specs.Slots.{HoldsPagesOf}
 use Rattle.core_store.specs.RoundView.{Rounds}
 use Rattle.core_store.specs.Views.{view_of}
 use Rattle.core_store.proofs.CollectedLaws.{mark-of_live}
-use Rattle.core_store.proofs.ReadyRound.{ready-pages}
 use Rattle.core_store.proofs.SlotStart.{old-of}
 use Rattle.core_store.proofs.SeenLaws.{green-of, marked, waiting-live, work-at, out-testable, out-passed}
 use Rattle.core_store.proofs.tables.Tables.see_slot_of_green.Goals as goal
@@ -21,7 +20,7 @@ cell-requires g c =
     let r = c.requires.ready in
     let held = c.args.held.now in
     let small : g.row.SLOTS ≤ 14 = ⊎_elim (λ six. omega arith) (λ fourteen. omega arith) r.stands.counted in
-    let pages = subst (λ (a : RoundAt). HoldsPagesOf held (objects_at r.core.cells a)) c.requires.at (ready-pages r.core.cells c.args.self.now.round.view held r.pages) in
+    let pages = subst (λ (a : RoundAt). HoldsPagesOf held (objects_at r.core.cells a)) c.requires.at r.pages in
     let work = work-at r.stands (at.Out c.args.from c.args.slot) c.requires.at in
     (search rules, (search rules, ((work.above, work.small), (pages.0, (r.core.cells, r.agree)))))
 

@@ -5,7 +5,6 @@ use Rattle.core_store.specs.Collecting.{objects_at}
 use Rattle.core_store.specs.Slots.{HoldsPagesOf}
 use Rattle.core_store.specs.RoundView.{Rounds}
 use Rattle.core_store.proofs.PlanWork.{small-targets}
-use Rattle.core_store.proofs.ReadyRound.{ready-pages}
 use Rattle.core_store.proofs.SeenLaws.{green-of, work-at, test-nothing, test-passed}
 use Rattle.core_store.proofs.tables.Tables.see_slot_of_test.Goals as goal
 
@@ -15,7 +14,7 @@ is_strong-requires g c =
     let held = c.args.held.now in
     let view = c.args.self.now.round.view in
     let small : g.row.SLOTS ≤ 14 = ⊎_elim (λ six. omega arith) (λ fourteen. omega arith) r.stands.counted in
-    let pages = subst (λ (a : RoundAt). HoldsPagesOf held (objects_at r.core.cells a)) c.requires.at (ready-pages r.core.cells view held r.pages) in
+    let pages = subst (λ (a : RoundAt). HoldsPagesOf held (objects_at r.core.cells a)) c.requires.at r.pages in
     (search rules, (r.stands.counted, (work-at r.stands (at.Test c.args.id c.args.slot) c.requires.at, (r.core.cells, r.agree, small-targets r.stands, pages))))
 
 pub found-requires : goal.found-requires

@@ -50,10 +50,11 @@ look_past-requires g c =
     let small : g.row.SLOTS ≤ 14 = ⊎_elim (λ six. omega arith) (λ fourteen. omega arith) r.stands.counted in
     let held = c.args.held.now in
     let h = c.next_look-at.ensures.stands r.core (c.looks.invariant.stands r.core r.stands r.agree) r.agree in
+    let view = c.next_look-at.new.self.round.view in
     let ready : c.wanted-want.result ≡ Ready = search rules in
     let wants = ap (λ (o : Option Work). want_of (pages_of_work r.core.cells o) (pages_held held)) (sym (c.work_at.ensures ∙ ap work_at c.next_look-at.ensures.at)) ∙ (sym (c.wanted-want.ensures.exact r.core.cells r.agree) ∙ ready) in
     let nothing = ap (is_event r.core.cells) (sym c.next_look-at.ensures.at) ∙ (sym (c.is_event.ensures r.core.cells r.agree) ∙ c.if-is_event.false) in
-    (search rules, (search rules, (c.next_look-at.ensures.at, record { core = r.core; stands = h; agree = r.agree; pages = wants; none = nothing })))
+    (search rules, (search rules, (c.next_look-at.ensures.at, record { core = r.core; stands = h; agree = r.agree; pages = ready-pages r.core.cells view held wants; none = nothing })))
 
 pub next_look-at-requires : goal.next_look-at-requires
 next_look-at-requires g c =

@@ -3,10 +3,9 @@ use Rattle.std.specs.Prelude.{IsSome}
 use Rattle.plain_model.specs.Machine.{transaction_of}
 use Rattle.plain_model.specs.History.{end_of}
 use Rattle.gate_log.specs.State.{LogState}
-use Rattle.core_store.specs.declared.want.Want.TheVariants.{Ready}
 use Rattle.core_store.specs.JournalView.{cells_of}
-use Rattle.core_store.specs.Frames.{Agree, pages_held}
-use Rattle.core_store.specs.Logged.{pages_for_undo, want_of}
+use Rattle.core_store.specs.Frames.{Agree, HasPages}
+use Rattle.core_store.specs.Logged.{pages_for_undo}
 use Rattle.core_store.specs.Replaced.{next_to_restore}
 use Rattle.logged_journal.specs.Inside.{view_of}
 use Rattle.logged_journal.specs.View.{LoggedView}
@@ -71,7 +70,7 @@ abort_step-step-requires g c =
           subst (λ (v : LoggedView g.row.D.Denot). IsSome (transaction_of (end_of v.journal.history).state c.args.pass)) (sym c.self.view_is) c.requires.active,
           (
             subst (λ (v : LoggedView g.row.D.Denot). Agree (cells_of v.journal) c.args.held.now) (sym c.self.view_is) c.requires.agree,
-            subst (λ (v : LoggedView g.row.D.Denot). want_of (pages_for_undo (cells_of v.journal) (next_to_restore (end_of v.journal.history) c.args.pass)) (pages_held c.args.held.now) ≡ Ready) (sym c.self.view_is) c.requires.ready,
+            subst (λ (v : LoggedView g.row.D.Denot). HasPages v.journal.history.ids (pages_for_undo (cells_of v.journal) (next_to_restore (end_of v.journal.history) c.args.pass)) c.args.held.now) (sym c.self.view_is) c.requires.ready,
           ),
         ),
       ),

@@ -18,11 +18,10 @@ use Rattle.gate_log.specs.State.{LogState, forced, failed, used}
 use Rattle.gate_log.specs.OnDisk.{with_batch, IsOn, HasEither}
 use Rattle.core_store.specs.declared.act.Act.TheVariants.{Other}
 use Rattle.core_store.specs.declared.note.Note.{Note}
-use Rattle.core_store.specs.declared.want.Want.TheVariants as want
-use Rattle.core_store.specs.Frames.{Agree, pages_held}
+use Rattle.core_store.specs.Frames.{Agree, HasPages}
 use Rattle.core_store.specs.Limited.{pages_for_call}
 use Rattle.core_store.specs.JournalView.{cells_of}
-use Rattle.core_store.specs.Logged.{logged_by, want_of}
+use Rattle.core_store.specs.Logged.{logged_by}
 use Rattle.core_store.specs.Owed.{bytes_owed}
 use Rattle.core_store.specs.RoundView.{left_of}
 use Rattle.core_store.specs.Steppings.{IsEntered}
@@ -140,7 +139,7 @@ apply-reply-requires g c =
               (λ e. absurd (cc (e))),
               (
                 subst (λ (v : LoggedView g.row.D.Denot). Agree (cells_of v.journal) c.args.held.now) (sym c.self.view_is) c.requires.agree,
-                subst (λ (v : LoggedView g.row.D.Denot). want_of (pages_for_call v.journal c.args.pass call.Commit) (pages_held c.args.held.now) ≡ want.Ready) (sym c.self.view_is) c.requires.ready,
+                subst (λ (v : LoggedView g.row.D.Denot). HasPages v.journal.history.ids (pages_for_call v.journal c.args.pass call.Commit) c.args.held.now) (sym c.self.view_is) c.requires.ready,
               ),
             ),
           ),

@@ -8,11 +8,9 @@ use Rattle.plain_model.specs.Machine.{transaction_of}
 use Rattle.plain_model.specs.History.{end_of}
 use Rattle.plain_laws.specs.Sound.{PassesAscend}
 use Rattle.gate_log.specs.State.{LogState, used, appended}
-use Rattle.core_store.specs.declared.want.Want.TheVariants as want
-use Rattle.core_store.specs.Frames.{Agree, pages_held}
+use Rattle.core_store.specs.Frames.{Agree, HasPages}
 use Rattle.core_store.specs.JournalView.{JournalView, cells_of}
 use Rattle.core_store.specs.Limited.{AreLimits, is_past_limit, pages_for_call}
-use Rattle.core_store.specs.Logged.{want_of}
 use Rattle.core_store.specs.Owed.{bytes_owed, bytes_needed, entries_needed}
 use Rattle.core_store.specs.Steppings.{IsEntered}
 use Rattle.logged_journal.specs.Inside.{view_of}
@@ -93,7 +91,7 @@ apply-requires g c =
               subst (λ (v : LoggedView g.row.D.Denot). c.args.call.now ≡ call.Abort → transaction_of (end_of v.journal.history).state c.args.pass ≡ None) (sym c.self.view_is) c.requires.no_abort,
               (
                 subst (λ (v : LoggedView g.row.D.Denot). Agree (cells_of v.journal) c.args.held.now) (sym c.self.view_is) c.requires.agree,
-                subst (λ (v : LoggedView g.row.D.Denot). want_of (pages_for_call v.journal c.args.pass c.args.call.now) (pages_held c.args.held.now) ≡ want.Ready) (sym c.self.view_is) c.requires.ready,
+                subst (λ (v : LoggedView g.row.D.Denot). HasPages v.journal.history.ids (pages_for_call v.journal c.args.pass c.args.call.now) c.args.held.now) (sym c.self.view_is) c.requires.ready,
               ),
             ),
           ),

@@ -2,11 +2,9 @@ use Rattle.std.proofs.Common.{◌≡◌, ◌≤◌, ⊎_elim, None, sym, ap, ◌
 use Rattle.plain_model.specs.declared.calls.Call.TheVariants as call
 use Rattle.plain_model.specs.Machine.{transaction_of}
 use Rattle.plain_model.specs.History.{end_of}
-use Rattle.core_store.specs.declared.want.Want.TheVariants as want
-use Rattle.core_store.specs.Frames.{Agree, pages_held}
+use Rattle.core_store.specs.Frames.{Agree, HasPages}
 use Rattle.core_store.specs.JournalView.{cells_of}
 use Rattle.core_store.specs.Limited.{pages_for_call}
-use Rattle.core_store.specs.Logged.{want_of}
 use Rattle.logged_journal.specs.Inside.{view_of}
 use Rattle.logged_journal.specs.View.{LoggedView}
 use Rattle.logged_journal.specs.Calls.{DoesCall, IsGranted, KeepsFrames, GoesOn}
@@ -28,7 +26,7 @@ apply-requires g c =
               subst (λ (v : LoggedView g.row.D.Denot). c.args.call.now ≡ call.Abort → transaction_of (end_of v.journal.history).state c.args.pass ≡ None) (sym c.self.view_is) c.requires.no_abort,
               (
                 subst (λ (v : LoggedView g.row.D.Denot). Agree (cells_of v.journal) c.args.held.now) (sym c.self.view_is) c.requires.agree,
-                subst (λ (v : LoggedView g.row.D.Denot). want_of (pages_for_call v.journal c.args.pass c.args.call.now) (pages_held c.args.held.now) ≡ want.Ready) (sym c.self.view_is) c.requires.ready,
+                subst (λ (v : LoggedView g.row.D.Denot). HasPages v.journal.history.ids (pages_for_call v.journal c.args.pass c.args.call.now) c.args.held.now) (sym c.self.view_is) c.requires.ready,
               ),
             ),
           ),

@@ -5,6 +5,7 @@ use Rattle.plain_model.specs.Machine.{transaction_of}
 use Rattle.plain_model.specs.History.{end_of}
 use Rattle.core_store.specs.declared.want.Want.TheVariants.{Ready}
 use Rattle.core_store.specs.Frames.{pages_held}
+use Rattle.core_store.proofs.WantLaws.{ready-has}
 use Rattle.core_store.specs.JournalView.{JournalView, cells_of}
 use Rattle.core_store.specs.Limited.{pages_for_call}
 use Rattle.core_store.specs.Logged.{want_of}
@@ -67,7 +68,8 @@ apply-reply-requires-after_bounds g c κs within =
     let running : j.failed ≡ None = sym (ap (λ (v : LoggedView g.row.D.Denot). v.failed) c.logged.ensures.logged) ∙ (sym c.failed.ensures.failed ∙ c.in_default.is) in
     let held = c.in_default-claim_for_work.ensures.held in
     let pages = subst (λ (x : JournalView). pages_of_work (cells_of x) c.work-work.result ≡ pages_for_call x c.args.client c.args.call.now) same c.work-work.ensures.pages in
-    let ready = subst (λ (ps : List ℕ). want_of ps (pages_held c.claim_for_work.new.held) ≡ Ready) pages c.in_default-claim_for_work.ensures.ready in (
+    let ready = subst (λ (ps : List ℕ). want_of ps (pages_held c.claim_for_work.new.held) ≡ Ready) pages c.in_default-claim_for_work.ensures.ready in
+    let has = ready-has j.journal.history.ids (pages_for_call j.journal c.args.client c.args.call.now) c.claim_for_work.new.held ready in (
       search rules,
       (
         search rules,
@@ -77,7 +79,7 @@ apply-reply-requires-after_bounds g c κs within =
             c.requires.in_range,
             (
               (λ e. none-active j c.args.client (c.know_history.ensures.clients c.args.client) (c.know_history.ensures.running running) (c.requires.no_abort e)),
-              (held.agree, ready),
+              (held.agree, has),
             ),
           ),
         ),

@@ -3,6 +3,7 @@ use Rattle.std.specs.Prelude.{IfSome, is_some}
 use Rattle.plain_model.specs.History.{end_of}
 use Rattle.core_store.specs.declared.want.Want.TheVariants.{Ready}
 use Rattle.core_store.specs.Frames.{pages_held}
+use Rattle.core_store.proofs.WantLaws.{ready-has}
 use Rattle.core_store.specs.JournalView.{JournalView, cells_of}
 use Rattle.core_store.specs.Logged.{pages_for_undo, want_of}
 use Rattle.core_store.specs.Replaced.{next_to_restore}
@@ -54,7 +55,8 @@ abort_step-step-requires-after_bounds g c κs within =
     let held = c.in_default-claim_for_work.ensures.held in
     let pages = subst (λ (x : JournalView). pages_of_work (cells_of x) c.undo_work-work.result ≡ pages_for_undo (cells_of x) (next_to_restore (end_of x.history) c.args.client)) same c.undo_work-work.ensures.pages in
     let ready = subst (λ (ps : List ℕ). want_of ps (pages_held c.claim_for_work.new.held) ≡ Ready) pages c.in_default-claim_for_work.ensures.ready in
-    (search rules, (search rules, (active, (held.agree, ready))))
+    let has = ready-has j.journal.history.ids (pages_for_undo (cells_of j.journal) (next_to_restore (end_of j.journal.history) c.args.client)) c.claim_for_work.new.held ready in
+    (search rules, (search rules, (active, (held.agree, has))))
 
 pub returns-in-Ok-clause-acts : goal.returns-in-Ok-clause-acts
 returns-in-Ok-clause-acts g c =

@@ -8,8 +8,7 @@ use Rattle.shared_store.specs.Calls.{GoesOnAs, MakesCollect, entered_by_collecti
 use Rattle.shared_store.proofs.Acting.{has-journal, to-drop}
 use Rattle.shared_store.proofs.Collects.{collect-speaks, txn-collect, marked-collect}
 use Rattle.shared_store.proofs.Kept.{act-seen}
-use Rattle.shared_store.proofs.Passing.{IsDone, done-comes, done-pass}
-use Rattle.shared_store.proofs.store.Store.collect_step.Given.{Over}
+use Rattle.shared_store.proofs.Passing.{done-comes, done-pass}
 use Rattle.shared_store.proofs.store.Store.collect_step.Goals as goal
 
 pub act_collect_step-step-requires-after_bounds : goal.act_collect_step-step-requires-after_bounds
@@ -36,28 +35,13 @@ finish-pass-inside-requires-after_bounds g c κs within =
     let seen = c.pass.invariant.seen_is ∙ (sym (ap (λ v. v.knowledge.seen) c.in-Ok.ensures.ok.0) ∙ sym (act-seen g.row.SLOTS v1 w c.in-Ok.journal c.act_collect_step-step.new.journal c.act_collect_step-step.new.held (entered_by_collecting r) (marked_by_collecting r) (found_by_collecting r) a)) in
     (search rules, (search rules, (search rules, (search rules, (search rules, (c.act_collect_step-step.ensures.of, (drop, seen)))))))
 
-done : (g : Over) (c : goal.After-pass-1 g)
-    → IsDone g.row.SLOTS c.pass.inside.hold.view c.finish-pass-inside.new.hold.view c.in-Ok.journal c.act_collect_step-step.new.journal (entered_by_collecting c.act_collect_step-step.result) (marked_by_collecting c.act_collect_step-step.result) (found_by_collecting c.act_collect_step-step.result)
-done g c = record {
-  claimed = c.claim_log.new.hold.view;
-  worked = c.act_collect_step-step.new.hold.view;
-  held = c.act_collect_step-step.new.held;
-  tells = c.is_entered-entered.result;
-  claim = c.in-Ok.ensures.ok.0;
-  later = c.in-Ok.ensures.ok.1;
-  acts = c.act_collect_step-step.ensures.acts;
-  iff = c.is_entered-entered.ensures;
-  told = c.finish-pass-inside.ensures.told;
-  same = c.finish-pass-inside.ensures.same;
-}
-
 pub invariant_of-pass-2 : goal.invariant_of-pass-2
 invariant_of-pass-2 g c =
     let p = c.pass.invariant in
     let r = c.act_collect_step-step.result in
     done-pass c.pass.inside.hold c.finish-pass-inside.new.hold c.pass.inside.main c.pass.inside.number c.pass.inside.has_txn c.pass.inside.seen c.pass.inside.refused c.pass.inside.left p
     (c.finish-pass-inside.ensures.of ∙ sym (ap (λ z. z.table) c.pass.view_is ∙ c.requires.of))
-    c.in-Ok.journal c.act_collect_step-step.new.journal (entered_by_collecting r) (marked_by_collecting r) (found_by_collecting r) c.pass.inside.has_txn c.finish-pass-inside.result c.count_step.new.refused (done g c)
+    c.in-Ok.journal c.act_collect_step-step.new.journal (entered_by_collecting r) (marked_by_collecting r) (found_by_collecting r) c.pass.inside.has_txn c.finish-pass-inside.result c.count_step.new.refused (record { claimed = c.claim_log.new.hold.view; worked = c.act_collect_step-step.new.hold.view; held = c.act_collect_step-step.new.held; tells = c.is_entered-entered.result; claim = c.in-Ok.ensures.ok.0; later = c.in-Ok.ensures.ok.1; acts = c.act_collect_step-step.ensures.acts; iff = c.is_entered-entered.ensures; told = c.finish-pass-inside.ensures.told; same = c.finish-pass-inside.ensures.same })
     (λ goes. txn-collect c.pass.inside.hold.view c.finish-pass-inside.new.hold.view r (found_by_collecting r) c.pass.inside.has_txn p.txn_is goes)
     c.finish-pass-inside.ensures.seen
     (subst (λ (x : Refused). AreMarked x (joined_marks c.pass.inside.hold.view.knowledge.marks (joined_marks (marks_of c.in-Ok.journal) (marked_by_collecting r)))) (sym c.count_step.ensures)
@@ -67,7 +51,7 @@ pub returns-clause-knows : goal.returns-clause-knows
 returns-clause-knows g c =
     let r = c.act_collect_step-step.result in
     let is : c.pass.inside.hold.view ≡ c.args.pass.now.view = ap (λ z. z.view) c.pass.view_is in
-    let comes = done-comes g.row.SLOTS c.pass.inside.hold.view c.finish-pass-inside.new.hold.view c.in-Ok.journal c.act_collect_step-step.new.journal (entered_by_collecting r) (marked_by_collecting r) (found_by_collecting r) (done g c) in
+    let comes = done-comes g.row.SLOTS c.pass.inside.hold.view c.finish-pass-inside.new.hold.view c.in-Ok.journal c.act_collect_step-step.new.journal (entered_by_collecting r) (marked_by_collecting r) (found_by_collecting r) (record { claimed = c.claim_log.new.hold.view; worked = c.act_collect_step-step.new.hold.view; held = c.act_collect_step-step.new.held; tells = c.is_entered-entered.result; claim = c.in-Ok.ensures.ok.0; later = c.in-Ok.ensures.ok.1; acts = c.act_collect_step-step.ensures.acts; iff = c.is_entered-entered.ensures; told = c.finish-pass-inside.ensures.told; same = c.finish-pass-inside.ensures.same }) in
     subst (λ (v : Known g.row.SLOTS). GoesOnAs v c.finish-pass-inside.new.hold.view (entered_by_collecting r) (found_by_collecting r)) is comes.goes
 
 pub returns-clause-made : goal.returns-clause-made

@@ -10,9 +10,8 @@ use Rattle.shared_store.specs.Calls.{GoesOnAs}
 use Rattle.shared_store.specs.Upkeep.{entered_by_upkeep_of, marked_by_upkeep_of, found_by_upkeep}
 use Rattle.shared_store.proofs.Acting.{has-journal, to-drop}
 use Rattle.shared_store.proofs.Kept.{act-seen, upkeep-speaks, txn-upkeep, marked-upkeep}
-use Rattle.shared_store.proofs.Passing.{IsDone, done-comes, done-pass}
+use Rattle.shared_store.proofs.Passing.{done-comes, done-pass}
 use Rattle.shared_store.proofs.Upkeeps.{makes-turn}
-use Rattle.shared_store.proofs.store.Store.turn.Given.{Over}
 use Rattle.shared_store.proofs.store.Store.turn.Goals as goal
 
 pub act_turn-answer-requires-after_bounds : goal.act_turn-answer-requires-after_bounds
@@ -40,28 +39,13 @@ finish-pass-inside-requires-after_bounds g c κs within =
     let seen = c.pass.invariant.seen_is ∙ (sym (ap (λ v. v.knowledge.seen) c.in-Ok.ensures.ok.0) ∙ sym (act-seen g.row.SLOTS v1 w c.in-Ok.journal c.act_turn-answer.new.journal [] (entered_by_upkeep_of r) (marked_by_upkeep_of r) (found_by_upkeep r) a)) in
     (search rules, (search rules, (search rules, (search rules, (search rules, (c.act_turn-answer.ensures.of, (drop, seen)))))))
 
-done : (g : Over) (c : goal.After-pass-1 g)
-    → IsDone g.row.SLOTS c.pass.inside.hold.view c.finish-pass-inside.new.hold.view c.in-Ok.journal c.act_turn-answer.new.journal (entered_by_upkeep_of c.act_turn-answer.result) (marked_by_upkeep_of c.act_turn-answer.result) (found_by_upkeep c.act_turn-answer.result)
-done g c = record {
-  claimed = c.claim_log.new.hold.view;
-  worked = c.act_turn-answer.new.hold.view;
-  held = [];
-  tells = c.is_entered-entered.result;
-  claim = c.in-Ok.ensures.ok.0;
-  later = c.in-Ok.ensures.ok.1;
-  acts = c.act_turn-answer.ensures.acts;
-  iff = c.is_entered-entered.ensures;
-  told = c.finish-pass-inside.ensures.told;
-  same = c.finish-pass-inside.ensures.same;
-}
-
 pub invariant_of-pass-2 : goal.invariant_of-pass-2
 invariant_of-pass-2 g c =
     let p = c.pass.invariant in
     let r = c.act_turn-answer.result in
     done-pass c.pass.inside.hold c.finish-pass-inside.new.hold c.pass.inside.main c.pass.inside.number c.pass.inside.has_txn c.pass.inside.seen c.pass.inside.refused c.pass.inside.left p
     (c.finish-pass-inside.ensures.of ∙ sym (ap (λ z. z.table) c.pass.view_is ∙ c.requires.of))
-    c.in-Ok.journal c.act_turn-answer.new.journal (entered_by_upkeep_of r) (marked_by_upkeep_of r) (found_by_upkeep r) c.pass.inside.has_txn c.finish-pass-inside.result c.count_answer.new.refused (done g c)
+    c.in-Ok.journal c.act_turn-answer.new.journal (entered_by_upkeep_of r) (marked_by_upkeep_of r) (found_by_upkeep r) c.pass.inside.has_txn c.finish-pass-inside.result c.count_answer.new.refused (record { claimed = c.claim_log.new.hold.view; worked = c.act_turn-answer.new.hold.view; held = []; tells = c.is_entered-entered.result; claim = c.in-Ok.ensures.ok.0; later = c.in-Ok.ensures.ok.1; acts = c.act_turn-answer.ensures.acts; iff = c.is_entered-entered.ensures; told = c.finish-pass-inside.ensures.told; same = c.finish-pass-inside.ensures.same })
     (λ goes. txn-upkeep c.pass.inside.hold.view c.finish-pass-inside.new.hold.view r (found_by_upkeep r) c.pass.inside.has_txn p.txn_is goes)
     c.finish-pass-inside.ensures.seen
     (subst (λ (x : Refused). AreMarked x (joined_marks c.pass.inside.hold.view.knowledge.marks (joined_marks (marks_of c.in-Ok.journal) (marked_by_upkeep_of r)))) (sym c.count_answer.ensures)
@@ -71,7 +55,7 @@ pub returns-clause-knows : goal.returns-clause-knows
 returns-clause-knows g c =
     let r = c.act_turn-answer.result in
     let is : c.pass.inside.hold.view ≡ c.args.pass.now.view = ap (λ z. z.view) c.pass.view_is in
-    let comes = done-comes g.row.SLOTS c.pass.inside.hold.view c.finish-pass-inside.new.hold.view c.in-Ok.journal c.act_turn-answer.new.journal (entered_by_upkeep_of r) (marked_by_upkeep_of r) (found_by_upkeep r) (done g c) in
+    let comes = done-comes g.row.SLOTS c.pass.inside.hold.view c.finish-pass-inside.new.hold.view c.in-Ok.journal c.act_turn-answer.new.journal (entered_by_upkeep_of r) (marked_by_upkeep_of r) (found_by_upkeep r) (record { claimed = c.claim_log.new.hold.view; worked = c.act_turn-answer.new.hold.view; held = []; tells = c.is_entered-entered.result; claim = c.in-Ok.ensures.ok.0; later = c.in-Ok.ensures.ok.1; acts = c.act_turn-answer.ensures.acts; iff = c.is_entered-entered.ensures; told = c.finish-pass-inside.ensures.told; same = c.finish-pass-inside.ensures.same }) in
     subst (λ (v : Known g.row.SLOTS). GoesOnAs v c.finish-pass-inside.new.hold.view (entered_by_upkeep_of r) (found_by_upkeep r)) is comes.goes
 
 pub returns-clause-made : goal.returns-clause-made

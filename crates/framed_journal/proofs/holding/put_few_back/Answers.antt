@@ -6,7 +6,7 @@ use Rattle.core_store.specs.declared.three.HeldFrame.{HeldFrame}
 use Rattle.core_store.proofs.PageLaws.{each-taken}
 use Rattle.framed_journal.specs.Holding.{PutsBack, FollowsChange}
 use Rattle.framed_journal.proofs.PutLaws.{PutsBack-none, PutsBack-more, FollowsChange-all, written}
-use Rattle.framed_journal.proofs.holding.put_back.Goals as goal
+use Rattle.framed_journal.proofs.holding.put_few_back.Goals as goal
 
 pub frames-init : goal.frames-init
 frames-init g c = record {

@@ -1,7 +1,7 @@
 use Rattle.std.proofs.Common.{◌≡◌, ◌<◌, length}
 use Rattle.std.specs.List.{AllByRecursion}
 use Rattle.framed_journal.specs.Holding.{PutsBack}
-use Rattle.framed_journal.proofs.holding.put_back.Given as goal
+use Rattle.framed_journal.proofs.holding.put_few_back.Given as goal
 
 -- those that are put back have followed the change, and the others are still held
 abbrev pub invariant-frames : goal.invariant-frames
