@@ -1,1 +1,4 @@
+pub mod Held
 pub mod Changes
+pub mod Inside
+pub mod Laws
