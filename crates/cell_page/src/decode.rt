@@ -123,7 +123,11 @@ fn broken_field<const SLOTS: usize>(cell: &Cell<SLOTS>, id: u32) -> Option<u32>
 fn has_nonzero(bytes: &[u8]) -> bool
     ensures { result ≡ list_any (λ byte. not (byte == 0)) bytes.now }
 {
-    bytes.iter().any(|byte| *byte != 0)
+    let mut bits = 0;
+    for byte in bytes {
+        bits |= *byte;
+    }
+    bits != 0
 }
 
 /// The cell of this id, or the offset of the first field that breaks the rules.
