@@ -68,6 +68,13 @@ impl<const SLOTS: usize> Page<SLOTS> {
         &self.cells[(id - 1) as usize % CELLS_OF_PAGE]
     }
 
+    /// The cells, in order.
+    pub fn cells(&self) -> &[Cell<SLOTS>]
+        ensures { result.now ≡ self.now }
+    {
+        &self.cells
+    }
+
     /// Puts a cell in the place of the one with the same id.
     pub fn put_cell(&mut self, cell: Cell<SLOTS>)
         requires { HasId self.old cell.id }

@@ -9,25 +9,19 @@ ghost use Rattle.core_store.specs.Changes.{has_no_strong};
 ghost use Rattle.core_store.specs.Opening.{store_of, ArePages, cells_in};
 
 use crate::frame::Frame;
-use cell_page::{CELLS_OF_PAGE, Cell, Page, ROOT, first_id};
+use cell_page::{CELLS_OF_PAGE, Cell, Page, ROOT};
 use plain_model::Memory;
 use ref_tables::ZeroQueue;
 use std::alloc::Global;
 
-/// Appends the cells of the page of this number.
+/// Appends the cells of a page.
 fn append_page<const SLOTS: usize>(
     cells: &mut Vec<Cell<SLOTS>>,
-    number: u16,
     page: &Page<SLOTS>,
 ) -> Result<(), Memory>
-    requires few { number < 1024 }
-    requires rules { IsPage number page.now }
     ensures { IfOk result (λ _. cells.new.items ≡ cells.old.items ++ page.now) }
 {
-    let first = first_id(number);
-    for place in 0..CELLS_OF_PAGE as u32 {
-        cells.push(*page.cell(first + place))?;
-    }
+    cells.extend_from_slice(page.cells())?;
     Ok(())
 }
 
@@ -40,9 +34,9 @@ pub(crate) fn cells<const SLOTS: usize>(
     requires pages { ArePages frames.now }
     ensures { IfOk result (λ cells. cells.items ≡ cells_in frames.now) }
 {
-    let mut cells = Vec::new(alloc);
-    for (number, frame) in frames.iter().enumerate() {
-        append_page(&mut cells, number as u16, &frame.page)?;
+    let mut cells = Vec::with_capacity(alloc, CELLS_OF_PAGE * frames.len())?;
+    for frame in frames {
+        append_page(&mut cells, &frame.page)?;
     }
     Ok(cells)
 }

@@ -3,5 +3,5 @@ use Rattle.std.specs.List.{flat_map}
 use Rattle.core_store.proofs.opening.cells.Given as goal
 
 -- the cells of the frames so far
-abbrev pub invariant-loop-number : goal.invariant-loop-number
-invariant-loop-number g l = l.cells.items ≡ flat_map (λ f. f.page) (take l.number l.frames)
+abbrev pub invariant-loop-frame : goal.invariant-loop-frame
+invariant-loop-frame g l = l.cells.items ≡ flat_map (λ f. f.page) (take l.frame-index l.frames)
