@@ -3,5 +3,6 @@ pub mod Broken
 pub mod Rules
 pub mod Cells
 pub mod Pages
+pub mod PageEdits
 pub mod PointerLemmas
 pub mod HeldPages

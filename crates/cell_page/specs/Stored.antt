@@ -1,9 +1,9 @@
 -- Cells and pages as the laws of a store see them: each slot beside its pointer bit.
-use Rattle.std.specs.Prelude.{◌≡◌, ℕ, ◌+◌, ◌==◌, true, false, if◌then◌else◌, List, [], ◌∷◌, map, take, drop, replicate}
+use Rattle.std.specs.Prelude.{◌≡◌, ℕ, ◌+◌, ◌==◌, true, false, if◌then◌else◌, List, [], ◌∷◌, map, take, drop, replicate, slice_index_or, slice_set}
 use Rattle.std.specs.Int.{bit_at}
 use Rattle.cell_model.specs.Cells.{Pointer, Cell as StoredCell, blank_cell}
 use Rattle.cell_page.specs.declared.cell.Cell.{Cell}
-use Rattle.cell_page.specs.Format.{IsPage, first_id}
+use Rattle.cell_page.specs.Format.{IsPage, first_id, place_of}
 
 -- the slots, the first of which has bit i
 abbrev pub pointers_from : (bits i : ℕ) → List ℕ → List Pointer
@@ -29,3 +29,11 @@ page_of cells page = take 8 (drop (first_id page) cells)
 pub record HoldsPage {slots : ℕ} (cells : List StoredCell) (page : ℕ) (held : List (Cell slots)) : Type 0 where
   pub rules : IsPage page held
   pub same : map cell_of held ≡ page_of cells page
+
+-- the cell of the id among those of its page
+abbrev pub stored_at : List StoredCell → ℕ → StoredCell
+stored_at cells id = slice_index_or cells (place_of id) (blank_cell false 0)
+
+-- the cells of a page where f is applied to that of the id
+abbrev pub edit_stored : List StoredCell → ℕ → (StoredCell → StoredCell) → List StoredCell
+edit_stored cells id f = slice_set cells (place_of id) (f (stored_at cells id))

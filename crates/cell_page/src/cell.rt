@@ -1,8 +1,8 @@
 //! The cell, which holds an object of the store or is free.
 
-ghost use Rattle.std.specs.Prelude.{◌≡◌, ◌≢◌, ◌<◌, ◌^◌, ◌==◌, ℕ, true, false, slice_set};
+ghost use Rattle.std.specs.Prelude.{◌≡◌, ◌≢◌, ◌+◌, ◌<◌, ◌^◌, ◌==◌, ℕ, true, false, not, slice_set};
 ghost use Rattle.std.specs.Int.{bit_at};
-ghost use Rattle.cell_model.specs.Cells.{blank_cell, relink, pointer_in};
+ghost use Rattle.cell_model.specs.Cells.{blank_cell, same, relink, pointer_in, gains, loses, counted};
 ghost use Rattle.cell_page.specs.Format.{IsSlotCount, IsCell, IsTyped, free_cell, fresh_cell};
 ghost use Rattle.cell_page.specs.Stored.{cell_of};
 
@@ -38,6 +38,15 @@ pub struct Seen<const SLOTS: usize> {
     pub strong: u32,
     /// How many weak pointers lead to the object.
     pub weak: u32,
+}
+
+/// What an object has left behind a pointer to it that is counted no more.
+#[derive(Clone, Copy)]
+pub struct Lost {
+    /// Whether that pointer was strong.
+    pub strong: bool,
+    /// Whether no strong pointer leads to the object now.
+    pub none_left: bool,
 }
 
 impl<const SLOTS: usize> Cell<SLOTS> {
@@ -119,11 +128,71 @@ impl<const SLOTS: usize> Cell<SLOTS> {
         ensures model { cell_of self.new ≡ relink slot (record { target = target; bit = bit }) (cell_of self.old) }
         ensures others { self.new ≡ record self.old { bits = self.new.bits; slots = slice_set self.old.slots slot target } }
 
+        ensures typed { IsTyped self.old → IsTyped self.new }
+
         // An object goes on to obey the rules, where null has the bit 0.
         ensures rules { (id : ℕ) → IsCell id self.old → self.old.live ≡ true → (target ≡ 0 → bit ≡ false) → IsCell id self.new }
     {
         self.slots[slot as usize] = target;
         self.bits = with_bit(self.bits, slot, bit);
+    }
+
+    /// Whether a pointer with this bit to the object is strong.
+    fn is_strong(&self, bit: bool) -> bool
+        ensures { result ≡ same self.now.bit bit }
+    {
+        self.bit == bit
+    }
+
+    /// Counts one pointer with this bit more. Tells whether no strong one leads to the object now.
+    pub(crate) fn gain(&mut self, bit: bool) -> bool
+        requires room { counted bit (cell_of self.old) + 1 < 2 ^ 32 }
+        ensures zero { result ≡ ((cell_of self.new).strong == 0) }
+        ensures model { cell_of self.new ≡ gains bit (cell_of self.old) }
+        ensures typed { IsTyped self.old → IsTyped self.new }
+        ensures rules { (id : ℕ) → IsCell id self.old → self.old.live ≡ true → IsCell id self.new }
+    {
+        if self.is_strong(bit) {
+            self.strong += 1;
+        } else {
+            self.weak += 1;
+        }
+        self.strong == 0
+    }
+
+    /// Counts one pointer with this bit less.
+    pub(crate) fn lose(&mut self, bit: bool) -> Lost
+        requires some { 0 < counted bit (cell_of self.old) }
+        ensures strong { result.strong ≡ same self.old.bit bit }
+        ensures zero { result.none_left ≡ ((cell_of self.new).strong == 0) }
+        ensures model { cell_of self.new ≡ loses bit (cell_of self.old) }
+        ensures typed { IsTyped self.old → IsTyped self.new }
+        ensures rules { (id : ℕ) → IsCell id self.old → self.old.live ≡ true → IsCell id self.new }
+    {
+        let strong = self.is_strong(bit);
+        if strong {
+            self.strong -= 1;
+        } else {
+            self.weak -= 1;
+        }
+        Lost {
+            strong,
+            none_left: self.strong == 0,
+        }
+    }
+
+    /// Counts one pointer with the other bit in place of one with this bit. Tells whether no strong one leads to the object
+    /// now.
+    pub(crate) fn turn(&mut self, bit: bool) -> bool
+        requires some { 0 < counted bit (cell_of self.old) }
+        requires room { counted (not bit) (cell_of self.old) + 1 < 2 ^ 32 }
+        ensures zero { result ≡ ((cell_of self.new).strong == 0) }
+        ensures model { cell_of self.new ≡ gains (not bit) (loses bit (cell_of self.old)) }
+        ensures typed { IsTyped self.old → IsTyped self.new }
+        ensures rules { (id : ℕ) → IsCell id self.old → self.old.live ≡ true → IsCell id self.new }
+    {
+        self.lose(bit);
+        self.gain(!bit)
     }
 }
 

@@ -26,7 +26,7 @@ mod laws;
 mod layout;
 mod page;
 
-pub use cell::{Cell, Seen};
+pub use cell::{Cell, Lost, Seen};
 pub use decode::BadCell;
 pub use laws::{first_numbers, spelled_once};
 pub use layout::{CELLS_OF_PAGE, ROOT, first_id, page_of};

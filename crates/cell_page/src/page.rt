@@ -1,10 +1,11 @@
 //! The page, which holds eight cells.
 
-ghost use Rattle.std.specs.Prelude.{◌≡◌, ◌+◌, ◌-◌, ◌*◌, ◌%◌, ◌≤◌, ℕ, length, map, slice_index_or, slice_set};
+ghost use Rattle.std.specs.Prelude.{◌≡◌, ◌+◌, ◌-◌, ◌*◌, ◌%◌, ◌^◌, ◌<◌, ◌≤◌, ◌==◌, ℕ, true, false, not, length, map, slice_index_or, slice_set};
+ghost use Rattle.cell_model.specs.Cells.{same, relink, gains, loses, counted};
 ghost use Rattle.cell_page.specs.Format.{IsSlotCount, IsCell, IsPage, AreTyped, fresh_page, place_of, HasId};
-ghost use Rattle.cell_page.specs.Stored.{cell_of, fresh_cells};
+ghost use Rattle.cell_page.specs.Stored.{cell_of, fresh_cells, stored_at, edit_stored};
 
-use crate::cell::Cell;
+use crate::cell::{Cell, Lost};
 use crate::layout::{CELLS_OF_PAGE, first_id};
 use std::marker::Model;
 
@@ -84,5 +85,54 @@ impl<const SLOTS: usize> Page<SLOTS> {
         ensures rules { (page : ℕ) → IsPage page self.old → IsCell cell.entry.id cell.entry → IsPage page self.new }
     {
         self.cells[(cell.id - 1) as usize % CELLS_OF_PAGE] = cell;
+    }
+
+    /// Lays a pointer in a slot of the cell of this id: the id that it names, or 0 for null, and its pointer bit.
+    pub fn set_pointer(&mut self, id: u32, slot: u8, target: u32, bit: bool)
+        requires count { IsSlotCount SLOTS }
+        requires id { HasId self.old id }
+        requires within { slot < SLOTS }
+        ensures model { map cell_of self.new ≡ edit_stored (map cell_of self.old) id (relink slot (record { target = target; bit = bit })) }
+
+        // A page goes on to obey the rules, where the cell is an object's and null has the bit 0.
+        ensures rules { (page : ℕ) → IsPage page self.old → (stored_at (map cell_of self.old) id).live ≡ true → (target ≡ 0 → bit ≡ false) → IsPage page self.new }
+    {
+        self.cells[(id - 1) as usize % CELLS_OF_PAGE].set_pointer(slot, target, bit);
+    }
+
+    /// The cell of this id counts one pointer with this bit more. Tells whether no strong one leads to its object now.
+    pub fn gain(&mut self, id: u32, bit: bool) -> bool
+        requires id { HasId self.old id }
+        requires room { counted bit (stored_at (map cell_of self.old) id) + 1 < 2 ^ 32 }
+        ensures zero { result ≡ ((stored_at (map cell_of self.new) id).strong == 0) }
+        ensures model { map cell_of self.new ≡ edit_stored (map cell_of self.old) id (gains bit) }
+        ensures rules { (page : ℕ) → IsPage page self.old → (stored_at (map cell_of self.old) id).live ≡ true → IsPage page self.new }
+    {
+        self.cells[(id - 1) as usize % CELLS_OF_PAGE].gain(bit)
+    }
+
+    /// The cell of this id counts one pointer with this bit less.
+    pub fn lose(&mut self, id: u32, bit: bool) -> Lost
+        requires id { HasId self.old id }
+        requires some { 0 < counted bit (stored_at (map cell_of self.old) id) }
+        ensures strong { result.strong ≡ same (stored_at (map cell_of self.old) id).bit bit }
+        ensures zero { result.none_left ≡ ((stored_at (map cell_of self.new) id).strong == 0) }
+        ensures model { map cell_of self.new ≡ edit_stored (map cell_of self.old) id (loses bit) }
+        ensures rules { (page : ℕ) → IsPage page self.old → (stored_at (map cell_of self.old) id).live ≡ true → IsPage page self.new }
+    {
+        self.cells[(id - 1) as usize % CELLS_OF_PAGE].lose(bit)
+    }
+
+    /// The cell of this id counts one pointer with the other bit in place of one with this bit. Tells whether no strong one
+    /// leads to its object now.
+    pub fn turn(&mut self, id: u32, bit: bool) -> bool
+        requires id { HasId self.old id }
+        requires some { 0 < counted bit (stored_at (map cell_of self.old) id) }
+        requires room { counted (not bit) (stored_at (map cell_of self.old) id) + 1 < 2 ^ 32 }
+        ensures zero { result ≡ ((stored_at (map cell_of self.new) id).strong == 0) }
+        ensures model { map cell_of self.new ≡ edit_stored (map cell_of self.old) id (λ c. gains (not bit) (loses bit c)) }
+        ensures rules { (page : ℕ) → IsPage page self.old → (stored_at (map cell_of self.old) id).live ≡ true → IsPage page self.new }
+    {
+        self.cells[(id - 1) as usize % CELLS_OF_PAGE].turn(bit)
     }
 }

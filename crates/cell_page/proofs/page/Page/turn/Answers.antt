@@ -1,0 +1,17 @@
+use Rattle.std.proofs.Common.{ap, ◌∙◌, not}
+use Rattle.std.specs.Prelude.{◌==◌}
+use Rattle.cell_model.specs.Cells.{Cell as StoredCell, gains, loses}
+use Rattle.cell_page.proofs.PageEdits.{edited, edited-at, edited-rules}
+use Rattle.cell_page.proofs.page.Page.turn.Goals as goal
+
+pub returns-clause-zero : goal.returns-clause-zero
+returns-clause-zero g c =
+    c.turn.ensures.zero ∙ ap (λ (s : StoredCell). s.strong == 0) (edited-at c.self.inside.cells c.args.self.now c.args.id c.index-self-id.result c.turn.new.self c.self.view_is c.self.invariant.0)
+
+pub returns-clause-model : goal.returns-clause-model
+returns-clause-model g c =
+    edited c.self.inside.cells c.args.self.now c.args.id c.index-self-id.result c.turn.new.self c.self.view_is c.self.invariant.0 (λ s. gains (not c.args.bit) (loses c.args.bit s)) c.turn.ensures.model
+
+pub returns-clause-rules : goal.returns-clause-rules
+returns-clause-rules g c =
+    edited-rules c.self.inside.cells c.args.self.now c.args.id c.index-self-id.result c.turn.new.self c.self.view_is c.self.invariant.0 c.turn.ensures.rules
