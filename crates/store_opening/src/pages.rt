@@ -112,7 +112,7 @@ pub fn load_pages<D: Disk, const SLOTS: usize>(
     ensures looks { IsLookedAt D.content D.may_leave D.moment D.left_since disk.old disk.new }
     ensures cause { HasPagesCause (D.faults disk.old) (D.faults disk.new) result }
 {
-    let mut pages = Vec::new(alloc);
+    let mut pages = Vec::with_capacity(alloc, images.len())?;
     'pages: for (page, images) in images.iter().enumerate() {
         if let Err(refusal) = load_next(disk, &mut pages, page as u16, *images) {
             return Err(refusal);
