@@ -159,6 +159,18 @@ impl GateLog {
         Ok(())
     }
 
+    /// Appends a record to the tail, into room that was reserved. It takes no memory.
+    pub fn append_reserved(&mut self, rec: &[u8])
+        requires standing { self.old.stage ≡ Standing }
+        requires some { 0 < length rec.now }
+        requires room { length rec.now ≤ self.old.room }
+        requires bounded { used self.old + length rec.now < 2 ^ 32 }
+        ensures log { self.new ≡ appended self.old rec.now }
+    {
+        frame::add(&mut self.frame, rec);
+        self.room -= rec.len() as u64;
+    }
+
     /// Takes room. Until so many more bytes were appended, `append` doesn't answer
     /// [`LogRefusal::Memory`], also after a `force` in between. [`AllocError`] leaves the log and the room
     /// that it had.
