@@ -1,5 +1,5 @@
 -- How many bytes records take.
-use Rattle.std.proofs.Common.{◌≡◌, ℕ, ⊎_elim, ◌≤◌, List, length, Option, Some, None, refl, sym, ◌∙◌, ap, subst, arith}
+use Rattle.std.proofs.Common.{◌≡◌, ℕ, ⊎_elim, ◌≤◌, ◌<◌, List, length, Option, Some, None, refl, sym, ◌∙◌, ap, subst, arith}
 use Rattle.std.specs.Option.{option_map_or}
 use Rattle.plain_model.specs.declared.calls.Call.{Call as TransactionCall}
 use Rattle.plain_model.specs.declared.calls.Call.TheVariants as call
@@ -50,6 +50,23 @@ size-is (logs.Strengthen id slot target) = refl
 size-is (logs.Flip id) = refl
 size-is (logs.CutDead id slot target was_strong) = refl
 size-is (logs.Free id) = refl
+
+-- a record has a byte
+pub size-some : (r : CellRecord) → 0 < length (cell_record_bytes r)
+size-some r = subst (λ (n : ℕ). 0 < n) (sym (size-is r)) (by r) where
+  by : (r : CellRecord) → 0 < size r
+  by (logs.Begin pass) = omega (arith)
+  by (logs.Make pass id) = omega (arith)
+  by (logs.Store pass id slot old_target old_strong new_target new_bit new_strong) = omega (arith)
+  by (logs.Pay pass id old_value new_value) = omega (arith)
+  by (logs.Commit pass) = omega (arith)
+  by (logs.Undo pass id place «from» from_strong to to_bit) = omega (arith)
+  by (logs.AbortEnd pass) = omega (arith)
+  by (logs.Weaken id slot target) = omega (arith)
+  by (logs.Strengthen id slot target) = omega (arith)
+  by (logs.Flip id) = omega (arith)
+  by (logs.CutDead id slot target was_strong) = omega (arith)
+  by (logs.Free id) = omega (arith)
 
 pub size-most : (r : CellRecord) → length (cell_record_bytes r) ≤ 25
 size-most r = subst (λ (n : ℕ). n ≤ 25) (sym (size-is r)) (by r) where

@@ -43,7 +43,7 @@ pub(crate) fn append_record<const SLOTS: usize>(
     know_cell_record(record);
     spelling.clear();
     let _ = record.write(spelling);
-    let _ = log.append(u32::MAX as u64, 0, spelling);
+    log.append_reserved(spelling);
 }
 
 /// Appends the record of the last note, if it has one, in room that was taken for it, and marks the pages that it concerns. It
@@ -101,6 +101,6 @@ pub(crate) fn append_image<const SLOTS: usize>(
         cells: frame.page,
     };
     let _ = image.write(spelling);
-    let _ = log.append(u32::MAX as u64, 0, spelling);
+    log.append_reserved(spelling);
     marks.image(page);
 }
