@@ -63,6 +63,7 @@ impl Trace {
     }
 
     /// Appends a note, for which there is room. What was reserved is given up.
+    #[inline(always)]
     pub(crate) fn add(&mut self, note: Note)
         requires { vec_len self.old.notes < vec_capacity self.old.notes }
         ensures items { self.new.notes.items ≡ self.old.notes.items ++ note ∷ [] }
