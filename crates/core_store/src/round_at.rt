@@ -1,4 +1,6 @@
 //! What the collector is about to do.
+ghost use Rattle.std.specs.Prelude.{◌≡◌};
+ghost use Rattle.core_store.specs.Steppings.{bytes_at};
 
 /// What the collector looks at or does next. The clauses on its steps speak of it.
 #[derive(Clone, Copy, PartialEq, Eq, Debug)]
@@ -75,4 +77,24 @@ pub enum RoundAt {
     },
     /// The round closes.
     End,
+}
+
+impl RoundAt {
+    /// How many bytes the record of the event here has, and 0 where there is none.
+    pub fn record_length(self) -> u64
+        ensures { result ≡ bytes_at self }
+    {
+        match self {
+            RoundAt::Look { .. } | RoundAt::Into { .. } | RoundAt::Strengthen { .. } => 10,
+            RoundAt::Cut { .. } => 11,
+            RoundAt::Free { .. } | RoundAt::Flip { .. } => 5,
+            RoundAt::Queue
+            | RoundAt::Copy { .. }
+            | RoundAt::Judge
+            | RoundAt::Seed { .. }
+            | RoundAt::Test { .. }
+            | RoundAt::Out { .. }
+            | RoundAt::End => 0,
+        }
+    }
 }

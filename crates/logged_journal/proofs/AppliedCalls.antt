@@ -131,13 +131,13 @@ few-to-collect r = by (asked r)
 pub few-needed : (slots needed : ℕ) → IsSlotCount slots → needed ≤ 47 → needed ≤ image_need slots
 few-needed slots needed size few = ⊎_elim (λ six. subst (λ (s : ℕ). needed ≤ image_need s) (sym six) (omega (arith, few))) (λ fourteen. subst (λ (s : ℕ). needed ≤ image_need s) (sym fourteen) (omega (arith, few))) size
 
--- where the collector would make an event, the history has room and there is something to do
-pub collects-room : (j : JournalView) (b : Bool) → (((is_past_limit j 1 ≡ true) ⊎ ((j.queue ≡ []) × (j.round ≡ Closed))) → b ≡ false) → b ≡ true → is_past_limit j 1 ≡ false
-collects-room j b none made = by (is_past_limit j 1) refl
+-- where the collector has a next event, the history has room and there is something to do
+pub next-room : (j : JournalView) (next : Option RoundAt) (at : RoundAt) → (((is_past_limit j 1 ≡ true) ⊎ ((j.queue ≡ []) × (j.round ≡ Closed))) → next ≡ None) → next ≡ Some at → is_past_limit j 1 ≡ false
+next-room j next at none made = by (is_past_limit j 1) refl
   where
     by : (r : Bool) → is_past_limit j 1 ≡ r → is_past_limit j 1 ≡ false
     by false is = is
     by true is = absurd (let e = sym made ∙ none (inl is) in cc (e))
 
-pub collects-some : (j : JournalView) (b : Bool) → (((is_past_limit j 1 ≡ true) ⊎ ((j.queue ≡ []) × (j.round ≡ Closed))) → b ≡ false) → b ≡ true → (j.queue ≡ []) × (j.round ≡ Closed) → ⊥
-collects-some j b none made idle = let e = sym made ∙ none (inr idle) in cc (e)
+pub next-some : (j : JournalView) (next : Option RoundAt) (at : RoundAt) → (((is_past_limit j 1 ≡ true) ⊎ ((j.queue ≡ []) × (j.round ≡ Closed))) → next ≡ None) → next ≡ Some at → (j.queue ≡ []) × (j.round ≡ Closed) → ⊥
+next-some j next at none made idle = let e = sym made ∙ none (inr idle) in cc (e)

@@ -1,8 +1,9 @@
 -- What a journal with its log keeps at an event of its collector.
-use Rattle.std.proofs.Common.{◌≡◌, ◌≢◌, ℕ, ◌+◌, ◌≤◌, max, false, ◌||◌, List, [], ◌++◌, length, length-append, Option, Some, None, refl, ◌∙◌, ap, arith}
+use Rattle.std.proofs.Common.{◌≡◌, ◌⊎◌, inl, inr, ℕ, ◌+◌, ◌≤◌, ◌<◌, max, false, ◌||◌, List, [], ◌++◌, length, length-append, Option, Some, None, refl, ◌∙◌, ap, arith}
 use Rattle.disk_model.specs.declared.area.Area.{Area}
 use Rattle.plain_laws.specs.Sound.{is_crash}
 use Rattle.plain_model.specs.History.{Moment, next, end_of}
+use Rattle.plain_model.specs.Outcomes.{IsReachableInSomeOutcome}
 use Rattle.plain_model.proofs.HistoryLemmas.{end_of-with_entry}
 use Rattle.restart_laws.specs.Settled.{acknowledges}
 use Rattle.log_record.specs.declared.cell_record.CellRecord.{CellRecord}
@@ -13,11 +14,12 @@ use Rattle.core_store.specs.declared.collect.Collect.{Collect}
 use Rattle.core_store.specs.declared.collect.Collect.TheVariants as collect
 use Rattle.core_store.specs.declared.note.Note.{Note}
 use Rattle.core_store.specs.Collects.{entry_of}
-use Rattle.core_store.specs.JournalView.{JournalView}
+use Rattle.core_store.specs.JournalView.{JournalView, last_left}
 use Rattle.core_store.specs.Limited.{AreLimits, is_past_limit}
 use Rattle.core_store.specs.Owed.{bytes_owed}
 use Rattle.core_store.specs.RoundView.{Closed, left_of}
-use Rattle.core_store.specs.Steppings.{IsEvent, MakesEvent, bytes_to_collect}
+use Rattle.core_store.specs.Steppings.{IsEvent, MakesEvent, left_told, pops, bytes_to_collect}
+use Rattle.core_store.proofs.EventAnswers.{no-rest}
 use Rattle.logged_journal.specs.View.{LoggedView, bytes_counted, IsPast}
 use Rattle.logged_journal.specs.Records.{note_bytes, last_bytes, IsLastTyped, last_logged, AreMarkedAfter}
 use Rattle.logged_journal.specs.Kept.{IsKept}
@@ -70,13 +72,23 @@ bytes-length n = by n.logged
 
 -- ---- of the journal
 
--- where the history isn't full and something is queued or a round is open, a step that doesn't lack memory makes an event
-pub is-event : (slots : ℕ) (old new : JournalView) (result : Collect) → DoesCollect slots old new result → is_past_limit old 1 ≡ false → ((old.queue ≡ []) × (old.round ≡ Closed) → ⊥) → result ≢ collect.Memory → IsEvent result
-is-event slots old new (collect.Did popped left) does room some enough = tt
-is-event slots old new (collect.Deleted id left) does room some enough = tt
-is-event slots old new collect.Memory does room some enough = absurd (enough refl)
-is-event slots old new collect.TraceFull does room some enough = let past = does.full.0 refl in absurd (cc (past, room))
-is-event slots old new collect.Idle does room some enough = let idle = does.idle.0 refl in absurd (some (idle.1, idle.2))
+-- where the history isn't full and something is queued or a round is open, it is what a step of the collector is
+pub does-made : (slots : ℕ) (old new : JournalView) (result : Collect) → (result ≡ collect.Memory) ⊎ IsEvent result → is_past_limit old 1 ≡ false → ((old.queue ≡ []) × (old.round ≡ Closed) → ⊥)
+    → (result ≡ collect.Memory → new ≡ old) → (IsEvent result → MakesEvent slots old new result)
+    → ((id left : ℕ) → result ≡ collect.Deleted id left → IsReachableInSomeOutcome (end_of old.history).state id → ⊥)
+    → ((left : ℕ) → left_told result ≡ Some left → (left ≡ left_of slots new.round) × (pops result ≡ false → left < last_left old.notes))
+    → (new.opening ≡ old.opening) × (new.limits ≡ old.limits) → DoesCollect slots old new result
+does-made slots old new result made room some memory event safe lower opening = record {
+  full = (λ is. absurd (no-rest result made (inl is)), λ past. absurd (cc (past, room)));
+  marked = λ is. absurd (no-rest result made (inl is));
+  idle = (λ is. absurd (no-rest result made (inr is)), λ idle. absurd (some (idle.1, idle.2)));
+  unchanged = λ is. absurd (no-rest result made (inr is));
+  memory = memory;
+  event = event;
+  safe = safe;
+  lower = lower;
+  opening = opening;
+}
 
 module _ {slots : ℕ} {old new : JournalView} {result : Collect} (makes : MakesEvent slots old new result) where
   -- the note of the event

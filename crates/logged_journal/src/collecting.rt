@@ -4,7 +4,7 @@ ghost use Rattle.core_store.specs.Frames.{Agree, HoldsAll, IsNext, pages_held};
 ghost use Rattle.core_store.specs.JournalView.{cells_of};
 ghost use Rattle.core_store.specs.Limited.{AreLimits, is_past_limit, pages_for_collector};
 ghost use Rattle.core_store.specs.Logged.{want_of};
-ghost use Rattle.core_store.specs.RoundView.{Closed, left_of};
+ghost use Rattle.core_store.specs.RoundView.{Closed, asked, left_of};
 ghost use Rattle.core_store.specs.Steppings.{IsReadyForCollector, OnlyLooks, bytes_to_collect};
 ghost use Rattle.logged_journal.specs.View.{IsPast};
 ghost use Rattle.logged_journal.specs.Calls.{KeepsFrames, KeepsDisk, GoesOn, IsPastLogToCollect, DoesCollect};
@@ -12,7 +12,7 @@ ghost use Rattle.logged_journal.specs.Calls.{KeepsFrames, KeepsDisk, GoesOn, IsP
 use crate::collect::CollectRefusal;
 use crate::logged::LoggedJournal;
 use crate::spell::append_last;
-use core_store::{Collect, Three, Want};
+use core_store::{Collect, RoundAt, Three, Want};
 use disk_model::Disk;
 
 impl<const SLOTS: usize, D: Disk> LoggedJournal<SLOTS, D> {
@@ -61,8 +61,8 @@ impl<const SLOTS: usize, D: Disk> LoggedJournal<SLOTS, D> {
         self.journal.collect_step(held)
     }
 
-    /// A step of the collector that makes an event, whose record needs so many bytes, for which there is room in the log.
-    fn log_step(&mut self, held: &mut Three<SLOTS>, needed: u64) -> Collect
+    /// The collector's next event, which works at this place, and for whose record there is room in the log.
+    fn log_step(&mut self, held: &mut Three<SLOTS>, at: RoundAt) -> Collect
         requires agree { Agree (cells_of self.old.journal) held.old }
         requires ready { IsReadyForCollector self.old.journal held.old }
         requires running { self.old.failed ≡ None }
@@ -70,18 +70,18 @@ impl<const SLOTS: usize, D: Disk> LoggedJournal<SLOTS, D> {
         requires some { (self.old.journal.queue ≡ []) × (self.old.journal.round ≡ Closed) → ⊥ }
         requires room { IsPast self.old (bytes_to_collect self.old.journal.round) → ⊥ }
         requires limits { AreLimits self.old.journal.limits }
-        requires needed { needed ≡ bytes_to_collect self.old.journal.round }
+        requires at { at ≡ asked self.old.journal.round }
         ensures does { DoesCollect SLOTS self.old.journal self.new.journal result }
         ensures goes_on { GoesOn self.old self.new }
         ensures frames { KeepsFrames self.old.journal self.new.journal held.old held.new }
         ensures same { (result ≡ Collect.TraceFull) ⊎ (result ≡ Collect.Idle) ⊎ (result ≡ Collect.Memory) → held.new ≡ held.old }
         ensures disk { KeepsDisk self.old self.new }
     {
-        let room = self.journal.bytes_owed() + needed;
+        let room = self.journal.bytes_owed() + at.record_length();
         if self.log.reserve(room).is_err() {
             return Collect::Memory;
         }
-        match self.journal.collect_step(held) {
+        match self.journal.make_event(held, at) {
             Collect::Memory => Collect::Memory,
             step => {
                 append_last(
@@ -120,14 +120,13 @@ impl<const SLOTS: usize, D: Disk> LoggedJournal<SLOTS, D> {
                 faults: failed.faults,
             });
         }
-        if !self.journal.collects() {
+        let Some(at) = self.journal.next_event() else {
             return Ok(self.rest(held));
-        }
-        let needed = self.journal.bytes_to_collect();
-        if self.is_past(needed) {
+        };
+        if self.is_past(at.record_length()) {
             self.mark_full();
             return Err(CollectRefusal::LogFull);
         }
-        Ok(self.log_step(held, needed))
+        Ok(self.log_step(held, at))
     }
 }

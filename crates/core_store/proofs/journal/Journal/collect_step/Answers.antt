@@ -1,78 +1,39 @@
-use Rattle.std.proofs.Common.{◌≡◌, ◌≤◌, false, List, [], ◌∷◌, ◌++◌, sym, ap, ◌∙◌, arith, rules, refl, ⊎_elim}
-use Rattle.plain_model.specs.declared.calls.Entry.{Entry}
-use Rattle.core_store.specs.declared.journal.Journal.TheInside.{Inside}
-use Rattle.core_store.specs.declared.note.Note.{Note}
-use Rattle.core_store.specs.Limited.{is_past_limit}
-use Rattle.core_store.specs.Steppings.{left_told, pops}
-use Rattle.core_store.proofs.AskLaws.{ready-collect, sound-marked}
-use Rattle.core_store.proofs.EventLaws.{collector_note, made, made-event, made-safe, made-lower, told-left}
-use Rattle.core_store.proofs.JournalSteps.{Grows}
-use Rattle.core_store.proofs.ReplyLaws.{on_ok}
-use Rattle.core_store.proofs.journal.Journal.collect_step.Given.{Over}
+use Rattle.std.proofs.Common.{◌≡◌, ◌≤◌, ◌&&◌, true, false, List, ℕ, [], sym, ap, subst, ◌∙◌, arith, rules, inl, inr, ⊎_elim}
+use Rattle.core_store.specs.JournalView.{JournalView}
+use Rattle.core_store.specs.Queued.{is_none_queued}
+use Rattle.core_store.specs.RoundView.{RoundView, Closed, asked, is_closed}
+use Rattle.core_store.proofs.AskLaws.{sound-marked}
+use Rattle.core_store.proofs.EventAnswers.{no-rest}
 use Rattle.core_store.proofs.journal.Journal.collect_step.Goals as goal
 
 pub invariant_of-self : goal.invariant_of-self
 invariant_of-self g c = sound-marked c.self.inside c.mark_full.new.self c.args.self.now 1 c.self.invariant c.self.view_is c.mark_full.ensures (sym c.is_past_limit.ensures ∙ c.if-is_past_limit.true) (omega arith)
 
-pub collect_step-requires : goal.collect_step-requires
-collect_step-requires g c =
-    let s = c.self.invariant in
-    let small : g.row.SLOTS ≤ 14 = ⊎_elim (λ six. omega arith) (λ fourteen. omega arith) s.keeps.stands.counted in
-    (search rules, (search rules, (c.at-next.ensures.next, (ready-collect c.self.inside c.args.self.now c.args.held.now s c.self.view_is c.requires.agree (sym c.is_past_limit.ensures ∙ c.if-is_past_limit.false) c.requires.ready, sym c.is_idle.ensures ∙ c.if-is_idle.false))))
+-- where the collector is not idle, a round is open or an object is queued
+some : (queue : List ℕ) (round : RoundView) → (is_closed round && is_none_queued queue) ≡ false → (queue ≡ []) × (round ≡ Closed) → ⊥
+some queue round busy idle =
+    let both : (is_closed round && is_none_queued queue) ≡ true = ap (λ (r : RoundView). is_closed r && is_none_queued queue) idle.1 ∙ ap is_none_queued idle.0 in
+    let e = sym busy ∙ both in
+    cc (e)
 
--- the journal after the event
-abbrev after : (g : Over) (c : goal.After-answer_of g) → Inside g.row.SLOTS
-after g c = record { alloc = c.self.inside.alloc; opening = c.self.inside.opening; trace = c.add.new.self; tables = c.collect_step.new.self }
+pub make_event-requires : goal.make_event-requires
+make_event-requires g c =
+    let small : g.row.SLOTS ≤ 14 = ⊎_elim (λ six. omega arith) (λ fourteen. omega arith) c.self.invariant.keeps.stands.counted in
+    let history = sym c.is_past_limit.ensures ∙ c.if-is_past_limit.false in
+    let is = subst (λ (j : JournalView). (j.queue ≡ []) × (j.round ≡ Closed) → ⊥) c.self.view_is (some c.self.inside.tables.queue.ids c.self.inside.tables.round.view (sym c.is_idle.ensures ∙ c.if-is_idle.false)) in
+    let next = c.at-next.ensures.next ∙ ap (λ (j : JournalView). asked j.round) c.self.view_is in
+    (search rules, (search rules, (c.requires.agree, (c.requires.ready, (history, (is, next))))))
 
-within : (g : Over) (c : goal.After-answer_of g) → is_past_limit c.args.self.now 1 ≡ false
-within g c = sym c.is_past_limit.ensures ∙ c.if-is_past_limit.false
+pub returns-clause-full : goal.returns-clause-full
+returns-clause-full g c = (λ is. absurd (no-rest c.make_event.result c.make_event.ensures.made (inl is)), λ past. absurd (let e = sym past ∙ (sym c.is_past_limit.ensures ∙ c.if-is_past_limit.false) in cc (e)))
 
-grows : (g : Over) (c : goal.After-answer_of g) → Grows c.self.inside (after g c) (collector_note c.in-Ok.event.act c.in-Ok.event.logged c.left-left.result)
-grows g c = record {
-  opening = refl;
-  limits = c.add.ensures.rest.0 ∙ c.take_room.ensures.rest.0;
-  marks = c.add.ensures.rest.1 ∙ c.take_room.ensures.rest.1;
-  reserved = c.add.ensures.reserved;
-  trace =
-      c.add.ensures.items
-      ∙ (ap (λ (xs : List Note). xs ++ record { entry = c.entry_of.result; logged = c.in-Ok.event.logged; left = c.left-left.result; act = c.in-Ok.event.act } ∷ []) c.take_room.ensures.notes.0
-      ∙ ap (λ (e : Entry). c.self.inside.trace.notes.items ++ record { entry = e; logged = c.in-Ok.event.logged; left = c.left-left.result; act = c.in-Ok.event.act } ∷ []) c.entry_of.ensures);
-  left = c.left-left.ensures;
-}
+pub returns-clause-marked : goal.returns-clause-marked
+returns-clause-marked g c = λ is. absurd (no-rest c.make_event.result c.make_event.ensures.made (inl is))
 
-pub invariant_of-self-2 : goal.invariant_of-self-2
-invariant_of-self-2 g c =
-    let room = on_ok c.take_room.result c.is_err.result c.is_err.ensures.value c.if-is_err.false c.take_room.ensures.room in
-    let long = c.take_room.ensures.notes.1 in
-    let same = c.in-Ok.ensures.owed in
-    (made c.self.inside (after g c) c.args.self.now c.args.held.now c.collect_step.new.held c.in-Ok.event.act c.in-Ok.event.logged c.left-left.result c.self.invariant c.self.view_is c.requires.agree (grows g c) c.in-Ok.ensures.ok (within g c) c.requires.ready c.in-Ok.ensures.owed).sound
-    (omega (arith, room, same, long, c.add.ensures.len, c.add.ensures.room, c.owed.ensures))
+pub returns-clause-idle : goal.returns-clause-idle
+returns-clause-idle g c =
+    let is = subst (λ (j : JournalView). (j.queue ≡ []) × (j.round ≡ Closed) → ⊥) c.self.view_is (some c.self.inside.tables.queue.ids c.self.inside.tables.round.view (sym c.is_idle.ensures ∙ c.if-is_idle.false)) in
+    (λ told. absurd (no-rest c.make_event.result c.make_event.ensures.made (inr told)), λ idle. absurd (is (idle.1, idle.2)))
 
-pub returns-clause-event : goal.returns-clause-event
-returns-clause-event g c = λ _.
-    made-event c.self.inside (after g c) c.args.self.now c.args.held.now c.collect_step.new.held c.in-Ok.event.act c.in-Ok.event.logged c.left-left.result c.self.invariant c.self.view_is c.requires.agree (grows g c) c.in-Ok.ensures.ok (within g c) c.requires.ready c.in-Ok.ensures.owed
-    c.answer_of.result c.answer_of.ensures
-
-pub returns-clause-safe : goal.returns-clause-safe
-returns-clause-safe g c =
-    made-safe c.self.inside (after g c) c.args.self.now c.args.held.now c.collect_step.new.held c.in-Ok.event.act c.in-Ok.event.logged c.left-left.result c.self.invariant c.self.view_is c.requires.agree (grows g c) c.in-Ok.ensures.ok (within g c) c.requires.ready c.in-Ok.ensures.owed
-    c.answer_of.result c.answer_of.ensures
-
-pub returns-clause-lower : goal.returns-clause-lower
-returns-clause-lower g c = λ left e.
-    let told : c.left-left.result ≡ left = told-left c.in-Ok.event.act c.in-Ok.event.logged c.left-left.result left (sym (ap left_told c.answer_of.ensures) ∙ e) in (
-      sym told ∙ c.left-left.ensures,
-      λ p.
-          let lower =
-          made-lower c.self.inside (after g c) c.args.self.now c.args.held.now c.collect_step.new.held c.in-Ok.event.act c.in-Ok.event.logged c.left-left.result c.self.invariant c.self.view_is c.requires.agree (grows g c) c.in-Ok.ensures.ok (within g c) c.requires.ready c.in-Ok.ensures.owed
-          (sym (ap pops c.answer_of.ensures) ∙ p) in
-          omega (arith, lower, told),
-    )
-
-pub returns-clause-agree : goal.returns-clause-agree
-returns-clause-agree g c =
-    (made c.self.inside (after g c) c.args.self.now c.args.held.now c.collect_step.new.held c.in-Ok.event.act c.in-Ok.event.logged c.left-left.result c.self.invariant c.self.view_is c.requires.agree (grows g c) c.in-Ok.ensures.ok (within g c) c.requires.ready c.in-Ok.ensures.owed).agree
-
-pub returns-clause-elsewhere : goal.returns-clause-elsewhere
-returns-clause-elsewhere g c =
-    (made c.self.inside (after g c) c.args.self.now c.args.held.now c.collect_step.new.held c.in-Ok.event.act c.in-Ok.event.logged c.left-left.result c.self.invariant c.self.view_is c.requires.agree (grows g c) c.in-Ok.ensures.ok (within g c) c.requires.ready c.in-Ok.ensures.owed).elsewhere
+pub returns-clause-unchanged : goal.returns-clause-unchanged
+returns-clause-unchanged g c = λ is. absurd (no-rest c.make_event.result c.make_event.ensures.made (inr is))
