@@ -24,9 +24,10 @@ pub record AreLinked (slots : List CopiedSlot) («from» limit : ℕ) (first nex
   pub firsts : (k : ℕ) → «from» ≤ k → k < length slots → target_at slots k ≤ limit → IsNextNaming slots (target_at slots k) «from» (slice_index first (target_at slots k))
   pub nexts : (k : ℕ) → «from» ≤ k → k < length slots → target_at slots k ≤ limit → IsNextNaming slots (target_at slots k) (k + 1) (slice_index next k)
 
--- what is kept of them
-pub record AreLinksInside (slots : List CopiedSlot) (limit capacity : ℕ) (first next : List ℕ) : Type 0 where
+-- what is kept of them: there is room for so many slots, and for as many links
+pub record AreLinksInside (slots : List CopiedSlot) (limit most capacity links : ℕ) (first next : List ℕ) : Type 0 where
   pub linked : AreLinked slots 0 limit first next
   pub firsts : length first ≡ limit + 1
   pub few : length slots ≤ length next
-  pub room : length next ≤ capacity
+  pub room : most ≤ capacity
+  pub link_room : most ≤ links

@@ -1,5 +1,5 @@
 //! The slots of a round's objects, as they were copied, and a way from each to the next one that names the same object.
-ghost use Rattle.std.specs.Prelude.{◌≡◌, ℕ, ◌+◌, ◌*◌, ◌<◌, ◌≤◌, List, [], ◌++◌, ◌∷◌, length, slice_index_or, vec_len, vec_capacity, Contains, IfOk};
+ghost use Rattle.std.specs.Prelude.{◌≡◌, ℕ, ◌+◌, ◌-◌, ◌*◌, ◌<◌, ◌≤◌, List, [], ◌++◌, ◌∷◌, length, replicate, slice_index_or, vec_len, vec_capacity, Contains, IfOk};
 ghost use Rattle.green_walk.specs.Greening.{copied_slots, numbered};
 ghost use Rattle.green_walk.specs.Linked.{IsNextNaming, AreLinked, target_at};
 
@@ -22,22 +22,25 @@ pub(crate) struct CopiedSlot {
 #[derive(Debug, Drop)]
 pub(crate) struct CopiedSlots {
     limit: u32,
+    /// How many slots there is room for.
+    most: usize,
     slots: Vec<CopiedSlot>,
     /// For each id the first slot that names it. What stands there for an id that no slot names means nothing.
     first: Vec<usize>,
-    /// For each slot the next one that names the same object, or the number of slots.
+    /// For each slot the next one that names the same object, or the number of slots. There are as many of these as slots were
+    /// ever copied at once, and room for all.
     next: Vec<usize>,
 }
 
 impl Model for CopiedSlots {
-    ghost use Rattle.std.specs.Prelude.{length, vec_capacity};
+    ghost use Rattle.std.specs.Prelude.{vec_capacity};
     ghost use Rattle.green_walk.specs.Linked.{SlotList, AreLinksInside};
 
     ghost Value = { SlotList };
 
-    ghost view = { λ a. record { slots = a.slots.items; limit = a.limit; most = length a.next.items } };
+    ghost view = { λ a. record { slots = a.slots.items; limit = a.limit; most = a.most } };
 
-    ghost invariant = { λ a. AreLinksInside a.slots.items a.limit (vec_capacity a.slots) a.first.items a.next.items };
+    ghost invariant = { λ a. AreLinksInside a.slots.items a.limit a.most (vec_capacity a.slots) (vec_capacity a.next) a.first.items a.next.items };
 }
 
 /// Appends a slot, for which there is room.
@@ -105,11 +108,23 @@ fn link(slots: &[CopiedSlot], first: &mut Vec<usize>, next: &mut Vec<usize>, at:
     ensures linked { (limit : ℕ) → length first.old.items ≡ limit + 1 → AreLinked slots.now (at + 1) limit first.old.items next.old.items → AreLinked slots.now at limit first.new.items next.new.items }
     ensures firsts { length first.new.items ≡ length first.old.items }
     ensures nexts { length next.new.items ≡ length next.old.items }
+    ensures room { vec_capacity next.old ≤ vec_capacity next.new }
 {
     let target = slots[at].target;
     if (target as usize) < first.len() {
         next[at] = first_from(slots, first, at + 1, target);
         first[target as usize] = at;
+    }
+}
+
+/// Lengthens the links to so many, for which there is room. What stands in a new one means nothing yet.
+fn lengthen(next: &mut Vec<usize>, count: usize)
+    requires { count ≤ vec_capacity next.old }
+    ensures links { next.new.items ≡ next.old.items ++ replicate (count - length next.old.items) 0 }
+    ensures capacity { vec_capacity next.old ≤ vec_capacity next.new }
+{
+    if next.len() < count {
+        let _ = next.resize(count, 0);
     }
 }
 
@@ -120,6 +135,7 @@ fn link_all(slots: &[CopiedSlot], first: &mut Vec<usize>, next: &mut Vec<usize>)
     ensures linked { (limit : ℕ) → length first.old.items ≡ limit + 1 → AreLinked slots.now 0 limit first.new.items next.new.items }
     ensures firsts { length first.new.items ≡ length first.old.items }
     ensures nexts { length next.new.items ≡ length next.old.items }
+    ensures room { vec_capacity next.old ≤ vec_capacity next.new }
 {
     for done in 0..slots.len() {
         link(slots, first, next, slots.len() - 1 - done);
@@ -134,9 +150,10 @@ impl CopiedSlots {
     {
         let slots = Vec::with_capacity(alloc, most)?;
         let first = vec![in alloc; 0; ids as usize + 1]?;
-        let next = vec![in alloc; 0; most]?;
+        let next = Vec::with_capacity(alloc, most)?;
         Ok(CopiedSlots {
             limit: ids,
+            most,
             slots,
             first,
             next,
@@ -154,6 +171,7 @@ impl CopiedSlots {
     {
         self.slots.clear();
         push_all(&mut self.slots, red);
+        lengthen(&mut self.next, self.slots.len());
         link_all(&self.slots, &mut self.first, &mut self.next);
     }
 

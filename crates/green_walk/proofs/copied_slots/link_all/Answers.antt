@@ -8,6 +8,7 @@ loop-done-init c = record {
   linked = λ limit sized. linked-end c.args.slots.now (length c.args.slots.now - 0) limit c.args.first.now.items c.args.next.now.items (omega arith);
   firsts = refl;
   nexts = refl;
+  room = omega arith;
 }
 
 pub link-requires-clause-linked : goal.link-requires-clause-linked
@@ -27,6 +28,7 @@ loop-done-preserved c = record {
       (subst (λ at. AreLinked c.args.slots.now at limit c.loop-done.first.items c.loop-done.next.items) before (c.loop-done.invariant.linked limit sized)));
   firsts = c.link.ensures.firsts ∙ c.loop-done.invariant.firsts;
   nexts = c.link.ensures.nexts ∙ c.loop-done.invariant.nexts;
+  room = (let one = c.link.ensures.room in let before = c.loop-done.invariant.room in omega (arith, one, before));
 }
 
 pub returns-clause-linked : goal.returns-clause-linked
