@@ -25,13 +25,31 @@ use Rattle.core_store.specs.Stands.{Stands}
 use Rattle.core_store.specs.Frames.{Agree, HoldsAll}
 use Rattle.core_store.specs.Slots.{HoldsPagesOf}
 use Rattle.core_store.specs.Collecting.{objects_at}
-use Rattle.core_store.specs.Nulls.{slot_at, at_slot, IsNullAt}
+use Rattle.core_store.specs.Nulls.{slot_at}
 use Rattle.core_store.proofs.AskedLaws.{asked-look, asked-cut}
 use Rattle.core_store.proofs.LookLaws.{null-look}
 use Rattle.core_store.proofs.SeenLaws.{GreenOf, green-of, waiting-live, work-at, there-at}
 use Rattle.core_store.proofs.PassLaws.{HasPassed}
 use Rattle.core_store.proofs.ReadyRound.{asked-few}
 use Rattle.core_store.proofs.WantLaws.{all-objects}
+
+-- ---- looks at null slots
+
+-- the same look at another slot of the object
+abbrev pub at_slot : RoundAt → ℕ → RoundAt
+at_slot (at.Look id slot) other = at.Look id other
+at_slot (at.Cut id slot) other = at.Cut id other
+at_slot (at.Test id slot) other = at.Test id other
+at_slot (at.Out «from» slot) other = at.Out «from» other
+at_slot r other = r
+
+-- it is a look at such a slot, which is null
+abbrev pub IsNullAt : List Cell → RoundAt → Type 0
+IsNullAt cells (at.Look id slot) = (pointer_at cells id slot).target ≡ 0
+IsNullAt cells (at.Cut id slot) = (pointer_at cells id slot).target ≡ 0
+IsNullAt cells (at.Test id slot) = (pointer_at cells id slot).target ≡ 0
+IsNullAt cells (at.Out «from» slot) = (pointer_at cells «from» slot).target ≡ 0
+IsNullAt cells _ = ⊥
 
 -- ---- there is nothing to do
 
@@ -66,7 +84,7 @@ null-white {c} h x = ap (λ (b : Bool). b && has_no_strong (cell_at c.cells 0)) 
 
 -- ---- the next slot of the object comes next
 
-look-on : (xs : List ℕ) (s : ℕ) (ys : List ℕ) (id k : ℕ) → first_of xs s ys ≡ red.Look id k → (s ≡ k) × (first_of xs (s + 1) ys ≡ red.Look id (k + 1))
+pub look-on : (xs : List ℕ) (s : ℕ) (ys : List ℕ) (id k : ℕ) → first_of xs s ys ≡ red.Look id k → (s ≡ k) × (first_of xs (s + 1) ys ≡ red.Look id (k + 1))
 look-on [] s [] id k e = absurd (cc)
 look-on [] s (y ∷ ys) id k e = absurd (cc)
 look-on (x ∷ xs) s ys id k e =
@@ -123,7 +141,7 @@ out-on : (g : Greening) («from» k : ℕ) → next_of_green g ≡ green.Out «f
 out-on g «from» k e l = out-at (settled g) (settled g).stage «from» k (there g) e (rw (settles g).same.slots l)
 
 module _ {slots : ℕ} {v : TablesView} {c : Core} (h : Stands slots v c) where
-  sweeps : {a : RoundAt} (x : GreenOf v.round a) → IsSweeping slots v.ids x.walk x.swept x.slot x.of
+  pub sweeps : {a : RoundAt} (x : GreenOf v.round a) → IsSweeping slots v.ids x.walk x.swept x.slot x.of
   sweeps x = subst (IsInStep slots v.ids) x.is h.in_step
 
   test-next : (id k : ℕ) → asked v.round ≡ at.Test id k → (pointer_at c.cells id k).target ≡ 0 → k + 1 < slots → asked (looked_past slots c.cells v.round) ≡ at.Test id (k + 1)

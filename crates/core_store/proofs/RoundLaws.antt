@@ -1,5 +1,5 @@
 -- How the parts of a round are read off what is seen of it, and that each change keeps them in step.
-use Rattle.std.proofs.Common.{◌≡◌, ◌≢◌, ℕ, ◌+◌, ◌-◌, ◌*◌, ◌<◌, ◌≤◌, ◌==◌, Bool, not, List, length, drop, Option, Some, None, refl, sym, ap, ◌∙◌, subst, arith, ne_eqb, ⊎_elim}
+use Rattle.std.proofs.Common.{◌≡◌, ◌≢◌, ℕ, ◌+◌, ◌-◌, ◌*◌, ◌<◌, ◌≤◌, ◌==◌, Bool, true, false, not, List, length, drop, Option, Some, None, refl, sym, ap, ◌∙◌, subst, arith, eq-eqb, ne_eqb, ⊎_elim}
 use Rattle.std.specs.Prelude.{Contains, IfSome}
 use Rattle.std.proofs.lemmas.Nat.{mul-le}
 use Rattle.std.proofs.lemmas.List.{length-drop}
@@ -13,18 +13,20 @@ use Rattle.green_walk.specs.declared.sweep.Found.TheVariants.{Nothing, Made}
 use Rattle.green_walk.specs.declared.green_at.Test.{Test}
 use Rattle.green_walk.specs.Judged.{Judged}
 use Rattle.green_walk.specs.Sweeping.{SweepState as Sweep, IsSweep, next as next_of_sweep, found, found_at}
-use Rattle.green_walk.specs.Greening.{Greening, GreenStage, AtSeed, AtInto, AtOut, IsGreening, IsPlace, IsAnswer, IsTestable, next as next_of_green, found as found_by_green, testing, tested, again, work_left, work_at, seed_work, walk_work}
+use Rattle.green_walk.specs.Greening.{Greening, GreenStage, AtSeed, AtInto, AtOut, IsGreening, IsPlace, IsAnswer, IsTestable, next as next_of_green, found as found_by_green, testing, tested, tested_to, walked_to, again, work_left, work_at, seed_work, walk_work}
 use Rattle.green_walk.specs.GreenLaws.{IsSameWalk}
 use Rattle.green_walk.proofs.SweepLaws.{free-law}
 use Rattle.green_walk.proofs.GreenAsked.{Contains-drop}
 use Rattle.green_walk.proofs.GreenAnswers.{found-law, testing-law, tested-law, test-law}
+use Rattle.green_walk.proofs.JumpLaws.{tested-to-law, walked-to-law}
 use Rattle.core_store.specs.declared.round.Stage.{Stage}
 use Rattle.core_store.specs.declared.round.Stage.TheVariants as stage
+use Rattle.core_store.specs.declared.round_at.RoundAt.{RoundAt}
 use Rattle.core_store.specs.declared.round_at.RoundAt.TheVariants as at
-use Rattle.core_store.specs.RoundView.{Walking, Sweeping, asked, IsGreenAnswer, IsGreenTestable, IsInStep}
+use Rattle.core_store.specs.RoundView.{RoundView, Rounds, Walking, Sweeping, asked, asked_by_sweep, to_slot, green_to, swept_to, looked_to, IsGreenAnswer, IsGreenTestable, IsInStep}
 use Rattle.core_store.specs.RoundInside.{view_of_round, AreInStep}
 use Rattle.core_store.proofs.AskedGreen.{IsAskedBy}
-use Rattle.core_store.proofs.AskedLaws.{asked-cut, asked-free, asked-by_green}
+use Rattle.core_store.proofs.AskedLaws.{IsGreenAt, asked-cut, asked-free, asked-by_green}
 
 -- the walk of a round that walks
 pub walk-of : (a : Stage) (w : Walk) (s : Sweep) (slot : ℕ) (g : Greening) (u : Walk) → view_of_round a w s slot g ≡ Walking u → w ≡ u
@@ -54,6 +56,13 @@ free-asked a w s slot id g e =
     let p = sweeping-of a w x.0 s x.1 slot x.2 g x.3 x.4 in
     (p.0, ap next_of_sweep p.2 ∙ x.5)
 
+-- the green walk asked for something
+pub green-asked : (a : Stage) (w : Walk) (s : Sweep) (slot : ℕ) (r : RoundAt) (g : Greening) → IsGreenAt r → asked (view_of_round a w s slot g) ≡ r → (a ≡ stage.Sweeping) × (next_of_sweep s ≡ sweep.End) × IsAskedBy g.slots g.test (next_of_green g) r
+green-asked a w s slot r g green e =
+    let x = asked-by_green (view_of_round a w s slot g) r green e in
+    let p = sweeping-of a w x.0 s x.1 slot x.2 g x.3 x.4 in
+    (p.0, ap next_of_sweep p.2 ∙ x.5, subst (λ (h : Greening). IsAskedBy h.slots h.test (next_of_green h) r) (sym p.4) x.7)
+
 -- a test is in hand where the green walk asked for one of its slots
 pub test-asked : (a : Stage) (w : Walk) (s : Sweep) (slot id k : ℕ) (g : Greening) → IsGreening g → asked (view_of_round a w s slot g) ≡ at.Test id k → (next_of_sweep s ≡ sweep.End) × (t : Test) × (g.test ≡ Some t) × (t.slot < g.slots)
 test-asked a w s slot id k g sound e =
@@ -81,6 +90,59 @@ pub testable-of : (a : Stage) (w : Walk) (s : Sweep) (slot : ℕ) (g : Greening)
 testable-of stage.Closed w s slot g id h = absurd h
 testable-of stage.Walking w s slot g id h = absurd h
 testable-of stage.Sweeping w s slot g id h = h
+
+-- ---- the round goes on to a slot further on
+
+-- where the green walk asks for a slot, the round goes on to another one as it does
+pub green-goes : (slots : ℕ) (w : Walk) (s : Sweep) (slot n : ℕ) (g : Greening) (r : RoundAt) → next_of_sweep s ≡ sweep.End → asked (Sweeping w s slot g) ≡ r → looked_to slots (Sweeping w s slot g) n ≡ Sweeping w s slot (green_to g n r)
+green-goes slots w s slot n g r rest e =
+    ap (swept_to slots w s slot g n) rest ∙ ap (λ (b : RoundAt). Sweeping w s slot (green_to g n b)) (sym (ap (asked_by_sweep slot g) rest) ∙ e)
+
+green-view-at : (slots : ℕ) (a : Stage) (w : Walk) (s : Sweep) (slot n : ℕ) (g : Greening) (r : RoundAt) → a ≡ stage.Sweeping → next_of_sweep s ≡ sweep.End → asked (view_of_round a w s slot g) ≡ r → view_of_round a w s slot (green_to g n r) ≡ looked_to slots (view_of_round a w s slot g) n
+green-view-at slots stage.Closed w s slot n g r same rest e = absurd (cc)
+green-view-at slots stage.Walking w s slot n g r same rest e = absurd (cc)
+green-view-at slots stage.Sweeping w s slot n g r same rest e = sym (green-goes slots w s slot n g r rest e)
+
+pub green-view : (slots : ℕ) (a : Stage) (w : Walk) (s : Sweep) (slot n : ℕ) (g : Greening) (r : RoundAt) → IsGreenAt r → asked (view_of_round a w s slot g) ≡ r → view_of_round a w s slot (green_to g n r) ≡ looked_to slots (view_of_round a w s slot g) n
+green-view slots a w s slot n g r green e = let x = green-asked a w s slot r g green e in green-view-at slots a w s slot n g r x.0 x.1 e
+
+-- so it does where the sweep asks for a slot
+cut-view-at : (slots : ℕ) (a : Stage) (w : Walk) (s : Sweep) (slot id n : ℕ) (g : Greening) → a ≡ stage.Sweeping → next_of_sweep s ≡ sweep.Slots id → looked_to slots (view_of_round a w s slot g) n ≡ to_slot slots w s n g
+cut-view-at slots stage.Closed w s slot id n g same e = absurd (cc)
+cut-view-at slots stage.Walking w s slot id n g same e = absurd (cc)
+cut-view-at slots stage.Sweeping w s slot id n g same e = ap (swept_to slots w s slot g n) e
+
+pub cut-view : (slots : ℕ) (a : Stage) (w : Walk) (s : Sweep) (slot id k n : ℕ) (g : Greening) → asked (view_of_round a w s slot g) ≡ at.Cut id k → looked_to slots (view_of_round a w s slot g) n ≡ to_slot slots w s n g
+cut-view slots a w s slot id k n g e = let x = cut-asked a w s slot id k g e in cut-view-at slots a w s slot id n g x.0 x.1
+
+-- the same, as it is seen
+pub green-rounds : (slots ids : ℕ) (a : Stage) (w : Walk) (s : Sweep) (slot n : ℕ) (g h : Greening) (r : RoundAt) (seen : Rounds) → (let x : Rounds = record { limit = ids; view = view_of_round a w s slot g } in x) ≡ seen → IsGreenAt r → asked seen.view ≡ r → h ≡ green_to g n r
+    → (let x : Rounds = record { limit = ids; view = view_of_round a w s slot h } in x) ≡ record seen { view = looked_to slots seen.view n }
+green-rounds slots ids a w s slot n g h r seen v green e is =
+    let after : view_of_round a w s slot h ≡ looked_to slots (view_of_round a w s slot g) n = ap (view_of_round a w s slot) is ∙ green-view slots a w s slot n g r green (ap (λ (x : Rounds). asked x.view) v ∙ e) in
+    subst (λ (x : Rounds). (let y : Rounds = record { limit = ids; view = view_of_round a w s slot h } in y) ≡ record x { view = looked_to slots x.view n }) v (ap (λ (q : RoundView). let x : Rounds = record { limit = ids; view = q } in x) after)
+
+sweeping-view : (a : Stage) (w : Walk) (s : Sweep) (slot : ℕ) (g : Greening) → a ≡ stage.Sweeping → view_of_round a w s slot g ≡ Sweeping w s slot g
+sweeping-view a w s slot g e = ap (λ (b : Stage). view_of_round b w s slot g) e
+
+cut-rounds : (slots ids : ℕ) (a : Stage) (w : Walk) (s t : Sweep) (slot id i n k : ℕ) (g : Greening) (seen : Rounds) → (let x : Rounds = record { limit = ids; view = view_of_round a w s slot g } in x) ≡ seen → asked seen.view ≡ at.Cut id i → to_slot slots w s n g ≡ Sweeping w t k g
+    → (let x : Rounds = record { limit = ids; view = view_of_round a w t k g } in x) ≡ record seen { view = looked_to slots seen.view n }
+cut-rounds slots ids a w s t slot id i n k g seen v e is =
+    let here = ap (λ (x : Rounds). asked x.view) v ∙ e in
+    let after : view_of_round a w t k g ≡ looked_to slots (view_of_round a w s slot g) n = sweeping-view a w t k g (cut-asked a w s slot id i g here).0 ∙ (sym is ∙ sym (cut-view slots a w s slot id i n g here)) in
+    subst (λ (x : Rounds). (let y : Rounds = record { limit = ids; view = view_of_round a w t k g } in y) ≡ record x { view = looked_to slots x.view n }) v (ap (λ (q : RoundView). let x : Rounds = record { limit = ids; view = q } in x) after)
+
+pub cut-on : (slots ids : ℕ) (a : Stage) (w : Walk) (s t : Sweep) (slot id i n : ℕ) (g : Greening) (seen : Rounds) → (let x : Rounds = record { limit = ids; view = view_of_round a w s slot g } in x) ≡ seen → asked seen.view ≡ at.Cut id i → n ≡ slots → t ≡ found s Nothing
+    → (let x : Rounds = record { limit = ids; view = view_of_round a w t 0 g } in x) ≡ record seen { view = looked_to slots seen.view n }
+cut-on slots ids a w s t slot id i n g seen v e last behind =
+    let all : (n == slots) ≡ true = eq-eqb n slots last in
+    cut-rounds slots ids a w s t slot id i n 0 g seen v e (rw all (ap (λ (x : Sweep). Sweeping w x 0 g) (sym behind)))
+
+pub cut-within : (slots ids : ℕ) (a : Stage) (w : Walk) (s : Sweep) (slot id i n : ℕ) (g : Greening) (seen : Rounds) → (let x : Rounds = record { limit = ids; view = view_of_round a w s slot g } in x) ≡ seen → asked seen.view ≡ at.Cut id i → n ≢ slots
+    → (let x : Rounds = record { limit = ids; view = view_of_round a w s n g } in x) ≡ record seen { view = looked_to slots seen.view n }
+cut-within slots ids a w s slot id i n g seen v e other =
+    let some : (n == slots) ≡ false = ne_eqb n slots other in
+    cut-rounds slots ids a w s s slot id i n n g seen v e (rw some refl)
 
 -- ---- the parts stay in step
 
@@ -134,6 +196,17 @@ tested-in-step slots ids a w locked j s slot id n g k after e =
     let x = test-asked a w s slot id n g k.green_sound e in
     green-in-step slots ids a w locked j s slot g (tested g) k after (tested-law g x.1 k.green_sound x.2 x.3).0 (λ other. absurd (other x.0))
 
+-- a test and a walk of green objects go on to a slot further on
+pub tested-to-in-step : (slots ids : ℕ) (a : Stage) (w : Walk) (locked : List Bool) (j : Judged) (s : Sweep) (slot id n to : ℕ) (g : Greening) → AreInStep slots ids a w locked j s slot g → IsGreening (tested_to g to) → asked (view_of_round a w s slot g) ≡ at.Test id n → AreInStep slots ids a w locked j s slot (tested_to g to)
+tested-to-in-step slots ids a w locked j s slot id n to g k after e =
+    let x = test-asked a w s slot id n g k.green_sound e in
+    green-in-step slots ids a w locked j s slot g (tested_to g to) k after (tested-to-law g x.1 to to x.2).2 (λ other. absurd (other x.0))
+
+pub walked-to-in-step : (slots ids : ℕ) (a : Stage) (w : Walk) (locked : List Bool) (j : Judged) (s : Sweep) (slot id n to : ℕ) (g : Greening) → AreInStep slots ids a w locked j s slot g → IsGreening (walked_to g to) → asked (view_of_round a w s slot g) ≡ at.Out id n → AreInStep slots ids a w locked j s slot (walked_to g to)
+walked-to-in-step slots ids a w locked j s slot id n to g k after e =
+    let x = green-asked a w s slot (at.Out id n) g tt e in
+    green-in-step slots ids a w locked j s slot g (walked_to g to) k after (walked-to-law g id n to to x.2.0).2 (λ other. absurd (other x.1))
+
 pub again-in-step : (slots ids : ℕ) (a : Stage) (w : Walk) (locked : List Bool) (j : Judged) (s : Sweep) (slot : ℕ) (g : Greening) → AreInStep slots ids a w locked j s slot g → IsGreening (again g) → AreInStep slots ids a w locked j s slot (again g)
 again-in-step slots ids a w locked j s slot g k after = green-in-step slots ids a w locked j s slot g (again g) k after (record { live = refl; slots = refl; limit = refl }) (λ other. refl)
 
@@ -161,11 +234,9 @@ cut-in-step slots ids a w locked j s slot id g k after e =
     some : 0 < slots
     some = let below = k.within in omega (arith, below)
 
--- it goes on with the object's next slot
-pub slot-in-step : (slots ids : ℕ) (a : Stage) (w : Walk) (locked : List Bool) (j : Judged) (s : Sweep) (slot : ℕ) (g : Greening) → AreInStep slots ids a w locked j s slot g → slot + 1 ≢ slots → AreInStep slots ids a w locked j s (slot + 1) g
-slot-in-step slots ids a w locked j s slot g k other =
-    let below = k.within in
-    let behind : slot + 1 ≤ slots = omega (arith, below) in
+-- it goes on with another slot of the object
+pub at-slot-in-step : (slots ids : ℕ) (a : Stage) (w : Walk) (locked : List Bool) (j : Judged) (s : Sweep) (slot n : ℕ) (g : Greening) → AreInStep slots ids a w locked j s slot g → n ≤ slots → n ≢ slots → AreInStep slots ids a w locked j s n g
+at-slot-in-step slots ids a w locked j s slot n g k few other =
     record {
       walk_sound = k.walk_sound;
       sweep_sound = k.sweep_sound;
@@ -175,7 +246,7 @@ slot-in-step slots ids a w locked j s slot g k other =
       verdict_limit = k.verdict_limit;
       sweep_limit = k.sweep_limit;
       few = k.few;
-      within = lt_of_le-ne behind other;
+      within = lt_of_le-ne few other;
       whole = k.whole;
       green_limit = k.green_limit;
       green_slots = k.green_slots;
@@ -183,6 +254,10 @@ slot-in-step slots ids a w locked j s slot g k other =
       spared = k.spared;
       at_rest = k.at_rest;
     }
+
+-- with the next one
+pub slot-in-step : (slots ids : ℕ) (a : Stage) (w : Walk) (locked : List Bool) (j : Judged) (s : Sweep) (slot : ℕ) (g : Greening) → AreInStep slots ids a w locked j s slot g → slot + 1 ≢ slots → AreInStep slots ids a w locked j s (slot + 1) g
+slot-in-step slots ids a w locked j s slot g k other = let below = k.within in at-slot-in-step slots ids a w locked j s slot (slot + 1) g k (omega (arith, below)) other
 
 -- an object is freed, which is none of those that live
 pub freed-in-step : (slots ids : ℕ) (a : Stage) (w : Walk) (locked : List Bool) (j : Judged) (s : Sweep) (slot id : ℕ) (g : Greening) → AreInStep slots ids a w locked j s slot g → IsWalk slots (removed w id) → IsSweep (found s (Made id)) → a ≡ stage.Sweeping → next_of_sweep s ≡ sweep.Free id → AreInStep slots ids a (removed w id) locked j (found s (Made id)) slot g

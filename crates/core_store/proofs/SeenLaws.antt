@@ -17,7 +17,7 @@ use Rattle.core_store.specs.declared.round_at.RoundAt.{RoundAt}
 use Rattle.core_store.specs.declared.round_at.RoundAt.TheVariants as at
 use Rattle.core_store.specs.Frames.{Agree}
 use Rattle.core_store.specs.Changes.{has_no_strong, is_counted_strong}
-use Rattle.core_store.specs.RoundView.{RoundView, Sweeping, asked, is_event, is_white, looked_past, passed_by_sweep, passed_by_green, IsGreenAnswer, IsGreenTestable, IsInStep, IsSweeping}
+use Rattle.core_store.specs.RoundView.{RoundView, Sweeping, asked, is_event, is_white, looked_past, passed_by_sweep, passed_by_green, green_to, swept_to, looked_to, IsGreenAnswer, IsGreenTestable, IsInStep, IsSweeping}
 use Rattle.core_store.specs.Work.{IsWork}
 use Rattle.core_store.specs.Collecting.{work_at, CanPass, IsPassedBy}
 use Rattle.core_store.specs.Tables.{TablesView}
@@ -42,6 +42,7 @@ pub record GreenOf (r : RoundView) (a : RoundAt) : Type 0 where
   pub rest : next_of_sweep swept ≡ sweep.End
   pub asks : IsAskedBy of.slots of.test (next_of_green of) a
   pub passes : (slots : ℕ) (cells : List Cell) → looked_past slots cells r ≡ Sweeping walk swept slot (passed_by_green cells of a)
+  pub goes : (slots n : ℕ) → looked_to slots r n ≡ Sweeping walk swept slot (green_to of n a)
 
 pub green-of : (r : RoundView) (a : RoundAt) → IsGreenAt a → asked r ≡ a → GreenOf r a
 green-of r a k e =
@@ -55,6 +56,7 @@ green-of r a k e =
       rest = x.5;
       asks = x.7;
       passes = λ slots cells. ap (looked_past slots cells) x.4 ∙ (ap (passed_by_sweep slots cells x.0 x.1 x.2 x.3) x.5 ∙ ap (λ (b : RoundAt). Sweeping x.0 x.1 x.2 (passed_by_green cells x.3 b)) x.6);
+      goes = λ slots n. ap (λ (q : RoundView). looked_to slots q n) x.4 ∙ (ap (swept_to slots x.0 x.1 x.2 x.3 n) x.5 ∙ ap (λ (b : RoundAt). Sweeping x.0 x.1 x.2 (green_to x.3 n b)) x.6);
     }
 
 module _ {r : RoundView} {a : RoundAt} (x : GreenOf r a) where

@@ -4,7 +4,7 @@ use Rattle.cell_model.specs.Cells.{Cell, cell_at, pointer_at}
 use Rattle.store_model.specs.Core.{Copy, Round}
 use Rattle.red_walk.specs.declared.red_at.RedAt.{RedAt}
 use Rattle.red_walk.specs.declared.red_at.RedAt.TheVariants as red
-use Rattle.red_walk.specs.Walk.{Walk, IsWalk, next, opened, moved, joined_by, copied, touched_at, removed, work_left}
+use Rattle.red_walk.specs.Walk.{Walk, IsWalk, next, opened, moved, moved_to, joined_by, copied, touched_at, removed, work_left}
 use Rattle.red_walk.specs.Rounds.{round_of as walked}
 use Rattle.green_walk.specs.declared.sweep.SweepAt.{SweepAt}
 use Rattle.green_walk.specs.declared.sweep.SweepAt.TheVariants as sweep
@@ -15,7 +15,7 @@ use Rattle.green_walk.specs.declared.green_at.GreenAt.TheVariants as green
 use Rattle.green_walk.specs.declared.green_at.Test.{Test}
 use Rattle.green_walk.specs.Judged.{Judged}
 use Rattle.green_walk.specs.Sweeping.{SweepState as Sweep, IsSweep, next as next_of_sweep, started, found, unemptied, unfreed}
-use Rattle.green_walk.specs.Greening.{Greening, IsGreening, next as next_of_green, found as found_by_green, started as green_started, IsAnswer, IsTestable, waits, testing, tested, again, work_left as green_left}
+use Rattle.green_walk.specs.Greening.{Greening, IsGreening, next as next_of_green, found as found_by_green, started as green_started, IsAnswer, IsTestable, waits, testing, tested, tested_to, walked_to, again, work_left as green_left}
 use Rattle.green_walk.specs.GreenLaws.{most_work}
 use Rattle.log_record.specs.declared.cell_record.CellRecord.{CellRecord}
 use Rattle.log_record.specs.declared.cell_record.CellRecord.TheVariants as logs
@@ -126,9 +126,13 @@ IsGreenTestable _ id = ⊥
 
 -- ---- how it goes on
 
+-- the sweep is at this slot of its object, or where the object has no such slot at the first slot of the next object
+abbrev pub to_slot : ℕ → Walk → Sweep → ℕ → Greening → RoundView
+to_slot slots w s slot g = if slot == slots then Sweeping w (found s Nothing) 0 g else Sweeping w s slot g
+
 -- the sweep is at the next slot of its object, or behind the last one at the first slot of the next object
 abbrev pub next_slot : ℕ → Walk → Sweep → ℕ → Greening → RoundView
-next_slot slots w s slot g = if slot + 1 == slots then Sweeping w (found s Nothing) 0 g else Sweeping w s (slot + 1) g
+next_slot slots w s slot g = to_slot slots w s (slot + 1) g
 
 -- no strong pointer leads to the object, which waits
 abbrev pub is_white : List Cell → Greening → ℕ → Bool
@@ -165,6 +169,24 @@ abbrev pub looked_past : ℕ → List Cell → RoundView → RoundView
 looked_past slots cells Closed = Closed
 looked_past slots cells (Walking w) = Walking (moved slots w)
 looked_past slots cells (Sweeping w s slot g) = passed_by_sweep slots cells w s slot g (next_of_sweep s)
+
+-- the green walk at this slot of the object of its test or of the green object, where it looks at one of their slots
+abbrev pub green_to : Greening → ℕ → RoundAt → Greening
+green_to g slot (TestOf id at) = tested_to g slot
+green_to g slot (Out «from» at) = walked_to g slot
+green_to g slot _ = g
+
+-- the sweep, or the green walk behind it, at this slot of the object that is looked at
+abbrev pub swept_to : ℕ → Walk → Sweep → ℕ → Greening → ℕ → SweepAt → RoundView
+swept_to slots w s at g slot (sweep.Slots id) = to_slot slots w s slot g
+swept_to slots w s at g slot (sweep.Free id) = Sweeping w s at g
+swept_to slots w s at g slot sweep.End = Sweeping w s at (green_to g slot (asked_by_green g.slots g.test (next_of_green g)))
+
+-- the round at this slot of the object that is looked at, or behind the object where it has no such slot
+abbrev pub looked_to : ℕ → RoundView → ℕ → RoundView
+looked_to slots Closed slot = Closed
+looked_to slots (Walking w) slot = Walking (moved_to slots w slot)
+looked_to slots (Sweeping w s at g) slot = swept_to slots w s at g slot (next_of_sweep s)
 
 -- slots were looked at one after another, and nothing was to do at any of them
 pub data Passes (slots : ℕ) (cells : List Cell) (u : RoundView) : RoundView → Type 0 where

@@ -1,8 +1,8 @@
 //! The looks of the collector: what it sees on the held pages where there is nothing to do.
-ghost use Rattle.std.specs.Prelude.{◌≡◌, ◌<◌, ◌*◌, ℕ, List, slice_get, IfSome, true, false, Some};
+ghost use Rattle.std.specs.Prelude.{◌≡◌, ◌≢◌, ◌<◌, ◌≤◌, ◌*◌, ℕ, List, slice_get, slice_index, IfSome, true, false, Some};
 ghost use Rattle.cell_page.specs.Format.{IsSlotCount, page_of_id};
 ghost use Rattle.store_model.specs.Core.{Core};
-ghost use Rattle.core_store.specs.RoundView.{asked, is_event, IsLookAt, Passes, looked_past};
+ghost use Rattle.core_store.specs.RoundView.{asked, is_event, IsLookAt, Passes, looked_past, looked_to};
 ghost use Rattle.core_store.specs.Frames.{Agree, HoldsAll, IsNext, pages_held, is_held};
 ghost use Rattle.core_store.specs.Logged.{want_of};
 ghost use Rattle.core_store.specs.Work.{IsWork, HasSmallTargets};
@@ -12,7 +12,7 @@ ghost use Rattle.core_store.specs.Ready.{IsStanding};
 ghost use Rattle.cell_model.specs.Cells.{Cell as StoredCell};
 ghost use Rattle.core_store.specs.Slots.{HoldsPagesOf};
 ghost use Rattle.core_store.specs.Collecting.{work_at, objects_at, pages_to_collect, CanPass, IsPassedBy};
-ghost use Rattle.core_store.specs.Nulls.{slot_at, at_slot, IsNullAt, CanPassNull};
+ghost use Rattle.core_store.specs.Nulls.{slot_at};
 
 use crate::round_at::RoundAt;
 use crate::slots;
@@ -64,25 +64,20 @@ fn slot_at(at: RoundAt) -> Option<(u32, u8)>
     }
 }
 
-/// The same look at another slot of the object.
-fn at_slot(at: RoundAt, other: u8) -> RoundAt
-    ensures { result ≡ at_slot at other }
+/// The first of the slots from this one on that is not null, or the number of slots.
+fn next_pointer<const SLOTS: usize>(slots: &[u32; SLOTS], from: usize) -> usize
+    requires { from ≤ SLOTS }
+    ensures behind { from ≤ result }
+    ensures within { result ≤ SLOTS }
+    ensures nulls { (k : ℕ) → from ≤ k → k < result → slice_index slots.now k ≡ 0 }
+    ensures pointer { result < SLOTS → slice_index slots.now result ≢ 0 }
 {
-    match at {
-        RoundAt::Look { id, .. } => RoundAt::Look { id, slot: other },
-        RoundAt::Cut { id, .. } => RoundAt::Cut { id, slot: other },
-        RoundAt::Test { id, .. } => RoundAt::Test { id, slot: other },
-        RoundAt::Out { from, .. } => RoundAt::Out { from, slot: other },
-        RoundAt::Queue
-        | RoundAt::Copy { .. }
-        | RoundAt::Judge
-        | RoundAt::Free { .. }
-        | RoundAt::Seed { .. }
-        | RoundAt::Flip { .. }
-        | RoundAt::Into { .. }
-        | RoundAt::Strengthen { .. }
-        | RoundAt::End => at,
+    for place in from..SLOTS {
+        if slots[place] != 0 {
+            return place;
+        }
     }
+    SLOTS
 }
 
 /// Whether there is something to do, and not only to look at.
@@ -191,27 +186,26 @@ impl<const SLOTS: usize> Tables<SLOTS> {
         ensures same { view_of self.new ≡ record (view_of self.old) { round = (view_of self.new).round } }
         ensures none { result ≡ false → view_of self.new ≡ view_of self.old }
     {
-        let slots = &held.cell(id).slots;
         let first = slot as usize;
-        for place in first..SLOTS {
-            if slots[place] != 0 {
-                return place != first;
-            }
-            self.pass_null(at_slot(at, place as u8));
+        let place = next_pointer(&held.cell(id).slots, first);
+        if place == first {
+            return false;
         }
+        self.look_to(at, place as u8);
         true
     }
 
-    /// Goes on from a slot that is null.
-    fn pass_null(&mut self, at: RoundAt)
+    /// Goes on to this slot of the object that is looked at, or behind the object where it has no such slot.
+    fn look_to(&mut self, at: RoundAt, slot: u8)
         requires at { at ≡ asked (view_of self.old).round }
-        requires null { CanPassNull SLOTS (view_of self.old) at }
-        ensures passed { (c : Core) → Stands SLOTS (view_of self.old) c → IsNullAt c.cells at → IsPassedBy SLOTS c (view_of self.old) (view_of self.new) }
+        requires look { (id : ℕ) × (k : ℕ) × (slot_at at ≡ Some (id, k)) }
+        requires within { slot ≤ SLOTS }
+        ensures { view_of self.new ≡ record (view_of self.old) { round = looked_to SLOTS (view_of self.old).round slot } }
     {
         match at {
-            RoundAt::Look { .. } | RoundAt::Cut { .. } => self.round.look_past(),
-            RoundAt::Test { .. } => self.round.tested(),
-            RoundAt::Out { .. } => self.round.found(Found::Nothing),
+            RoundAt::Look { .. } | RoundAt::Cut { .. } => self.round.look_to(slot),
+            RoundAt::Test { .. } => self.round.test_to(slot),
+            RoundAt::Out { .. } => self.round.walk_to(slot),
             RoundAt::Queue
             | RoundAt::Copy { .. }
             | RoundAt::Judge

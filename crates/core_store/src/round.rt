@@ -24,6 +24,8 @@ use std::alloc::Global;
 use std::marker::Model;
 use strict_locks::LockTable;
 
+mod jumps;
+
 /// How far a round has come.
 #[derive(Clone, Copy, PartialEq, Eq, Debug)]
 enum Stage {

@@ -10,9 +10,9 @@ use Rattle.green_walk.specs.declared.green.Stage.TheVariants as stage
 use Rattle.green_walk.specs.declared.sweep.Found.{Found}
 use Rattle.green_walk.specs.declared.sweep.Found.TheVariants.{Nothing, Made, Strong}
 use Rattle.green_walk.specs.Linked.{SlotList, IsNextNaming}
-use Rattle.green_walk.specs.Greening.{Greening, GreenStage, AtSeed, AtInto, AtOut, IsGreening, IsAnswer, waits, first_seed, settled, asked_at, next, found_at_seed, found_at_out, found_in, found, moved}
+use Rattle.green_walk.specs.Greening.{Greening, GreenStage, AtSeed, AtInto, AtOut, IsGreening, IsPlace, IsAnswer, waits, first_seed, settled, asked_at, next, found_at_seed, found_at_out, found_in, found, moved, moved_to}
 use Rattle.green_walk.specs.GreenInside.{greening_of, stage_of, AreInStep}
-use Rattle.green_walk.proofs.GreenSteps.{waits-parts, id-within, found-greening}
+use Rattle.green_walk.proofs.GreenSteps.{IsThere, there, waits-parts, id-within, moved-to-greening, found-greening}
 
 -- what waits has an id within the limits
 pub waiting-within : (g : Greening) (id : ℕ) → IsGreening g → waits g id ≡ true → (1 ≤ id) × (id ≤ g.limit)
@@ -42,12 +42,12 @@ seed-settled-at g (AtOut place slot) e = absurd (cc)
 pub seed-settled : (g : Greening) → g.stage ≡ AtSeed → settled g ≡ g
 seed-settled g e = seed-settled-at g g.stage e
 
--- behind the last slot of an object comes the next object, behind any other the next slot
-pub moved-on : (g : Greening) (place slot : ℕ) → slot + 1 ≡ g.slots → (moved g place slot).stage ≡ AtOut (place + 1) 0
-moved-on g place slot e = ap (λ b. if b then AtOut (place + 1) 0 else AtOut place (slot + 1)) (eq-eqb (slot + 1) g.slots e)
+-- a slot of an object is there, and behind all of them is the next object
+pub gone-on : (g : Greening) (place slot : ℕ) → slot ≡ g.slots → (moved_to g place slot).stage ≡ AtOut (place + 1) 0
+gone-on g place slot e = ap (λ b. if b then AtOut (place + 1) 0 else AtOut place slot) (eq-eqb slot g.slots e)
 
-pub moved-within : (g : Greening) (place slot : ℕ) → slot + 1 ≢ g.slots → (moved g place slot).stage ≡ AtOut place (slot + 1)
-moved-within g place slot n = ap (λ b. if b then AtOut (place + 1) 0 else AtOut place (slot + 1)) (ne_eqb (slot + 1) g.slots n)
+pub gone-within : (g : Greening) (place slot : ℕ) → slot ≢ g.slots → (moved_to g place slot).stage ≡ AtOut place slot
+gone-within g place slot n = ap (λ b. if b then AtOut (place + 1) 0 else AtOut place slot) (ne_eqb slot g.slots n)
 
 -- an answer other than a strong pointer that was made only moves the walk on
 pub moved-only : (g : Greening) (place slot : ℕ) (what : Found) → ((id : ℕ) → what ≡ Made id → ⊥) → found_at_out g place slot what ≡ moved g place slot
@@ -107,15 +107,25 @@ module _ (slots limit : ℕ) (seeds : Ids) (done : ℕ) (live green : Ids) (at :
   pub made-out-within : (seen : Greening) (place slot : ℕ) (what : Found) (id : ℕ) → given ≡ seen → what ≡ Made id → IsAnswer seen (asked_at seen (AtOut place slot)) what → (1 ≤ id) × (id ≤ limit)
   made-out-within seen place slot what id e f a = waiting-within given id k.sound (seen-answer seen (λ v. asked_at v (AtOut place slot)) what (Made id) e f a)
 
-  -- the walk of green objects goes on here
+  -- the walk of green objects goes on here, at a slot of the object at this place or behind the object
+  abbrev IsMovedTo : ℕ → ℕ → Stage → Type 0
+  IsMovedTo place slot after = (p : ℕ) × (q : ℕ) × (after ≡ stage.Out p q) × ((moved_to given place slot).stage ≡ AtOut p q)
+
+  pub goes-on : (place slot : ℕ) (after : Stage) → slot ≡ slots → after ≡ stage.Out (place + 1) 0 → IsMovedTo place slot after
+  goes-on place slot after e a = (place + 1, 0, a, gone-on given place slot e)
+
+  pub goes-within : (place slot : ℕ) (after : Stage) → slot ≢ slots → after ≡ stage.Out place slot → IsMovedTo place slot after
+  goes-within place slot after n a = (place, slot, a, gone-within given place slot n)
+
+  -- behind a slot
   abbrev IsMoved : ℕ → ℕ → Stage → Type 0
-  IsMoved place slot after = (p : ℕ) × (q : ℕ) × (after ≡ stage.Out p q) × ((moved given place slot).stage ≡ AtOut p q)
+  IsMoved place slot after = IsMovedTo place (slot + 1) after
 
   pub moves-on : (place slot : ℕ) (after : Stage) → slot + 1 ≡ slots → after ≡ stage.Out (place + 1) 0 → IsMoved place slot after
-  moves-on place slot after e a = (place + 1, 0, a, moved-on given place slot e)
+  moves-on place slot after e a = goes-on place (slot + 1) after e a
 
   pub moves-within : (place slot : ℕ) (after : Stage) → slot + 1 ≢ slots → after ≡ stage.Out place (slot + 1) → IsMoved place slot after
-  moves-within place slot after n a = (place, slot + 1, a, moved-within given place slot n)
+  moves-within place slot after n a = goes-within place (slot + 1) after n a
 
   out-in-step : (seen : Greening) (place slot : ℕ) (what : Found) (now : Ids) (after : Stage) → given ≡ seen → seen.stage ≡ AtOut place slot → settled seen ≡ seen → IsAnswer seen (asked_at seen (AtOut place slot)) what
       → now.limit ≡ green.limit → found_at_out given place slot what ≡ record (moved given place slot) { green = now.ids } → IsMoved place slot after → AreInStep slots limit seeds done live now after None walked changed current copied
@@ -147,3 +157,24 @@ module _ (slots limit : ℕ) (seeds : Ids) (done : ℕ) (live green : Ids) (at :
   pub passed-out-in-step : (seen : Greening) (place slot : ℕ) (what : Found) (after : Stage) → given ≡ seen → seen.stage ≡ AtOut place slot → settled seen ≡ seen → IsAnswer seen (asked_at seen (AtOut place slot)) what
       → ((id : ℕ) → what ≡ Made id → ⊥) → IsMoved place slot after → AreInStep slots limit seeds done live green after None walked changed current copied
   passed-out-in-step seen place slot what after v at s answer n m = out-in-step seen place slot what green after v at s answer refl (moved-only given place slot what n) m
+
+  -- the walk goes on to a slot of the green object that it is at
+  pub moved-in-step : (seen : Greening) (place from_slot slot : ℕ) (after : Stage) → given ≡ seen → seen.stage ≡ AtOut place from_slot → settled seen ≡ seen → slot ≤ slots → IsMovedTo place slot after → AreInStep slots limit seeds done live green after None walked changed current copied
+  moved-in-step seen place from_slot slot after v here s within (p, q, e, m) =
+      let stands = seen-stage seen (AtOut place from_slot) v here in
+      let still : settled given ≡ given = subst (λ (h : Greening). settled h ≡ h) (sym v) s in
+      let early = subst (IsThere given) stands (subst (λ (h : Greening). IsThere h h.stage) still (there given)) in
+      let at_one = subst (IsPlace given) stands k.sound.place in
+      let moves : IsGreening (record given { stage = AtOut p q; test = None }) = subst (λ st. IsGreening (record given { stage = st; test = None })) m (moved-to-greening given place slot k.sound at_one.0 early within) in
+      subst (λ (st : Stage). AreInStep slots limit seeds done live green st None walked changed current copied) (sym e) (record {
+        seeds_limit = k.seeds_limit;
+        live_limit = k.live_limit;
+        green_limit = k.green_limit;
+        copied_limit = k.copied_limit;
+        most = k.most;
+        few = k.few;
+        seeds_few = k.seeds_few;
+        done_few = k.done_few;
+        way = tt;
+        sound = moves;
+      })

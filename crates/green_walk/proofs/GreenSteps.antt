@@ -16,7 +16,7 @@ use Rattle.green_walk.specs.declared.green_at.GreenAt.TheVariants.{Seed, Into, O
 use Rattle.green_walk.specs.declared.green_at.Test.{Test}
 use Rattle.green_walk.specs.declared.sweep.Found.{Found}
 use Rattle.green_walk.specs.declared.sweep.Found.TheVariants.{Nothing, Made, Strong}
-use Rattle.green_walk.specs.Greening.{GreenStage, AtSeed, AtInto, AtOut, Greening, IsGreening, IsPlace, IsTesting, IsAnswer, waits, may_lead_to, first_with, behind_first, walking, seed_done, settled_into, settled_out, settled, greened, moved, first_seed, asked_at, next, found_at_seed, found_in}
+use Rattle.green_walk.specs.Greening.{GreenStage, AtSeed, AtInto, AtOut, Greening, IsGreening, IsPlace, IsTesting, IsAnswer, waits, may_lead_to, first_with, behind_first, walking, seed_done, settled_into, settled_out, settled, greened, moved, moved_to, first_seed, asked_at, next, found_at_seed, found_in}
 use Rattle.green_walk.specs.GreenLaws.{SettledGreeningLaw, FoundGreeningLaw}
 use Rattle.green_walk.proofs.GreenAsked.{some-slots, Contains-drop}
 
@@ -290,16 +290,16 @@ behind-greening g flipped rest k = record {
   tests = subst (λ t. IfSome t (IsTesting (record g { stage = AtInto flipped (behind_first (may_lead_to g flipped) rest) }))) (sym k.place.0) tt;
 }
 
-place-moved : (g : Greening) (place slot : ℕ) → IsGreening g → 0 < length g.seeds → place < length g.green → slot < g.slots → IsPlace (moved g place slot) (moved g place slot).stage
-place-moved g place slot k some l within = by (slot + 1 == g.slots) refl
+place-moved-to : (g : Greening) (place slot : ℕ) → IsGreening g → 0 < length g.seeds → place < length g.green → slot ≤ g.slots → IsPlace (moved_to g place slot) (moved_to g place slot).stage
+place-moved-to g place slot k some l within = by (slot == g.slots) refl
   where
-    by : (last : Bool) → (slot + 1 == g.slots) ≡ last → IsPlace (moved g place slot) (moved g place slot).stage
+    by : (last : Bool) → (slot == g.slots) ≡ last → IsPlace (moved_to g place slot) (moved_to g place slot).stage
     by true e = rw e (some, omega (arith, l), some-slots g.slots k.slot_count)
     by false e = rw e (some, omega (arith, l), grind (arith, nat_tests, e, within))
 
--- a slot of a green object was looked at
-pub moved-greening : (g : Greening) (place slot : ℕ) → IsGreening g → 0 < length g.seeds → place < length g.green → slot < g.slots → IsGreening (moved g place slot)
-moved-greening g place slot k some l within = record {
+-- the walk goes on to a slot of a green object, or to the next object
+pub moved-to-greening : (g : Greening) (place slot : ℕ) → IsGreening g → 0 < length g.seeds → place < length g.green → slot ≤ g.slots → IsGreening (moved_to g place slot)
+moved-to-greening g place slot k some l within = record {
   slot_count = k.slot_count;
   live_ids = k.live_ids;
   green_ids = k.green_ids;
@@ -309,9 +309,13 @@ moved-greening g place slot k some l within = record {
   walked_few = k.walked_few;
   copied_few = k.copied_few;
   copied_within = k.copied_within;
-  place = place-moved g place slot k some l within;
+  place = place-moved-to g place slot k some l within;
   tests = tt;
 }
+
+-- a slot of a green object was looked at
+pub moved-greening : (g : Greening) (place slot : ℕ) → IsGreening g → 0 < length g.seeds → place < length g.green → slot < g.slots → IsGreening (moved g place slot)
+moved-greening g place slot k some l within = moved-to-greening g place (slot + 1) k some l (omega (arith, within))
 
 -- ---- answers
 

@@ -16,3 +16,4 @@ pub mod GreenParts
 pub mod GreenAnswers
 pub mod GreenFound
 pub mod GreenTests
+pub mod JumpLaws

@@ -6,8 +6,9 @@ use Rattle.green_walk.specs.declared.green_at.GreenAt.{GreenAt}
 use Rattle.green_walk.specs.declared.green_at.GreenAt.TheVariants.{Seed, Into, Out, End}
 use Rattle.green_walk.specs.declared.green_at.Test.{Test}
 use Rattle.green_walk.specs.declared.sweep.Found.{Found}
+use Rattle.green_walk.specs.declared.sweep.Found.TheVariants.{Nothing}
 use Rattle.green_walk.specs.Judged.{Judged, IsSeed, IsLive, Picks}
-use Rattle.green_walk.specs.Greening.{Greening, IsGreening, IsAnswer, IsTestable, waits, next, found, settled, testing, tested, again, started, work_left}
+use Rattle.green_walk.specs.Greening.{Greening, IsGreening, IsAnswer, IsTestable, waits, next, found, settled, testing, tested, tested_to, walked_to, again, started, work_left}
 
 -- ---- what is asked for
 
@@ -50,6 +51,15 @@ TestingLaw = (g : Greening) (id : ℕ) → IsGreening g → IsTestable g (next g
 
 abbrev pub TestedLaw : Type 0
 TestedLaw = (g : Greening) (t : Test) → IsGreening g → g.test ≡ Some t → t.slot < g.slots → IsSameWalk g (tested g) × (next (tested g) ≡ next g) × ((tested g).test ≡ Some (record t { slot = t.slot + 1 }))
+
+-- to go on is to go to the next slot, and who goes to a slot and from there to another one has gone to that one
+abbrev pub TestedToLaw : Type 0
+TestedToLaw = (g : Greening) (t : Test) (slot other : ℕ) → g.test ≡ Some t → (tested g ≡ tested_to g (t.slot + 1)) × (tested_to (tested_to g slot) other ≡ tested_to g other) × IsSameWalk g (tested_to g slot)
+
+abbrev pub WalkedToLaw : Type 0
+WalkedToLaw =
+    (g : Greening) («from» at slot other : ℕ) → next g ≡ Out «from» at
+    → (found g Nothing ≡ walked_to g (at + 1)) × (slot < g.slots → walked_to (walked_to g slot) other ≡ walked_to g other) × IsSameWalk g (walked_to g slot)
 
 -- the tested object waits; at a seed it is that
 abbrev pub TestLaw : Type 0

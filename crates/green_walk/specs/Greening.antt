@@ -172,9 +172,13 @@ next g = asked_at (settled g) (settled g).stage
 abbrev pub greened : Greening → ℕ → Greening
 greened g id = record g { green = g.green ++ id ∷ [] }
 
--- the walk of green objects is at the next slot of its object, or behind the last one at the first slot of the next object
+-- the walk of green objects is at this slot of the object at this place, or where the object has no such slot at the first slot of the next object
+abbrev pub moved_to : Greening → ℕ → ℕ → Greening
+moved_to g place slot = record g { stage = if slot == g.slots then AtOut (place + 1) 0 else AtOut place slot; test = None }
+
+-- it is behind this slot
 abbrev pub moved : Greening → ℕ → ℕ → Greening
-moved g place slot = record g { stage = if slot + 1 == g.slots then AtOut (place + 1) 0 else AtOut place (slot + 1); test = None }
+moved g place slot = moved_to g place (slot + 1)
 
 -- after the answer at a seed: it has a strong pointer to it, or one out of it, or it was flipped
 abbrev pub found_at_seed : Greening → GreenAt → Found → Greening
@@ -196,6 +200,14 @@ found_in g (AtOut place slot) what = found_at_out g place slot what
 -- after the answer to what was asked for
 abbrev pub found : Greening → Found → Greening
 found g what = found_in (settled g) (settled g).stage what
+
+-- the walk goes on to this slot of the green object that it is at, if it is at one
+abbrev pub walked_at : Greening → GreenStage → ℕ → Greening
+walked_at g (AtOut place at) slot = moved_to g place slot
+walked_at g _ slot = g
+
+abbrev pub walked_to : Greening → ℕ → Greening
+walked_to g slot = walked_at (settled g) (settled g).stage slot
 
 -- what may be answered
 abbrev pub IsAnswer : Greening → GreenAt → Found → Type 0
@@ -235,6 +247,14 @@ tested g = record g { test = by g.test }
     by : Option Test → Option Test
     by None = None
     by (Some t) = Some (next_of_test t)
+
+-- the test goes on to this slot
+abbrev pub tested_to : Greening → ℕ → Greening
+tested_to g slot = record g { test = by g.test }
+  where
+    by : Option Test → Option Test
+    by None = None
+    by (Some t) = Some (record t { slot = slot })
 
 -- an event of a client or of an abort came: a test begins again, and no look is saved for what was known before
 abbrev pub again : Greening → Greening

@@ -16,6 +16,7 @@ use red_walk::{IdList, Red, RedAt};
 use std::alloc::Global;
 use std::marker::Model;
 
+mod jumps;
 mod search;
 mod work;
 

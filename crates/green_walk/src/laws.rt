@@ -1,7 +1,7 @@
 //! What the verdict and the sweep are to the laws of a store's journal.
 
 ghost use Rattle.green_walk.specs.Laws.{SeedLaw, LiveLaw, CondemnedLaw, EmptyLaw, FreeLaw};
-ghost use Rattle.green_walk.specs.GreenLaws.{AskedLaw, WaitsLaw, SeedsLiveLaw, SettledLaw, FoundLaw, TestingLaw, TestedLaw, TestLaw, StartedWorkLaw, FoundWorkLaw, TestingWorkLaw, TestedWorkLaw, SettledGreeningLaw, FoundGreeningLaw, TestingGreeningLaw, TestedGreeningLaw, AgainGreeningLaw};
+ghost use Rattle.green_walk.specs.GreenLaws.{AskedLaw, WaitsLaw, SeedsLiveLaw, SettledLaw, FoundLaw, TestingLaw, TestedLaw, TestedToLaw, WalkedToLaw, TestLaw, StartedWorkLaw, FoundWorkLaw, TestingWorkLaw, TestedWorkLaw, SettledGreeningLaw, FoundGreeningLaw, TestingGreeningLaw, TestedGreeningLaw, AgainGreeningLaw};
 
 /// What the verdict says of a walk is what the laws of a journal say of its round, where the row and the
 /// table are those of the journal.
@@ -26,6 +26,8 @@ pub fn green_walks_are_of_the_living()
     ensures found { FoundLaw }
     ensures testing { TestingLaw }
     ensures tested { TestedLaw }
+    ensures tests_jump { TestedToLaw }
+    ensures walks_jump { WalkedToLaw }
     ensures test { TestLaw }
 {}
 

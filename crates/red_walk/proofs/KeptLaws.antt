@@ -1,5 +1,5 @@
 -- What keeps a walk a walk.
-use Rattle.std.proofs.Common.{◌≡◌, ◌≢◌, ℕ, ◌+◌, ◌≤◌, Bool, true, false, not, ◌&&◌, ◌||◌, ◌==◌, List, [], ◌∷◌, ◌++◌, length, map, take, refl, sym, ap, ◌∙◌, subst, arith, ⊎_elim, true≢false}
+use Rattle.std.proofs.Common.{◌≡◌, ◌≢◌, ℕ, ◌+◌, ◌<◌, ◌≤◌, Bool, true, false, not, ◌&&◌, ◌||◌, ◌==◌, List, [], ◌∷◌, ◌++◌, length, map, take, refl, sym, ap, ◌∙◌, subst, arith, ⊎_elim, true≢false}
 use Rattle.std.specs.Prelude.{Contains}
 use Rattle.std.proofs.lemmas.List.{length_push, map_push, take_more}
 use Rattle.std.proofs.lemmas.List.Elements.{Contains-append_left, Contains-push, Contains-push_cases}
@@ -7,8 +7,8 @@ use Rattle.std.proofs.lemmas.Bool.Decides.{nat_tests}
 use Rattle.store_model.specs.Core.{Copy}
 use Rattle.store_model.proofs.OnceLaws.{once-push}
 use Rattle.ref_tables.specs.Queue.{has}
-use Rattle.red_walk.specs.Walk.{Walk, IsWalk, is_open, joined, moved, touched_at}
-use Rattle.red_walk.specs.Rounds.{MovedWalkLaw, JoinedWalkLaw, CopiedWalkLaw, TouchedWalkLaw, RemovedWalkLaw}
+use Rattle.red_walk.specs.Walk.{Walk, IsWalk, is_open, joined, moved, moved_to, touched_at}
+use Rattle.red_walk.specs.Rounds.{MovedToLaw, MovedWalkLaw, JoinedWalkLaw, CopiedWalkLaw, TouchedWalkLaw, RemovedWalkLaw}
 use Rattle.red_walk.proofs.Members.{has-Contains}
 use Rattle.red_walk.proofs.Filters.{filter-among}
 use Rattle.red_walk.proofs.IdLaws.{most-of, at_push}
@@ -26,11 +26,11 @@ moved-on slots w k = record {
   quiet = λ early. k.quiet (omega (arith, early));
 }
 
--- another slot of it was
-pub moved-within : (slots : ℕ) (w : Walk) → IsWalk slots w → w.slot + 1 ≢ slots → IsWalk slots (record w { slot = w.slot + 1 })
-moved-within slots w k other = record {
+-- the cursor is at another slot of its object
+pub at-slot : (slots : ℕ) (w : Walk) (slot : ℕ) → IsWalk slots w → slot < slots → IsWalk slots (record w { slot = slot })
+at-slot slots w slot k within = record {
   ids = k.ids;
-  slot_within = omega (arith, k.slot_within, other);
+  slot_within = within;
   slot_count = k.slot_count;
   left_listed = k.left_listed;
   touched_listed = k.touched_listed;
@@ -38,12 +38,23 @@ moved-within slots w k other = record {
   quiet = k.quiet;
 }
 
+-- another slot of it was
+pub moved-within : (slots : ℕ) (w : Walk) → IsWalk slots w → w.slot + 1 ≢ slots → IsWalk slots (record w { slot = w.slot + 1 })
+moved-within slots w k other = at-slot slots w (w.slot + 1) k (omega (arith, k.slot_within, other))
+
 pub moved-walk-law : MovedWalkLaw
 moved-walk-law slots w k = by (w.slot + 1 == slots) refl
   where
     by : (last : Bool) → (w.slot + 1 == slots) ≡ last → IsWalk slots (moved slots w)
     by true l = rw l (moved-on slots w k)
     by false l = rw l (moved-within slots w k (grind (arith, nat_tests, l)))
+
+-- the cursor goes to a slot that is there
+moved-there : (slots : ℕ) (w : Walk) (slot : ℕ) → slot < slots → moved_to slots w slot ≡ record w { slot = slot }
+moved-there slots w slot l = let other : (slot == slots) ≡ false = grind (arith, nat_tests, l) in rw other refl
+
+pub moved-to-law : MovedToLaw
+moved-to-law slots w slot other l = ap (λ (u : Walk). moved_to slots u other) (moved-there slots w slot l)
 
 -- an object joins
 joined-walk : (slots : ℕ) (w : Walk) (id : ℕ) → IsWalk slots w → w.copies ≡ [] → 1 ≤ id → id ≤ w.limit → has w.list id ≡ false → IsWalk slots (joined w id)

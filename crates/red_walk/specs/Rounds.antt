@@ -7,7 +7,7 @@ use Rattle.store_model.specs.Sound.{IsOnce}
 use Rattle.store_model.specs.Steps.{opened_round, with_listed, with_copy, IsTouched, IsQuiet, IsWithout}
 use Rattle.red_walk.specs.declared.red_at.RedAt.TheVariants.{Look, Copy as CopyOf, Verdict}
 use Rattle.ref_tables.specs.Queue.{has}
-use Rattle.red_walk.specs.Walk.{Walk, IsWalk, IsLook, next, opened, joined_by, moved, copied, touched_at, removed, work_left}
+use Rattle.red_walk.specs.Walk.{Walk, IsWalk, IsLook, next, opened, joined_by, moved, moved_to, copied, touched_at, removed, work_left}
 use Rattle.red_walk.specs.Inside.{copy_of_seen}
 
 -- the round before its verdict
@@ -25,6 +25,10 @@ OpenedLaw = (limit id : ℕ) → round_of (opened limit id) ≡ opened_round id
 -- a slot that was looked at changes nothing
 abbrev pub MovedLaw : Type 0
 MovedLaw = (slots : ℕ) (w : Walk) → round_of (moved slots w) ≡ round_of w
+
+-- who goes to a slot and from there to another one has gone to that one
+abbrev pub MovedToLaw : Type 0
+MovedToLaw = (slots : ℕ) (w : Walk) (slot other : ℕ) → slot < slots → moved_to slots (moved_to slots w slot) other ≡ moved_to slots w other
 
 -- an object that joins is listed
 abbrev pub JoinedLaw : Type 0

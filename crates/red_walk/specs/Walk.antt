@@ -60,9 +60,13 @@ abbrev pub joined_by : Walk → Option ℕ → Walk
 joined_by w None = w
 joined_by w (Some id) = joined w id
 
--- the cursor is at the next slot of its object, or behind the last one at the first slot of the next object
+-- the cursor is at this slot of its object, or where the object has no such slot at the first slot of the next object
+abbrev pub moved_to : ℕ → Walk → ℕ → Walk
+moved_to slots w slot = if slot == slots then record w { place = w.place + 1; slot = 0 } else record w { slot = slot }
+
+-- the cursor is at the next slot
 abbrev pub moved : ℕ → Walk → Walk
-moved slots w = if w.slot + 1 == slots then record w { place = w.place + 1; slot = 0 } else record w { slot = w.slot + 1 }
+moved slots w = moved_to slots w (w.slot + 1)
 
 -- an object was copied
 abbrev pub copied : Walk → ℕ → Copy → Walk

@@ -1,12 +1,13 @@
 //! What the walk is to the round of a store's journal.
 
-ghost use Rattle.red_walk.specs.Rounds.{HasLaw, OpenedLaw, MovedLaw, JoinedLaw, CopiedLaw, TouchedLaw, RemovedLaw, LookLaw, CopyLaw, VerdictLaw, LookWorkLaw, CopyWorkLaw, JoinWorkLaw, TouchWorkLaw, RemoveWorkLaw, MovedWalkLaw, JoinedWalkLaw, CopiedWalkLaw, TouchedWalkLaw, RemovedWalkLaw};
+ghost use Rattle.red_walk.specs.Rounds.{HasLaw, OpenedLaw, MovedLaw, MovedToLaw, JoinedLaw, CopiedLaw, TouchedLaw, RemovedLaw, LookLaw, CopyLaw, VerdictLaw, LookWorkLaw, CopyWorkLaw, JoinWorkLaw, TouchWorkLaw, RemoveWorkLaw, MovedWalkLaw, JoinedWalkLaw, CopiedWalkLaw, TouchedWalkLaw, RemovedWalkLaw};
 
 /// Each change of a walk is the change of the round that the laws of a journal speak of.
 pub fn walks_are_rounds()
     ensures tells { HasLaw }
     ensures opens { OpenedLaw }
     ensures moves { MovedLaw }
+    ensures jumps { MovedToLaw }
     ensures joins { JoinedLaw }
     ensures copies { CopiedLaw }
     ensures touches { TouchedLaw }

@@ -3,7 +3,7 @@ ghost use Rattle.std.specs.Prelude.{◌≡◌, ℕ, ◌+◌, ◌<◌, ◌≤◌,
 ghost use Rattle.cell_page.specs.Format.{IsSlotCount};
 ghost use Rattle.store_model.specs.Core.{Copy};
 ghost use Rattle.ref_tables.specs.Queue.{has};
-ghost use Rattle.red_walk.specs.Walk.{IsWalk, IsLook, next, closed, opened, joined, joined_by, moved, copied, touched_at, removed, work_left};
+ghost use Rattle.red_walk.specs.Walk.{IsWalk, IsLook, next, closed, opened, joined, joined_by, moved, moved_to, copied, touched_at, removed, work_left};
 ghost use Rattle.red_walk.specs.Inside.{copy_of_seen};
 
 use crate::Memory;
@@ -134,6 +134,23 @@ impl<const SLOTS: usize> Red<SLOTS> {
             self.slot = 0;
         } else {
             self.slot += 1;
+        }
+    }
+
+    /// Goes on to this slot of the object that is looked at, or to the next object where it has no such slot. At no slot
+    /// before it was there anything to do.
+    pub fn pass_to(&mut self, slot: u8)
+        requires look { IsLook (next self.old) }
+        requires within { slot ≤ SLOTS }
+        ensures moves { self.new ≡ moved_to SLOTS self.old slot }
+        ensures quiet { self.new.copies ≡ [] }
+        ensures sound { IsWalk SLOTS self.new }
+    {
+        if slot as usize == SLOTS {
+            self.place += 1;
+            self.slot = 0;
+        } else {
+            self.slot = slot;
         }
     }
 

@@ -1,4 +1,5 @@
 use Rattle.green_walk.proofs.GreenAnswers.{seeds-live, settled-law, found-law, testing-law, tested-law, test-law}
+use Rattle.green_walk.proofs.JumpLaws.{tested-to-law, walked-to-law}
 use Rattle.green_walk.proofs.GreenAsked.{asked, waits-live}
 use Rattle.green_walk.proofs.laws.green_walks_are_of_the_living.Goals as goal
 
@@ -19,6 +20,12 @@ returns-clause-testing c = testing-law
 
 pub returns-clause-tested : goal.returns-clause-tested
 returns-clause-tested c = tested-law
+
+pub returns-clause-tests_jump : goal.returns-clause-tests_jump
+returns-clause-tests_jump c = tested-to-law
+
+pub returns-clause-walks_jump : goal.returns-clause-walks_jump
+returns-clause-walks_jump c = walked-to-law
 
 pub returns-clause-test : goal.returns-clause-test
 returns-clause-test c = test-law

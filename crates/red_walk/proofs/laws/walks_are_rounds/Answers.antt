@@ -1,11 +1,14 @@
 use Rattle.red_walk.proofs.Members.{Contains-has, has-Contains}
 use Rattle.red_walk.proofs.RoundLaws.{copied-law, touched-law, removed-law, look-law, copy-law, verdict-law}
 use Rattle.red_walk.proofs.WorkLaws.{look-work-law, copy-work-law, join-work-law, touch-work-law}
-use Rattle.red_walk.proofs.KeptLaws.{moved-walk-law, joined-walk-law, copied-walk-law, touched-walk-law, removed-walk-law}
+use Rattle.red_walk.proofs.KeptLaws.{moved-to-law, moved-walk-law, joined-walk-law, copied-walk-law, touched-walk-law, removed-walk-law}
 use Rattle.red_walk.proofs.laws.walks_are_rounds.Goals as goal
 
 pub returns-clause-tells : goal.returns-clause-tells
 returns-clause-tells c = λ ids id. (λ h. Contains-has ids id h, λ m. has-Contains ids id m)
+
+pub returns-clause-jumps : goal.returns-clause-jumps
+returns-clause-jumps c = moved-to-law
 
 pub returns-clause-copies : goal.returns-clause-copies
 returns-clause-copies c = copied-law
