@@ -127,7 +127,6 @@ impl<const SLOTS: usize> Cell<SLOTS> {
         requires within { slot < SLOTS }
         ensures model { cell_of self.new ≡ relink slot (record { target = target; bit = bit }) (cell_of self.old) }
         ensures others { self.new ≡ record self.old { bits = self.new.bits; slots = slice_set self.old.slots slot target } }
-
         ensures typed { IsTyped self.old → IsTyped self.new }
 
         // An object goes on to obey the rules, where null has the bit 0.

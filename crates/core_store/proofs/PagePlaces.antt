@@ -1,15 +1,15 @@
 -- Where among the held frames that of a page stands, and how they agree with a store's cells.
-use Rattle.std.proofs.Common.{◌≡◌, ℕ, zero, suc, ◌+◌, ◌<◌, true, false, List, [], ◌∷◌, length, get_or, set, take, refl, sym, ap, subst, ◌∙◌, arith}
+use Rattle.std.proofs.Common.{◌≡◌, ℕ, zero, suc, ◌+◌, ◌<◌, true, false, List, [], ◌∷◌, length, map, get_or, set, take, refl, sym, ap, subst, ◌∙◌, arith}
 use Rattle.std.specs.Prelude.{◌==◌}
 use Rattle.std.proofs.Math.Seq.{take-set-lt}
 use Rattle.std.proofs.lemmas.List.{length-take, get_or-take, length-set}
 use Rattle.std.proofs.lemmas.List.Elements.{All-from_recursion}
-use Rattle.cell_model.specs.Cells.{Cell as StoredCell, cell_at, edit}
+use Rattle.cell_model.specs.Cells.{Cell as StoredCell, cell_at, is_live, edit}
 use Rattle.cell_page.specs.declared.cell.Cell.{Cell}
-use Rattle.cell_page.specs.Format.{IsCell, HasId, first_id, page_of_id, place_of}
-use Rattle.cell_page.specs.Stored.{cell_of, HoldsPage}
+use Rattle.cell_page.specs.Format.{IsCell, IsPage, HasId, first_id, page_of_id, place_of}
+use Rattle.cell_page.specs.Stored.{cell_of, HoldsPage, stored_at, edit_stored}
 use Rattle.cell_page.proofs.Pages.{place_within}
-use Rattle.cell_page.proofs.HeldPages.{held_cell, HoldsPage-edit}
+use Rattle.cell_page.proofs.HeldPages.{held_cell, stored-held, HoldsPage-edited, stored-edited}
 use Rattle.core_store.specs.declared.three.HeldFrame.{HeldFrame}
 use Rattle.core_store.specs.Frames.{pages_held, is_held, Agree}
 use Rattle.core_store.proofs.PageLaws.{id-low, id-high, AreOnce-pages, Agree-edit}
@@ -38,6 +38,19 @@ module _ {slots : ℕ} (cells : List StoredCell) (id : ℕ) (page : List (Cell s
 
   pub cell-held : (c : Cell slots) → cell_of (get_or page (place_of id) c) ≡ cell_at cells id
   cell-held c = held_cell cells (page_of_id id) id page c holds (id-low id above) (id-high id above)
+
+  -- as the laws of a store see it
+  pub seen-held : stored_at (map cell_of page) id ≡ cell_at cells id
+  seen-held = stored-held cells (page_of_id id) id page holds (id-low id above) (id-high id above)
+
+  -- it changes where it stands
+  module _ (new : List (Cell slots)) (f : StoredCell → StoredCell) (model : map cell_of new ≡ edit_stored (map cell_of page) id f) where
+    pub seen-edited : stored_at (map cell_of new) id ≡ f (cell_at cells id)
+    seen-edited = stored-edited cells (page_of_id id) id page holds (id-low id above) (id-high id above) new f model
+
+    pub holds-edited : is_live cells id ≡ true → ((n : ℕ) → IsPage n page → (stored_at (map cell_of page) id).live ≡ true → IsPage n new) → HoldsPage (edit cells id f) (page_of_id id) new
+    holds-edited live kept =
+        HoldsPage-edited cells (page_of_id id) id page holds (id-low id above) (id-high id above) new f model (kept (page_of_id id) holds.rules (ap (λ (c : StoredCell). c.live) seen-held ∙ live))
 
 -- ---- one of the held frames of a program
 

@@ -229,6 +229,16 @@ module _ {slots : ℕ} {all : Option (Vec (Frame slots))} {frames : List (HeldFr
     }
 
   -- the held frames agree with the edited cells
+  pub Agree-there : (cells : List StoredCell) (place : ℕ) (h d : HeldFrame slots) (id : ℕ) (f : StoredCell → StoredCell) → Agree cells (held_in all frames count)
+      → place < length (take count frames) → (get_or (take count frames) place d).page ≡ page_of_id id → length (frames_of_all all) ≤ page_of_id id
+      → h.page ≡ (get_or frames place d).page → HoldsPage (edit cells id f) (page_of_id id) h.frame.page → Agree (edit cells id f) (held_in all (set frames place h) count)
+  Agree-there cells place h d id f agree within here behind number now =
+      let put = agree-put all frames count cells agree in
+      let same = same-place frames count place h d within number in
+      both-Agree (edit cells id f) (numbered 0 (frames_of_all all)) (take count (set frames place h))
+      (Agree-other cells (numbered 0 (frames_of_all all)) id f (agree-all all frames count cells agree) (numbered-above 0 (frames_of_all all) (page_of_id id) (omega (arith, behind))))
+      (rw (take-place frames count place h d within number) (Agree-edit cells (take count frames) place h d id f (AreOnce-right (numbered 0 (frames_of_all all)) (take count frames) k.once) put within here (same ∙ here) now))
+
   pub Agree-place : (cells : List StoredCell) (place : ℕ) (h d : HeldFrame slots) (c : Cell slots) → Agree cells (held_in all frames count)
       → 0 < c.id → IsCell c.id c → place < length (take count frames) → (get_or (take count frames) place d).page ≡ page_of_id c.id
       → length (frames_of_all all) ≤ page_of_id c.id
@@ -238,10 +248,7 @@ module _ {slots : ℕ} {all : Option (Vec (Frame slots))} {frames : List (HeldFr
       let put = agree-put all frames count cells agree in
       let was = holds-place cells frames count place c.id d put above within here in
       let now = HoldsPage-edit cells (page_of_id c.id) c.id (get_or frames place d).frame.page c (λ _. cell_of c) was (id-low c.id above) (id-high c.id above) rules refl in
-      let same = same-place frames count place h d within number in
-      both-Agree (edit cells c.id (λ _. cell_of c)) (numbered 0 (frames_of_all all)) (take count (set frames place h))
-      (Agree-other cells (numbered 0 (frames_of_all all)) c.id (λ _. cell_of c) (agree-all all frames count cells agree) (numbered-above 0 (frames_of_all all) (page_of_id c.id) (omega (arith, behind))))
-      (rw (take-place frames count place h d within number) (Agree-edit cells (take count frames) place h d c.id (λ _. cell_of c) (AreOnce-right (numbered 0 (frames_of_all all)) (take count frames) k.once) put within here (same ∙ here) (rw placed now)))
+      Agree-there cells place h d c.id (λ _. cell_of c) agree within here behind number (rw placed now)
 
   -- one of those of all pages
   module _ (new : Option (Vec (Frame slots))) (page : ℕ) (f : Frame slots) (within : page < length (frames_of_all all)) (is : frames_of_all new ≡ set (frames_of_all all) page f) where
@@ -279,16 +286,21 @@ module _ {slots : ℕ} {all : Option (Vec (Frame slots))} {frames : List (HeldFr
       once = AreOnce-pages (held_in all frames count) (held_in new frames count) (sym pages-in-all) k.once;
     }
 
+    pub Agree-in : (cells : List StoredCell) (id : ℕ) (g : StoredCell → StoredCell) → Agree cells (held_in all frames count) → page ≡ page_of_id id
+        → HoldsPage (edit cells id g) (page_of_id id) f.page → Agree (edit cells id g) (held_in new frames count)
+    Agree-in cells id g agree here now =
+        let h : HeldFrame slots = record { page = page; frame = f } in
+        let held = subst (λ n. is_held (numbered 0 (frames_of_all all)) n ≡ true) here (numbered-there 0 (frames_of_all all) page (omega arith) (omega (arith, within))) in
+        both-Agree (edit cells id g) (numbered 0 (frames_of_all new)) (take count frames)
+        (rw new-all (Agree-edit cells (numbered 0 (frames_of_all all)) page h h id g (numbered-once 0 (frames_of_all all)) (agree-all all frames count cells agree) there (sym (new-page h) ∙ here) here now))
+        (Agree-other cells (take count frames) id g (agree-put all frames count cells agree) (AreOnce-apart (numbered 0 (frames_of_all all)) (take count frames) (page_of_id id) k.once held))
+
     pub Agree-in-all : (cells : List StoredCell) (e : Frame slots) (c : Cell slots) → Agree cells (held_in all frames count) → 0 < c.id → IsCell c.id c → page ≡ page_of_id c.id
         → f.page ≡ set (get_or (frames_of_all all) page e).page (place_of c.id) c → Agree (edit cells c.id (λ _. cell_of c)) (held_in new frames count)
     Agree-in-all cells e c agree above rules here placed =
-        let h : HeldFrame slots = record { page = page; frame = f } in
         let was = holds-in-all all frames count cells agree c.id e (subst (λ n. n < length (frames_of_all all)) here within) in
         let now = HoldsPage-edit cells (page_of_id c.id) c.id (get_or (frames_of_all all) (page_of_id c.id) e).page c (λ _. cell_of c) was (id-low c.id above) (id-high c.id above) rules refl in
-        let held = subst (λ n. is_held (numbered 0 (frames_of_all all)) n ≡ true) here (numbered-there 0 (frames_of_all all) page (omega arith) (omega (arith, within))) in
-        both-Agree (edit cells c.id (λ _. cell_of c)) (numbered 0 (frames_of_all new)) (take count frames)
-        (rw new-all (Agree-edit cells (numbered 0 (frames_of_all all)) page h h c.id (λ _. cell_of c) (numbered-once 0 (frames_of_all all)) (agree-all all frames count cells agree) there (sym (new-page h) ∙ here) here (rw (placed, here) now)))
-        (Agree-other cells (take count frames) c.id (λ _. cell_of c) (agree-put all frames count cells agree) (AreOnce-apart (numbered 0 (frames_of_all all)) (take count frames) (page_of_id c.id) k.once held))
+        Agree-in cells c.id (λ _. cell_of c) agree here (rw (placed, here) now)
 
 -- ---- the page of an id, as a program finds it
 

@@ -12,7 +12,7 @@ ghost use Rattle.core_store.specs.Slots.{HoldsPagesOf, IsReadyToWeaken, WeakensS
 
 use crate::three::Three;
 use cell_page::Cell;
-use strength_counts::{flip_cell, gain, lose, takes_strong};
+use strength_counts::{flip_cell, takes_strong};
 
 /// How a slot changed: the id that it held, or 0, and whether that pointer was strong; the pointer bit that it has now,
 /// and whether what it holds is strong.
@@ -70,9 +70,7 @@ fn relink<const SLOTS: usize>(held: &mut Three<SLOTS>, id: u32, slot: u8, to: Po
     ensures stored { (cells : List StoredCell) → Agree cells held.old → Agree (edit cells id (relink slot (pointer_of to))) held.new }
     ensures pages { pages_held held.new ≡ pages_held held.old }
 {
-    let mut cell = *held.cell(id);
-    cell.set_pointer(slot, to.target, to.bit);
-    held.put_cell(cell);
+    held.set_pointer(id, slot, to.target, to.bit);
 }
 
 /// The target counts one pointer with this bit less. Tells whether it was strong.
@@ -89,10 +87,9 @@ fn lower<const SLOTS: usize>(
     ensures pages { pages_held held.new ≡ pages_held held.old }
     ensures marks { length zeros.new.items ≡ length zeros.old.items }
 {
-    let mut cell = *held.cell(target);
-    let strong = lose(&mut cell, bit);
-    put_back(held, zeros, cell);
-    strong
+    let lost = held.lose(target, bit);
+    zeros[target as usize] = lost.none_left;
+    lost.strong
 }
 
 /// The target counts one pointer with this bit more.
@@ -103,9 +100,7 @@ fn raise<const SLOTS: usize>(held: &mut Three<SLOTS>, zeros: &mut Vec<bool>, tar
     ensures pages { pages_held held.new ≡ pages_held held.old }
     ensures marks { length zeros.new.items ≡ length zeros.old.items }
 {
-    let mut cell = *held.cell(target);
-    gain(&mut cell, bit);
-    put_back(held, zeros, cell);
+    zeros[target as usize] = held.gain(target, bit);
 }
 
 /// The target counts one pointer with the other bit in place of one with this bit.
@@ -116,10 +111,7 @@ fn turn<const SLOTS: usize>(held: &mut Three<SLOTS>, zeros: &mut Vec<bool>, targ
     ensures changed { (cells : List StoredCell) → Agree cells held.old → IsChanged cells (edit cells target (turned bit)) held.old held.new zeros.old.items zeros.new.items }
     ensures pages { pages_held held.new ≡ pages_held held.old }
 {
-    let mut cell = *held.cell(target);
-    lose(&mut cell, bit);
-    gain(&mut cell, !bit);
-    put_back(held, zeros, cell);
+    zeros[target as usize] = held.turn(target, bit);
 }
 
 /// What the slot held counts its pointer no more. Tells whether that was a strong one.

@@ -1,15 +1,17 @@
 //! The pages that a call works on.
 
-ghost use Rattle.std.specs.Prelude.{◌≡◌, ℕ, ◌<◌, ◌≤◌, ◌==◌, List, [], ◌∷◌, ◌++◌, length, true, false, nat_lt, slice_index_or, slice_set, IfSome, IfNone, is_some};
+ghost use Rattle.std.specs.Prelude.{◌≡◌, ℕ, ◌+◌, ◌^◌, ◌<◌, ◌≤◌, ◌==◌, List, [], ◌∷◌, ◌++◌, length, true, false, not, nat_lt, slice_index_or, slice_set, IfSome, IfNone, is_some};
 ghost use Rattle.std.specs.List.{AllByRecursion};
-ghost use Rattle.cell_model.specs.Cells.{Cell as StoredCell, cell_at, edit};
+ghost use Rattle.cell_model.specs.Cells.{Cell as StoredCell, same, cell_at, is_live, edit, relink, gains, loses, counted};
 ghost use Rattle.cell_page.specs.Format.{IsSlotCount, IsCell, HasId, page_of_id, place_of as place_in_page};
 ghost use Rattle.cell_page.specs.Stored.{cell_of};
 ghost use Rattle.core_store.specs.Frames.{pages_held, is_held, holds_nothing, are_all_among, AreOnce, Agree, numbered};
+ghost use Rattle.core_store.specs.Changes.{has_no_strong};
 ghost use Rattle.core_store.specs.Inside.{frames_of_all};
+ghost use Rattle.core_store.specs.Slots.{turned};
 
 use crate::frame::Frame;
-use cell_page::{Cell, Page, page_of};
+use cell_page::{Cell, Lost, Page, page_of};
 use std::marker::Model;
 
 /// How many pages a call works on at most.
@@ -300,5 +302,97 @@ impl<const SLOTS: usize> Three<SLOTS> {
         }
         let place = place_of(&self.frames[..self.count], page);
         self.frames[place].frame.page.put_cell(cell);
+    }
+
+    /// Lays a pointer in a slot of the cell of an id whose page is held: the id that it names, or 0 for null, and its bit.
+    pub(crate) fn set_pointer(&mut self, id: u32, slot: u8, target: u32, bit: bool)
+        requires size { IsSlotCount SLOTS }
+        requires above { (0 < id) × (id < 65536) }
+        requires there { is_held self.old (page_of_id id) ≡ true }
+        requires agrees { (cells : List StoredCell) × Agree cells self.old × (is_live cells id ≡ true) }
+        requires within { slot < SLOTS }
+        requires null { target ≡ 0 → bit ≡ false }
+        ensures stored { (cells : List StoredCell) → Agree cells self.old → Agree (edit cells id (relink slot (record { target = target; bit = bit }))) self.new }
+        ensures pages { pages_held self.new ≡ pages_held self.old }
+    {
+        let page = page_of(id);
+        if (page as usize) < all_of(&self.all).len() {
+            if let Some(frames) = &mut self.all {
+                frames[page as usize]
+                    .page
+                    .set_pointer(id, slot, target, bit);
+                return;
+            }
+            unreachable!()
+        }
+        let place = place_of(&self.frames[..self.count], page);
+        self.frames[place]
+            .frame
+            .page
+            .set_pointer(id, slot, target, bit);
+    }
+
+    /// The cell of an id whose page is held counts one pointer with this bit more. Tells whether no strong one leads to its
+    /// object now.
+    pub(crate) fn gain(&mut self, id: u32, bit: bool) -> bool
+        requires above { (0 < id) × (id < 65536) }
+        requires there { is_held self.old (page_of_id id) ≡ true }
+        requires room { (cells : List StoredCell) × Agree cells self.old × (is_live cells id ≡ true) × (counted bit (cell_at cells id) + 1 < 2 ^ 32) }
+        ensures zero { (cells : List StoredCell) → Agree cells self.old → result ≡ has_no_strong (gains bit (cell_at cells id)) }
+        ensures stored { (cells : List StoredCell) → Agree cells self.old → Agree (edit cells id (gains bit)) self.new }
+        ensures pages { pages_held self.new ≡ pages_held self.old }
+    {
+        let page = page_of(id);
+        if (page as usize) < all_of(&self.all).len() {
+            if let Some(frames) = &mut self.all {
+                return frames[page as usize].page.gain(id, bit);
+            }
+            unreachable!()
+        }
+        let place = place_of(&self.frames[..self.count], page);
+        self.frames[place].frame.page.gain(id, bit)
+    }
+
+    /// The cell of an id whose page is held counts one pointer with this bit less.
+    pub(crate) fn lose(&mut self, id: u32, bit: bool) -> Lost
+        requires above { (0 < id) × (id < 65536) }
+        requires there { is_held self.old (page_of_id id) ≡ true }
+        requires some { (cells : List StoredCell) × Agree cells self.old × (is_live cells id ≡ true) × (0 < counted bit (cell_at cells id)) }
+        ensures strong { (cells : List StoredCell) → Agree cells self.old → result.strong ≡ same (cell_at cells id).bit bit }
+        ensures zero { (cells : List StoredCell) → Agree cells self.old → result.none_left ≡ has_no_strong (loses bit (cell_at cells id)) }
+        ensures stored { (cells : List StoredCell) → Agree cells self.old → Agree (edit cells id (loses bit)) self.new }
+        ensures pages { pages_held self.new ≡ pages_held self.old }
+    {
+        let page = page_of(id);
+        if (page as usize) < all_of(&self.all).len() {
+            if let Some(frames) = &mut self.all {
+                return frames[page as usize].page.lose(id, bit);
+            }
+            unreachable!()
+        }
+        let place = place_of(&self.frames[..self.count], page);
+        self.frames[place].frame.page.lose(id, bit)
+    }
+
+    /// The cell of an id whose page is held counts one pointer with the other bit in place of one with this bit. Tells whether
+    /// no strong one leads to its object now.
+    pub(crate) fn turn(&mut self, id: u32, bit: bool) -> bool
+        requires above { (0 < id) × (id < 65536) }
+        requires there { is_held self.old (page_of_id id) ≡ true }
+        requires some { (cells : List StoredCell) × Agree cells self.old × (is_live cells id ≡ true) × (0 < counted bit (cell_at cells id)) }
+        requires room { (cells : List StoredCell) × Agree cells self.old × (counted (not bit) (cell_at cells id) + 1 < 2 ^ 32) }
+        ensures zero { (cells : List StoredCell) → Agree cells self.old → result ≡ has_no_strong (turned bit (cell_at cells id)) }
+        ensures stored { (cells : List StoredCell) → Agree cells self.old → Agree (edit cells id (turned bit)) self.new }
+        ensures pages { pages_held self.new ≡ pages_held self.old }
+    {
+        let page = page_of(id);
+        if (page as usize) < all_of(&self.all).len() {
+            if let Some(frames) = &mut self.all {
+                return frames[page as usize].page.turn(id, bit);
+            }
+            unreachable!()
+        }
+        let place = place_of(&self.frames[..self.count], page);
+        self.frames[place].frame.page.turn(id, bit)
     }
 }

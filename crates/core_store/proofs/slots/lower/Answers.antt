@@ -1,14 +1,14 @@
-use Rattle.std.proofs.Common.{rules, ℕ, ◌≤◌, sym, ap, ◌∙◌, subst, arith, ⊎_elim}
-use Rattle.cell_model.specs.Cells.{Cell as StoredCell}
-use Rattle.cell_page.specs.Format.{IsCell}
-use Rattle.core_store.specs.Slots.{HasPlace}
+use Rattle.std.proofs.Common.{rules, ◌≤◌, arith, ⊎_elim}
+use Rattle.cell_model.specs.Cells.{loses}
+use Rattle.core_store.proofs.SlotPages.{changed-cell}
 use Rattle.core_store.proofs.slots.lower.Goals as goal
 
-pub put_back-requires : goal.put_back-requires
-put_back-requires g c =
+pub lose-lost-requires : goal.lose-lost-requires
+lose-lost-requires g c =
     let r = c.requires.ready in
     let small : g.row.SLOTS ≤ 14 = ⊎_elim (λ six. omega arith) (λ fourteen. omega arith) c.requires.size in
-    let live = ap (λ (s : StoredCell). s.live) (c.cell.ensures.stored r.cells r.agree) ∙ r.live in
-    let kept = c.lose-strong.ensures.rules c.args.target c.cell.ensures.rules live in
-    let id = sym kept.placed in
-    (search rules, (search rules, (subst (HasPlace c.args.held.now c.args.zeros.now.items) id r.place, (subst (λ (n : ℕ). IsCell n c.lose-strong.new.cell) id kept, (r.cells, r.agree)))))
+    (search rules, ((r.place.above, r.place.small), (r.place.page, (r.cells, r.agree, r.live, r.some))))
+
+pub returns-clause-changed : goal.returns-clause-changed
+returns-clause-changed g c cells agree =
+    changed-cell cells c.args.held.now c.lose-lost.new.self c.args.zeros.now.items c.args.target (loses c.args.bit) c.lose-lost.result.none_left c.requires.ready.place (c.lose-lost.ensures.zero cells agree) (c.lose-lost.ensures.stored cells agree)
