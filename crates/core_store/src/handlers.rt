@@ -88,6 +88,7 @@ impl<const SLOTS: usize> Tables<SLOTS> {
     }
 
     /// The client owns the object, and owes the undo of a write that replaced this.
+    #[inline(always)]
     fn own_to_write(&mut self, pass: u8, id: u32, replaced: Write) -> Result<(), Memory>
         requires nobody { Nobody (StandsInWayOfOwn (holders_of self.old.locks id) pass) }
         requires active { IsSome (running_at self.old.transactions.entries pass) }

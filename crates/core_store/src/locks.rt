@@ -19,6 +19,7 @@ pub(crate) fn share(locks: &mut LockTable, pass: u8, id: u32) -> Result<(), Memo
 }
 
 /// Lets the client own the object, which no other client holds.
+#[inline(always)]
 pub(crate) fn own(locks: &mut LockTable, pass: u8, id: u32) -> Result<(), Memory>
     requires { Nobody (StandsInWayOfOwn (holders_of locks.old id) pass) }
     ensures ok { OnOk result (AddsOwner locks.old locks.new pass id) }

@@ -81,6 +81,7 @@ fn next_pointer<const SLOTS: usize>(slots: &[u32; SLOTS], from: usize) -> usize
 }
 
 /// Whether there is something to do, and not only to look at.
+#[inline(always)]
 fn is_event<const SLOTS: usize>(held: &Three<SLOTS>, at: RoundAt) -> bool
     requires size { IsSlotCount SLOTS }
     requires small { IfSome (work_at at) (IsWork SLOTS) }
@@ -155,6 +156,7 @@ impl<const SLOTS: usize> Tables<SLOTS> {
     }
 
     /// What is looked at or done next, behind the slots that the held pages show to be null.
+    #[inline(always)]
     fn next_look(&mut self, held: &Three<SLOTS>) -> RoundAt
         requires standing { IsStanding (view_of self.old) held.now }
         ensures at { result ≡ asked (view_of self.new).round }
@@ -219,6 +221,7 @@ impl<const SLOTS: usize> Tables<SLOTS> {
     }
 
     /// Goes on from a look at which there was nothing to do.
+    #[inline(always)]
     fn look_past(&mut self, held: &Three<SLOTS>, at: RoundAt)
         requires at { at ≡ asked (view_of self.old).round }
         requires ready { CanPass (view_of self.old) held.now }

@@ -43,6 +43,7 @@ pub(crate) fn room_needed(planned: Result<Plan, Reply>, owed: usize) -> usize
 
 impl<const SLOTS: usize> Tables<SLOTS> {
     /// The refusal where another client stands in the way of the lock.
+    #[inline(always)]
     fn blocked(&self, pass: u8, id: u32, lock: Lock) -> Option<Reply>
         ensures { IsBlockedBy (view_of self.now) pass id lock result }
     {

@@ -11,6 +11,7 @@ use red_walk::IdList;
 use ref_tables::{Kind, TempRef, TempRefs};
 
 /// Notes a reference of the client, for which there is room. Null is none.
+#[inline(always)]
 pub(crate) fn note(references: &mut TempRefs, pass: u8, target: u32, kind: Kind)
     requires { 0 < room_of references.old pass }
     ensures noted { (p : ℕ) → targets_of (entries_of references.new p) ≡ (if p == pass then targets_of (entries_of references.old p) ++ if_any target else targets_of (entries_of references.old p)) }

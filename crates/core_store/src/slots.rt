@@ -62,6 +62,7 @@ fn put_back<const SLOTS: usize>(held: &mut Three<SLOTS>, zeros: &mut Vec<bool>, 
 }
 
 /// Lays a pointer in a slot, and lets the counts be.
+#[inline(always)]
 fn relink<const SLOTS: usize>(held: &mut Three<SLOTS>, id: u32, slot: u8, to: Pointer)
     requires size { IsSlotCount SLOTS }
     requires ready { IsReadyToEdit held.old id }
@@ -74,6 +75,7 @@ fn relink<const SLOTS: usize>(held: &mut Three<SLOTS>, id: u32, slot: u8, to: Po
 }
 
 /// The target counts one pointer with this bit less. Tells whether it was strong.
+#[inline(always)]
 fn lower<const SLOTS: usize>(
     held: &mut Three<SLOTS>,
     zeros: &mut Vec<bool>,
@@ -93,6 +95,7 @@ fn lower<const SLOTS: usize>(
 }
 
 /// The target counts one pointer with this bit more.
+#[inline(always)]
 fn raise<const SLOTS: usize>(held: &mut Three<SLOTS>, zeros: &mut Vec<bool>, target: u32, bit: bool)
     requires size { IsSlotCount SLOTS }
     requires ready { IsReadyToGain held.old zeros.old.items target bit }
@@ -115,6 +118,7 @@ fn turn<const SLOTS: usize>(held: &mut Three<SLOTS>, zeros: &mut Vec<bool>, targ
 }
 
 /// What the slot held counts its pointer no more. Tells whether that was a strong one.
+#[inline(always)]
 fn let_go<const SLOTS: usize>(held: &mut Three<SLOTS>, zeros: &mut Vec<bool>, from: Pointer) -> bool
     requires size { IsSlotCount SLOTS }
     requires agrees { (cells : List StoredCell) × Agree cells held.old }
@@ -128,6 +132,7 @@ fn let_go<const SLOTS: usize>(held: &mut Three<SLOTS>, zeros: &mut Vec<bool>, fr
 }
 
 /// Lays a pointer in the slot, which its target counts.
+#[inline(always)]
 fn lay<const SLOTS: usize>(
     held: &mut Three<SLOTS>,
     zeros: &mut Vec<bool>,
@@ -181,6 +186,7 @@ fn weak_pointer<const SLOTS: usize>(held: &Three<SLOTS>, target: u32) -> Pointer
 }
 
 /// Gives the slot's pointer, which isn't null, its other strength.
+#[inline(always)]
 fn switch<const SLOTS: usize>(
     held: &mut Three<SLOTS>,
     zeros: &mut Vec<bool>,
@@ -314,6 +320,7 @@ pub(crate) fn leads_to<const SLOTS: usize>(
 }
 
 /// Whether the slot holds a strong pointer.
+#[inline(always)]
 pub(crate) fn is_strong<const SLOTS: usize>(held: &Three<SLOTS>, id: u32, slot: u8) -> bool
     requires size { IsSlotCount SLOTS }
     requires work { IsWork SLOTS (record { id = id; change = Some (slot, 0) }) }

@@ -125,6 +125,7 @@ impl<const SLOTS: usize> Tables<SLOTS> {
     }
 
     /// Touches the objects of a changed slot: its own, what it held and what it holds.
+    #[inline(always)]
     pub(crate) fn touch(&mut self, id: u32, old: u32, target: u32)
         ensures touched { view_of self.new ≡ record (view_of self.old) { round = touched_in (touched_in (touched_in (view_of self.old).round id) old) target } }
         ensures owed { self.new.owed ≡ self.old.owed }

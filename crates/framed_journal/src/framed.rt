@@ -210,6 +210,7 @@ impl<const SLOTS: usize, D: Disk> FramedJournal<SLOTS, D> {
     /// empty and no round is open. No object is deleted that is reachable, from the root or a held reference, in any outcome of
     /// the active transactions. [`CollectRefusal::Stopped`] comes exactly where the disk failed a call before,
     /// [`CollectRefusal::LogFull`] exactly where the event's record would go past the log's limit.
+    #[inline(always)]
     pub fn collect_step(&mut self) -> Result<Collect, CollectRefusal>
         ensures stopped { IfSome self.old.failed (λ f. IsErrOf result (CollectRefusal.Stopped f.faults) × (self.new ≡ self.old)) }
         ensures only_stopped { (faults : ℕ) → IsErrOf result (CollectRefusal.Stopped faults) → IsSome self.old.failed }

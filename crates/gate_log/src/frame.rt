@@ -33,6 +33,7 @@ pub(crate) fn reserve(frame: &mut Vec<u8>, bytes: usize) -> Result<(), AllocErro
 }
 
 /// Appends the bytes, which are some, for which there is room.
+#[inline(always)]
 pub(crate) fn add(frame: &mut Vec<u8>, bytes: &[u8])
     requires room { max 4 (vec_len frame.old) + length bytes.now ≤ vec_capacity frame.old }
     requires whole { 0 < vec_len frame.old → 4 < vec_len frame.old }

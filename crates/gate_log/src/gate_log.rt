@@ -160,6 +160,7 @@ impl GateLog {
     }
 
     /// Appends a record to the tail, into room that was reserved. It takes no memory.
+    #[inline(always)]
     pub fn append_reserved(&mut self, rec: &[u8])
         requires standing { self.old.stage ≡ Standing }
         requires some { 0 < length rec.now }

@@ -73,6 +73,7 @@ impl TempRefs {
     /// Appends an entry to the client's. Where room is reserved for the client, it succeeds. An entry uses one place of
     /// the room that there is, whichever client it is reserved for. Out of memory is its only error, and leaves the
     /// table as it was.
+    #[inline(always)]
     pub fn add(&mut self, pass: u8, target: u32, kind: Kind) -> Result<(), Memory>
         ensures ok { OnOk result (Adds self.old self.new pass (record { target = target; kind = kind })) }
         ensures err { OnErr result (IsSame self.old self.new) }
@@ -89,6 +90,7 @@ impl TempRefs {
 
     /// Takes room for so many more entries of the client, and gives up the room that another has.
     /// Out of memory is its only error. The entries stay, and so does room where it fails.
+    #[inline(always)]
     pub fn reserve(&mut self, pass: u8, more: u32) -> Result<(), Memory>
         ensures ok { OnOk result (more ≤ room_of self.new pass) }
         ensures others { OnOk result ((p : ℕ) → p ≢ pass → room_of self.new p ≡ 0) }

@@ -20,6 +20,7 @@ pub(crate) struct Walk {
 }
 
 /// The first object to which a strong pointer of this one leads and that isn't settled.
+#[inline(always)]
 fn next_unsettled<const SLOTS: usize>(
     replay: &Replay<SLOTS>,
     settled: &[bool],
