@@ -1,5 +1,5 @@
 -- The transactions after a change of one of them.
-use Rattle.std.proofs.Common.{◌≡◌, ◌≢◌, ℕ, ◌+◌, ◌-◌, ◌<◌, ◌≤◌, List, [], ◌∷◌, ◌++◌, true, false, cond, refl, sym, ap, ◌∙◌, Option, Some, None, arith, ⊎_elim, length, length-take-le, Result, Ok, Err, OnErr, IfErr, IsErrAnd}
+use Rattle.std.proofs.Common.{◌≡◌, ◌≢◌, ℕ, ◌+◌, ◌-◌, ◌<◌, ◌≤◌, List, [], ◌∷◌, ◌++◌, cond, refl, sym, ap, ◌∙◌, Option, Some, None, arith, ⊎_elim, length, length-take-le, Result, Ok, Err, OnErr, IfErr, IsErrAnd}
 use Rattle.std.specs.Prelude.{unwrap_or, option_map, IsSome}
 use Rattle.std.specs.Map.{set_value, remove_entry, keys_of}
 use Rattle.std.specs.List.Sorted.{IsStrictlySortedBy}
@@ -10,48 +10,27 @@ use Rattle.std.proofs.lemmas.Bool.Decides.{nat_tests}
 use Rattle.std.proofs.lemmas.List.{length_push, take_at}
 use Rattle.std.proofs.lemmas.Map.Entries.{sum_by-set_value, sum_by-remove_entry, sum_by-insert_entry}
 use Rattle.plain_laws.proofs.Entries.{same_or_apart}
-use Rattle.plain_laws.proofs.Ids.{at_eq}
 use Rattle.plain_model.specs.declared.write.Write.{Write}
 use Rattle.core_store.specs.Transactions.{Running, running_at, loaded, writing, without_last, forgetting, undoing}
 use Rattle.core_store.specs.Tables.{owed_by, changed_at}
-use Rattle.core_store.specs.Steps.{TakesAt}
 
 -- the client's transaction is this one, and every other client's is as before
 pub record PutsAt (old new : List (ℕ × Running)) (pass : ℕ) (t : Running) : Type 0 where
   pub here : running_at new pass ≡ Some t
   pub others : (q : ℕ) → q ≢ pass → running_at new q ≡ running_at old q
 
-apart_test : (q pass : ℕ) → q ≢ pass → is_at (nat_cmp pass) q ≡ false
-apart_test q pass n = at_eq pass q ∙ grind (arith, nat_tests)
-
-same_test : (pass : ℕ) → is_at (nat_cmp pass) pass ≡ true
-same_test pass = at_eq pass pass ∙ grind (arith, nat_tests)
-
--- what std says of `insert` and `remove`
-pub puts-updates : (old new : List (ℕ × Running)) (pass : ℕ) (t : Running) → ((q : ℕ) → running_at new q ≡ cond (is_at (nat_cmp pass) q) (Some t) (running_at old q)) → PutsAt old new pass t
-puts-updates old new pass t h = record {
-  here = h pass ∙ ap (λ b. cond b (Some t) (running_at old pass)) (same_test pass);
-  others = λ q n. h q ∙ ap (λ b. cond b (Some t) (running_at old q)) (apart_test q pass n);
-}
-
-pub takes-updates : (old new : List (ℕ × Running)) (pass : ℕ) → ((q : ℕ) → running_at new q ≡ cond (is_at (nat_cmp pass) q) None (running_at old q)) → TakesAt old new pass
-takes-updates old new pass h = record {
-  here = h pass ∙ ap (λ b. cond b None (running_at old pass)) (same_test pass);
-  others = λ q n. h q ∙ ap (λ b. cond b None (running_at old q)) (apart_test q pass n);
-}
-
 -- ---- a value that is set
 
-at_here : (p : ℕ) (e : ℕ × Running) (es : List (ℕ × Running)) → p ≡ e.0 → running_at (e ∷ es) p ≡ Some e.1
+pub at_here : (p : ℕ) (e : ℕ × Running) (es : List (ℕ × Running)) → p ≡ e.0 → running_at (e ∷ es) p ≡ Some e.1
 at_here p e es h = grind (arith, nat_tests)
 
-at_next : (p : ℕ) (e : ℕ × Running) (es : List (ℕ × Running)) → p ≢ e.0 → running_at (e ∷ es) p ≡ running_at es p
+pub at_next : (p : ℕ) (e : ℕ × Running) (es : List (ℕ × Running)) → p ≢ e.0 → running_at (e ∷ es) p ≡ running_at es p
 at_next p e es h = grind (arith, nat_tests)
 
-set_here : (p : ℕ) (t : Running) (e : ℕ × Running) (es : List (ℕ × Running)) → p ≡ e.0 → set_value (is_at (nat_cmp p)) (e ∷ es) t ≡ (e.0, t) ∷ es
+pub set_here : (p : ℕ) (t : Running) (e : ℕ × Running) (es : List (ℕ × Running)) → p ≡ e.0 → set_value (is_at (nat_cmp p)) (e ∷ es) t ≡ (e.0, t) ∷ es
 set_here p t e es h = grind (arith, nat_tests)
 
-set_next : (p : ℕ) (t : Running) (e : ℕ × Running) (es : List (ℕ × Running)) → p ≢ e.0 → set_value (is_at (nat_cmp p)) (e ∷ es) t ≡ e ∷ set_value (is_at (nat_cmp p)) es t
+pub set_next : (p : ℕ) (t : Running) (e : ℕ × Running) (es : List (ℕ × Running)) → p ≢ e.0 → set_value (is_at (nat_cmp p)) (e ∷ es) t ≡ e ∷ set_value (is_at (nat_cmp p)) es t
 set_next p t e es h = grind (arith, nat_tests)
 
 set-same : (p : ℕ) (t u : Running) (es : List (ℕ × Running)) → running_at es p ≡ Some u → running_at (set_value (is_at (nat_cmp p)) es t) p ≡ Some t

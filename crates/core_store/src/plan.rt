@@ -81,7 +81,7 @@ impl<const SLOTS: usize> Tables<SLOTS> {
         ensures ok { IfOk result (IsGranted (view_of self.now) pass Call.Begin) }
         ensures err { IfErr result (λ reply. IsRefused SLOTS (view_of self.now) pass Call.Begin reply) }
     {
-        if self.transactions.contains_key(&pass) {
+        if self.transactions.has(pass) {
             return Err(Reply::HasTxn);
         }
         Ok(Plan::Begin)

@@ -18,7 +18,6 @@ use plain_model::Memory;
 use red_walk::IdList;
 use ref_tables::{TempRefs, ZeroQueue};
 use std::alloc::Global;
-use std::collections::BTreeMap;
 use strict_locks::LockTable;
 
 /// How many bytes of a log the undo of a write owes: those of its record.
@@ -71,7 +70,7 @@ impl<const SLOTS: usize> Tables<SLOTS> {
             free: FreeIds::over(alloc, cells)?,
             zeros: opening::zeros(alloc, cells)?,
             locks: LockTable::new(alloc),
-            transactions: BTreeMap::new(alloc),
+            transactions: Transactions::new(alloc),
             owed: 0,
             references: TempRefs::new(alloc),
             queue: opening::queue(alloc, cells)?,
@@ -102,19 +101,14 @@ impl<const SLOTS: usize> Tables<SLOTS> {
     pub(crate) fn active(&self, pass: u8) -> bool
         ensures { result ≡ is_some (running_at self.now.transactions.entries pass) }
     {
-        self.transactions.contains_key(&pass)
+        self.transactions.has(pass)
     }
 
     /// The least client with a transaction.
     pub(crate) fn least_active(&self) -> Option<u8>
         ensures { (c : Core) → Stands SLOTS (view_of self.now) c → result ≡ least_active c.moment.state }
     {
-        // The clients ascend, by what this tells.
-        let _ = self.transactions.len();
-        match self.transactions.first_key_value() {
-            Some((pass, _)) => Some(*pass),
-            None => None,
-        }
+        self.transactions.least()
     }
 
     /// The stored ids, ascending.

@@ -30,7 +30,7 @@ impl<const SLOTS: usize> Tables<SLOTS> {
         ensures least { (t : Running) → running_at self.old.transactions.entries pass ≡ Some t → self.new.owed + (length t.replaced + 1) ≡ self.old.owed }
         ensures owed { self.new.owed ≤ self.old.owed }
     {
-        if let Some(transaction) = self.transactions.remove(&pass) {
+        if let Some(transaction) = self.transactions.remove(pass) {
             self.owed -= transaction.left();
             self.owed -= 1;
         }

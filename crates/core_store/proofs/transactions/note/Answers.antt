@@ -11,5 +11,5 @@ returns-in-Some-clause-err c =
     let es = c.args.transactions.now.entries in
     more_on_err c.note.result _ _
     (λ (same : c.note.new.self ≡ c.in-Some.transaction.now).
-    (c.get_mut.follows.holds c.note.new.self).0 ∙ (ap (λ (t : Running). set_value (is_at (nat_cmp c.args.pass)) es t) same ∙ set-own c.args.pass c.in-Some.transaction.now es (sym c.in-Some.ensures.value)))
+    ap (λ (t : Running). set_value (is_at (nat_cmp c.args.pass)) es t) same ∙ set-own c.args.pass c.in-Some.transaction.now es (sym c.in-Some.ensures.value))
     c.note.ensures.err

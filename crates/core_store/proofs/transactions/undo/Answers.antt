@@ -9,4 +9,4 @@ use Rattle.core_store.proofs.transactions.undo.Goals as goal
 pub returns-clause-none : goal.returns-clause-none
 returns-clause-none c = λ e.
     let es = c.args.transactions.now.entries in
-    (c.get_mut.follows.holds c.undo.new.self).0 ∙ (ap (λ (t : Running). set_value (is_at (nat_cmp c.args.pass)) es t) (c.undo.ensures.none e).1 ∙ set-own c.args.pass c.in_ok-get_mut.field-0.now es (sym c.in_ok-get_mut.ensures.value))
+    ap (λ (t : Running). set_value (is_at (nat_cmp c.args.pass)) es t) (c.undo.ensures.none e).1 ∙ set-own c.args.pass c.in_ok-get_mut.field-0.now es (sym c.in_ok-get_mut.ensures.value)
