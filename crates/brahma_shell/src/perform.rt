@@ -2,6 +2,7 @@
 ghost use Rattle.std.specs.Prelude.{◌≡◌, ◌⊎◌, ◌+◌, ◌<◌, [], ◌∷◌, ◌++◌, replicate, IsSome, Some, None, IsOk, IfOk, IfErr, Option};
 ghost use Rattle.plain_model.specs.Machine.{IsInRange, transaction_of};
 ghost use Rattle.plain_model.specs.History.{end_of, left_to_undo};
+ghost use Rattle.plain_model.specs.Text.{line_of};
 ghost use Rattle.script_lines.specs.Grammar.{IsClient};
 ghost use Rattle.brahma_shell.specs.Growth.{GrowsBy};
 ghost use Rattle.brahma_shell.specs.Log.{StaysRunning};
@@ -22,6 +23,29 @@ pub(crate) struct Answer {
     pub(crate) reply: Reply,
 }
 
+/// Does one call, and tells the reply.
+fn reply_to<D: Disk>(store: &mut Store<D>, client: u8, call: &Call) -> Result<Reply, Stop>
+    requires client { IsClient client }
+    requires in_range { IsInRange 6 call.now }
+    requires no_abort { call.now ≡ Call.Abort → transaction_of (end_of store.old.journal.history).state client ≡ None }
+    requires running { store.old.failed ≡ None }
+    ensures ok { IfOk result (λ reply. GrowsBy store.old.journal store.new.journal (Entry.Call client call.now reply ∷ [])) }
+    ensures goes_on { IfOk result (λ _. StaysRunning D.faults store.old store.new) }
+    ensures err { IfErr result (λ s.
+        StopsCall s store.old.journal store.new.journal × LeavesLog D.faults s store.old store.new
+        ⊎ FailsCall D.faults s client call.now store.old store.new) }
+{
+    let reply = store.call(client, call);
+    match reply {
+        Reply::Memory => Err(Stop::Memory),
+        Reply::TraceFull => Err(Stop::Full),
+        Reply::LogFull => Err(Stop::LogFull),
+        Reply::DiskFault => Err(Stop::Fault),
+        Reply::Stopped { .. } => Err(Stop::Stopped),
+        _ => Ok(reply),
+    }
+}
+
 /// Does one call.
 fn call<D: Disk>(store: &mut Store<D>, client: u8, call: Call) -> Result<Answer, Stop>
     requires client { IsClient client }
@@ -35,18 +59,13 @@ fn call<D: Disk>(store: &mut Store<D>, client: u8, call: Call) -> Result<Answer,
         StopsCall s store.old.journal store.new.journal × LeavesLog D.faults s store.old store.new
         ⊎ FailsCall D.faults s client call store.old store.new) }
 {
-    let reply = store.call(client, &call);
-    match reply {
-        Reply::Memory => Err(Stop::Memory),
-        Reply::TraceFull => Err(Stop::Full),
-        Reply::LogFull => Err(Stop::LogFull),
-        Reply::DiskFault => Err(Stop::Fault),
-        Reply::Stopped { .. } => Err(Stop::Stopped),
-        _ => Ok(Answer {
+    match reply_to(store, client, &call) {
+        Ok(reply) => Ok(Answer {
             client,
             call,
             reply,
         }),
+        Err(stop) => Err(stop),
     }
 }
 
@@ -69,17 +88,17 @@ fn undo_all<D: Disk>(store: &mut Store<D>, client: u8) -> Result<(), Stop>
     }
 }
 
-/// Does the call that a line asks.
-pub(crate) fn ask<D: Disk>(store: &mut Store<D>, client: u8, asked: Call) -> Result<Answer, Stop>
-    requires line { IsClient client × IsInRange 6 asked × (asked ≡ Call.Abort → ⊥) }
+/// Does the call that a line asks, and tells the reply.
+pub(crate) fn ask<D: Disk>(store: &mut Store<D>, client: u8, asked: &Call) -> Result<Reply, Stop>
+    requires line { IsClient client × IsInRange 6 asked.now × (asked.now ≡ Call.Abort → ⊥) }
     requires running { store.old.failed ≡ None }
-    ensures ok { IfOk result (λ a. Performs store.old.journal store.new.journal (Line.Ask client asked) (answer_text (Some a))) }
+    ensures ok { IfOk result (λ reply. Performs store.old.journal store.new.journal (Line.Ask client asked.now) (line_of (Entry.Call client asked.now reply))) }
     ensures goes_on { IfOk result (λ _. StaysRunning D.faults store.old store.new) }
     ensures err { IfErr result (λ s.
         StopsCall s store.old.journal store.new.journal × LeavesLog D.faults s store.old store.new
-        ⊎ FailsCall D.faults s client asked store.old store.new) }
+        ⊎ FailsCall D.faults s client asked.now store.old store.new) }
 {
-    call(store, client, asked)
+    reply_to(store, client, asked)
 }
 
 /// Undoes the client's transaction, and ends it.

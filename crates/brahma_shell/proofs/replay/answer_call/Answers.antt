@@ -8,17 +8,17 @@ use Rattle.brahma_shell.specs.Replay.{StopsCall, LeavesLog, FailsCall}
 use Rattle.brahma_shell.proofs.DoLemmas.{call-fails, call-stops, fails-write}
 use Rattle.brahma_shell.proofs.replay.answer_call.Goals as goal
 
-pub returns-in_err-print_answer-in-Err-clause-stopped : goal.returns-in_err-print_answer-in-Err-clause-stopped
-returns-in_err-print_answer-in-Err-clause-stopped g c =
+pub returns-in_err-print_reply-in-Err-clause-stopped : goal.returns-in_err-print_reply-in-Err-clause-stopped
+returns-in_err-print_reply-in-Err-clause-stopped g c =
     let p = err_from_is_err_and c.from_residual.result c.from_residual.ensures.1 in
-    let failed = c.in_err-print_answer-in-Err.ensures.err in
+    let failed = c.in_err-print_reply-in-Err.ensures.err in
     let is = c.is_of_commit.ensures.0 c.if-is_of_commit.true in
     let faults = g.D.Disk.faults in
     let old = c.args.store.now in
     let new = c.ask.new.store in
     let h = subst (λ (s : Stop). StopsCall s old.journal new.journal × LeavesLog faults s old new ⊎ FailsCall faults s c.args.client c.args.call old new) is c.in-Err.ensures.err in
     rw (p.1, p.2)
-    (inr (fails-write faults c.in_err-print_answer-in-Err.field-0.0 c.args.client c.args.call old new _ _ failed.0 (call-fails faults c.args.client c.args.call old new h) failed.1))
+    (inr (fails-write faults c.in_err-print_reply-in-Err.field-0.0 c.args.client c.args.call old new _ _ failed.0 (call-fails faults c.args.client c.args.call old new h) failed.1))
 
 pub returns-else-is_of_commit-clause-stopped : goal.returns-else-is_of_commit-clause-stopped
 returns-else-is_of_commit-clause-stopped g c =
