@@ -4,6 +4,8 @@
 #![tactic(auto)]
 
 #[cfg(test)]
+mod command;
+#[cfg(test)]
 mod gates;
 #[cfg(test)]
 mod made;

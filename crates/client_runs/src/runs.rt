@@ -39,7 +39,7 @@ fn held(call: (u8, u32), until: (u8, u32)) -> Held {
 }
 
 /// Each client's second call waits until the other's first one was answered.
-fn each_second_call() -> HeldCalls {
+pub(crate) fn each_second_call() -> HeldCalls {
     HeldCalls::new(held((1, 2), (2, 1)), held((2, 2), (1, 1)))
 }
 
