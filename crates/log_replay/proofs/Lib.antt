@@ -6,4 +6,4 @@ mod UnendedMaps
 mod PlacedLaws
 mod Rooms
 mod FinishLaws
-mod AfterLaws
+mod ChangeLaws

@@ -3,4 +3,3 @@ pub mod Placed
 pub mod Replays
 pub mod Steps
 pub mod Finishes
-pub mod After

@@ -91,6 +91,10 @@ FitsCell skips cells r x = 1 ≤ x → is_skipped skips x ≡ false → FitsAt r
 abbrev pub changed_in : ℕ → StoredRecord → ℕ → Replaying → Replaying
 changed_in slots r id v = record v { cells = slice_set v.cells id (after_cells slots v.skips r id (cell_at v.cells id)) }
 
+-- the cell of the id became what the record makes of it
+abbrev pub effect_at : ℕ → StoredRecord → ℕ → Replaying → Replaying
+effect_at slots r id v = record v { cells = slice_set v.cells id (effect slots r id (cell_at v.cells id)) }
+
 -- after it was done to all cells
 abbrev pub with_cells_after : ℕ → StoredRecord → Replaying → Replaying
 with_cells_after slots r v = record v { cells = each_after (after_cells slots v.skips r) v.cells }

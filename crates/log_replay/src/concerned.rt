@@ -17,6 +17,7 @@ pub(crate) struct ThreeIds {
 }
 
 /// Each of these ids once.
+#[inline(always)]
 fn once(own: u32, from: u32, to: u32) -> ThreeIds
     ensures { AreApart own from to result }
 {
@@ -28,6 +29,7 @@ fn once(own: u32, from: u32, to: u32) -> ThreeIds
 }
 
 /// The ids that the record concerns.
+#[inline(always)]
 pub(crate) fn concerned(r: &CellRecord) -> ThreeIds
     requires { (slots : ℕ) × HasCellSpelling slots r.now }
     ensures all { (slots : ℕ) → AreConcerned slots (record_of r.now) result }
@@ -66,6 +68,7 @@ pub(crate) fn concerned(r: &CellRecord) -> ThreeIds
 }
 
 /// Whether the ids and targets of the record are at most this.
+#[inline(always)]
 pub(crate) fn is_within(r: &CellRecord, ids: u32) -> bool
     ensures { (result ≡ true) ↔ IsWithin ids r.now }
 {

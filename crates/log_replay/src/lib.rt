@@ -2,11 +2,12 @@
 //! undone. Where images of a page are still to come, its cells are left alone until the last of them.
 #![tactic(auto)]
 
-mod after;
 mod cell_steps;
 mod cells;
+mod change;
 mod concerned;
 mod finish;
+mod fits;
 mod pages;
 mod refusals;
 mod replay;

@@ -1,7 +1,7 @@
 //! The pages of a store, as one list of cells.
 
-ghost use Rattle.std.specs.Prelude.{◌≡◌, ◌+◌, ◌*◌, ◌<◌, ◌≤◌, ℕ, false, [], cond, length, map, slice_index_or, slice_set};
-ghost use Rattle.cell_model.specs.Cells.{blank_cell, cell_at};
+ghost use Rattle.std.specs.Prelude.{◌≡◌, ◌+◌, ◌*◌, ◌<◌, ◌≤◌, ℕ, true, false, [], cond, length, map, slice_index_or, slice_set};
+ghost use Rattle.cell_model.specs.Cells.{blank_cell, cell_at, pays};
 ghost use Rattle.restart_laws.specs.Local.{is_in_page, cell_in};
 ghost use Rattle.cell_page.specs.Format.{IsSlotCount, IsCell, IsPage};
 ghost use Rattle.cell_page.specs.Stored.{cell_of, HoldsPage};
@@ -27,6 +27,21 @@ impl<const SLOTS: usize> Model for Pages<SLOTS> {
     ghost view = { λ s. cells_of_pages s.pages.items };
 
     ghost invariant = { λ s. AreStorePages s.pages.items };
+}
+
+/// The cell, which is live, with this payload.
+#[inline(always)]
+fn with_payload<const SLOTS: usize>(cell: &Cell<SLOTS>, value: u64) -> Cell<SLOTS>
+    requires live { cell.now.live ≡ true }
+    requires rules { IsCell cell.now.id cell.now }
+    ensures model { cell_of result ≡ pays value (cell_of cell.now) }
+    ensures same { result.id ≡ cell.now.id }
+    ensures rules { IsCell cell.now.id result }
+{
+    Cell {
+        payload: value,
+        ..*cell
+    }
 }
 
 impl<const SLOTS: usize> Pages<SLOTS> {
@@ -55,6 +70,7 @@ impl<const SLOTS: usize> Pages<SLOTS> {
     }
 
     /// The cell of an id.
+    #[inline(always)]
     pub(crate) fn get(&self, id: u32) -> &Cell<SLOTS>
         requires above { 0 < id }
         requires within { id < length self.now }
@@ -67,6 +83,7 @@ impl<const SLOTS: usize> Pages<SLOTS> {
     }
 
     /// Puts a cell in the place of the one with the same id.
+    #[inline(always)]
     pub(crate) fn put(&mut self, cell: &Cell<SLOTS>)
         requires above { 0 < cell.now.id }
         requires within { cell.now.id < length self.old }
@@ -74,6 +91,19 @@ impl<const SLOTS: usize> Pages<SLOTS> {
         ensures { self.new ≡ slice_set self.old cell.now.id (cell_of cell.now) }
     {
         self.pages[page_of(cell.id) as usize].put_cell(*cell);
+    }
+
+    /// The payload of a live cell becomes this.
+    #[inline(always)]
+    pub(crate) fn pay(&mut self, id: u32, value: u64)
+        requires above { 0 < id }
+        requires within { id < length self.old }
+        requires live { (cell_at self.old id).live ≡ true }
+        ensures { self.new ≡ slice_set self.old id (pays value (cell_at self.old id)) }
+    {
+        let _count = self.pages.len();
+        let paid = with_payload(self.get(id), value);
+        self.put(&paid);
     }
 
     /// The page of this number.

@@ -2,18 +2,18 @@
 
 ghost use Rattle.std.specs.Prelude.{◌≡◌, ◌≢◌, ◌↔◌, ◌+◌, ◌*◌, ◌<◌, ◌≤◌, [], true, Err, length, OnOk, OnErr};
 ghost use Rattle.cell_page.specs.Format.{IsSlotCount, IsPage};
+ghost use Rattle.cell_model.specs.Cells.{cell_at};
 ghost use Rattle.cell_page.specs.Stored.{HoldsPage};
 ghost use Rattle.log_record.specs.declared.record.Record.TheVariants.{OfCells};
 ghost use Rattle.log_record.specs.Spelling.{HasSpelling, HasCellSpelling};
 ghost use Rattle.log_record.specs.Records.{record_of};
+ghost use Rattle.restart_laws.specs.Local.{FitsAt};
 ghost use Rattle.restart_laws.specs.Unended.{FitsUnended};
 ghost use Rattle.log_replay.specs.Inside.{cells_of_pages, AreStorePages};
 ghost use Rattle.log_replay.specs.Replays.{IsReplaying, IsWithin, is_skipped, NotesNothing, FitsUnskippedCells, FitsReplay, after_taking};
-ghost use Rattle.log_replay.specs.After.{AreCellsAfter};
-ghost use Rattle.log_replay.specs.Steps.{FitsCell, changed_in, with_cells_after, taken_of_cells, taken_image};
+ghost use Rattle.log_replay.specs.Steps.{FitsCell, changed_in, effect_at, with_cells_after, taken_of_cells, taken_image};
 ghost use Rattle.log_replay.specs.declared.refusals.TakeRefusal.TheVariants.{Unfit};
 
-use crate::after::CellsAfter;
 use crate::cell_steps;
 use crate::concerned::concerned;
 use crate::pages::Pages;
@@ -94,10 +94,10 @@ impl<const SLOTS: usize> Replay<SLOTS> {
         ensures unfit { (result ≢ Err Unfit) ↔ FitsReplay {slots = SLOTS} self.old (OfCells r.now) }
     {
         let _few = self.ids();
-        match self.after(r) {
-            Some(after) => self.take_fitting(r, &after),
-            None => Err(TakeRefusal::Unfit),
+        if !self.fits(r) {
+            return Err(TakeRefusal::Unfit);
         }
+        self.take_fitting(r)
     }
 
     /// The greatest id.
@@ -119,12 +119,13 @@ impl<const SLOTS: usize> Replay<SLOTS> {
         self.skip[page_of(id) as usize] != 0
     }
 
-    /// Takes a record of single cells, which fits the pages and makes these of their cells. An error changes nothing.
+    /// Takes a record of single cells, which fits the pages. An error changes nothing.
     #[tactic(auto, using(crate::proofs::PlacedLaws::placed_after))]
-    fn take_fitting(&mut self, r: &CellRecord, after: &CellsAfter<SLOTS>) -> Result<(), TakeRefusal>
+    #[inline(always)]
+    fn take_fitting(&mut self, r: &CellRecord) -> Result<(), TakeRefusal>
         requires spelled { HasCellSpelling SLOTS r.now }
         requires within { IsWithin (8 * length self.old.skips) r.now }
-        requires after { AreCellsAfter self.old (record_of r.now) after.now }
+        requires fits { FitsUnskippedCells self.old.skips self.old.cells (record_of r.now) }
         ensures ok { OnOk result (self.new ≡ taken_of_cells SLOTS (record_of r.now) self.old) }
         ensures err { OnErr result (self.new ≡ self.old) }
 
@@ -133,7 +134,7 @@ impl<const SLOTS: usize> Replay<SLOTS> {
     {
         match unended::take(&mut self.unended, self.alloc, r) {
             Ok(()) => {
-                self.put_cells(after);
+                self.change_cells(r);
                 Ok(())
             }
             Err(refusal) => Err(refusal),
@@ -154,6 +155,7 @@ impl<const SLOTS: usize> Replay<SLOTS> {
     }
 
     /// Does a record, which fits, to the cells.
+    #[inline(always)]
     fn change_cells(&mut self, r: &CellRecord)
         requires spelled { HasCellSpelling SLOTS r.now }
         requires sized { length self.old.cells ≡ 8 * length self.old.skips + 1 }
@@ -168,6 +170,7 @@ impl<const SLOTS: usize> Replay<SLOTS> {
     }
 
     /// Does a record, which fits, to the cell of an id, which may be 0 for none.
+    #[inline(always)]
     fn change_cell(&mut self, r: &CellRecord, id: u32)
         requires spelled { HasCellSpelling SLOTS r.now }
         requires within { id < length self.old.cells }
@@ -177,6 +180,17 @@ impl<const SLOTS: usize> Replay<SLOTS> {
         if id == 0 || self.is_skipped(id) {
             return;
         }
+        self.change_at(r, id);
+    }
+
+    /// Does a record, which fits, to the cell of an id.
+    fn change_at(&mut self, r: &CellRecord, id: u32)
+        requires spelled { HasCellSpelling SLOTS r.now }
+        requires above { 0 < id }
+        requires within { id < length self.old.cells }
+        requires fits { FitsAt (record_of r.now) id (cell_at self.old.cells id) }
+        ensures { self.new ≡ effect_at SLOTS (record_of r.now) id self.old }
+    {
         if let Some(next) = cell_steps::step(r, self.pages.get(id)) {
             self.pages.put(&next);
         }

@@ -1,6 +1,6 @@
 //! A transaction that hasn't ended, as the records of a log tell of it.
 
-ghost use Rattle.std.specs.Prelude.{◌≡◌, ◌≢◌, ◌↔◌, true, false, Some, None, Err, [], IfNone, IfSome, OnOk, OnErr};
+ghost use Rattle.std.specs.Prelude.{◌≡◌, ◌≢◌, ◌↔◌, true, false, Some, None, Err, [], IfNone, IfSome, IfOk, OnOk, OnErr};
 ghost use Rattle.std.specs.List.{last_or};
 ghost use Rattle.restart_laws.specs.Unended.{just_begun, with_change, without_change};
 ghost use Rattle.log_replay.specs.Steps.{change_by};
@@ -39,15 +39,18 @@ impl Model for Transaction {
     ghost view = { λ t. record { changes = map change_by t.changes.items; aborting = t.aborting } };
 }
 
+/// For so many writes a transaction takes memory once.
+const ROOM: usize = 32;
+
 impl Transaction {
     /// It changed nothing yet.
-    pub(crate) fn new(alloc: Global) -> Transaction
-        ensures { result ≡ just_begun }
+    pub(crate) fn new(alloc: Global) -> Result<Transaction, Memory>
+        ensures { IfOk result (λ transaction. transaction ≡ just_begun) }
     {
-        Transaction {
-            changes: Vec::new(alloc),
+        Ok(Transaction {
+            changes: Vec::with_capacity(alloc, ROOM)?,
             aborting: false,
-        }
+        })
     }
 
     /// Whether a write of it was undone.

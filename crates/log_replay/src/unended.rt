@@ -4,6 +4,7 @@ ghost use Rattle.std.specs.Prelude.{◌≡◌, ◌≢◌, ◌↔◌, [], true, N
 ghost use Rattle.std.specs.Ordering.{nat_cmp};
 ghost use Rattle.std.specs.BTreeMap.{insert_entry};
 ghost use Rattle.restart_laws.specs.Unended.{unended_at, unended_after, changed_at, just_begun, with_change, without_change, IsRunning, IsLastChange, IsAllUndone, FitsUnended};
+ghost use Rattle.log_record.specs.Changes.{change_record};
 ghost use Rattle.log_record.specs.Records.{record_of};
 ghost use Rattle.log_replay.specs.Replays.{NotesNothing};
 ghost use Rattle.log_replay.specs.Steps.{change_by, place_of_byte, IsFirst};
@@ -11,7 +12,7 @@ ghost use Rattle.log_replay.specs.declared.refusals.TakeRefusal.TheVariants.{Unf
 
 use crate::refusals::TakeRefusal;
 use crate::transaction::{Transaction, Write};
-use log_record::{CellRecord, PAYLOAD_PLACE};
+use log_record::{CellRecord, PAYLOAD_PLACE, PayloadChange};
 use plain_model::Place;
 use std::alloc::Global;
 use std::collections::BTreeMap;
@@ -140,7 +141,10 @@ fn begin(unended: &mut UnendedMap, alloc: Global, pass: u8) -> Result<(), TakeRe
     if unended.get(&pass).is_some() {
         return Err(TakeRefusal::Unfit);
     }
-    match unended.insert(pass, Transaction::new(alloc)) {
+    let Ok(begun) = Transaction::new(alloc) else {
+        return Err(TakeRefusal::Memory);
+    };
+    match unended.insert(pass, begun) {
         Ok(_) => Ok(()),
         Err(_) => Err(TakeRefusal::Memory),
     }
@@ -199,6 +203,27 @@ pub(crate) fn take(
             Ok(())
         }
     }
+}
+
+/// The transactions after a change of a payload. An error changes nothing.
+#[inline(always)]
+pub(crate) fn take_change(
+    unended: &mut UnendedMap,
+    change: PayloadChange,
+) -> Result<(), TakeRefusal>
+    ensures ok { OnOk result (unended.new.entries ≡ unended_after unended.old.entries (record_of (change_record change))) }
+    ensures err { OnErr result (unended.new.entries ≡ unended.old.entries) }
+
+    // `Unfit` is the answer exactly where it doesn't fit them.
+    ensures unfit { (result ≢ Err Unfit) ↔ FitsUnended unended.old.entries (record_of (change_record change)) }
+{
+    let write = Write {
+        id: change.id,
+        place: Place::Payload,
+        old: change.old_value,
+        new: change.new_value,
+    };
+    note(unended, change.pass, write)
 }
 
 /// The first client whose transaction hasn't ended, and the last write of it that isn't undone.

@@ -92,6 +92,7 @@ impl PageMarks {
     }
 
     /// After a record of single cells. It takes no memory.
+    #[inline(always)]
     pub fn take(&mut self, rec: &CellRecord)
         requires { IsWithin (8 * length self.old) rec.now }
         ensures { (slots : ℕ) → AreMarkedBy {slots = slots} (OfCells rec.now) self.old self.new }

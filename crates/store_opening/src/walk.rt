@@ -4,6 +4,7 @@ ghost use Rattle.cell_page.specs.Format.{IsSlotCount};
 ghost use Rattle.gate_log.specs.declared.stage.Stage.TheVariants.{Reading, Standing};
 ghost use Rattle.log_record.specs.declared.cell_record.CellRecord.{CellRecord};
 ghost use Rattle.log_record.specs.declared.record.Record.TheVariants.{OfCells};
+ghost use Rattle.log_record.specs.Changes.{change_record};
 ghost use Rattle.log_record.specs.Spelling.{BeginsWith};
 ghost use Rattle.log_replay.specs.Replays.{Replaying};
 ghost use Rattle.log_replay.specs.declared.refusals.TakeRefusal.TheVariants.{Unfit};
@@ -16,7 +17,7 @@ ghost use Rattle.store_opening.specs.Walked.{HasWalked, EndsWalk, StopsWalk};
 use crate::refusal::{ReadRefusal, told};
 use disk_model::Disk;
 use gate_log::GateLog;
-use log_record::{CellRecord, Record};
+use log_record::{CellRecord, PayloadChange, Record};
 use log_replay::{Replay, TakeRefusal};
 use page_marks::PageMarks;
 
@@ -47,6 +48,7 @@ fn count_image(awaited: &mut [u32], page: u16)
 }
 
 /// Takes the record of single cells that the bytes begin with, which has so many of them.
+#[inline(always)]
 fn take_of_cells<const SLOTS: usize>(
     walk: &mut Walk<SLOTS>,
     rec: &CellRecord,
@@ -110,8 +112,35 @@ fn take_image<const SLOTS: usize>(
     }
 }
 
-/// Takes the record that the bytes begin with, and answers how many bytes it has.
-fn take_record<const SLOTS: usize>(
+/// Takes the change of a payload that the bytes begin with, which has so many of them.
+#[inline(always)]
+fn take_change<const SLOTS: usize>(
+    walk: &mut Walk<SLOTS>,
+    change: PayloadChange,
+    bytes: &[u8],
+    len: usize,
+) -> Result<usize, TakeRefusal>
+    requires count { IsSlotCount SLOTS }
+    requires same { walk.old.awaited.items ≡ walk.old.replay.skips }
+    requires as_many { length walk.old.marks ≡ length walk.old.replay.skips }
+    requires begins { BeginsWith {slots = SLOTS} bytes.now (OfCells (change_record change)) len }
+    ensures took { IfOk result (λ taken. TakesFirst SLOTS bytes.now taken walk.old.replay walk.new.replay walk.old.marks walk.new.marks) }
+    ensures within { IfOk result (λ taken. (1 ≤ taken) × (taken ≤ length bytes.now)) }
+    ensures unfit { IsErrOf result Unfit → TakesNone SLOTS bytes.now walk.old.replay }
+    ensures same { walk.new.awaited.items ≡ walk.new.replay.skips }
+    ensures as_many { length walk.new.marks ≡ length walk.new.replay.skips }
+{
+    match walk.replay.take_change(change) {
+        Ok(()) => {
+            walk.marks.take(&change.record());
+            Ok(len)
+        }
+        Err(refusal) => Err(refusal),
+    }
+}
+
+/// Takes the record of any kind that the bytes begin with, and answers how many bytes it has.
+fn take_of_any_kind<const SLOTS: usize>(
     walk: &mut Walk<SLOTS>,
     bytes: &[u8],
 ) -> Result<usize, TakeRefusal>
@@ -127,6 +156,27 @@ fn take_record<const SLOTS: usize>(
     match &CellRecord::read::<SLOTS>(bytes) {
         Ok((rec, len)) => take_of_cells(walk, rec, bytes, *len),
         Err(_) => take_image(walk, bytes),
+    }
+}
+
+/// Takes the record that the bytes begin with, and answers how many bytes it has.
+#[inline(always)]
+fn take_record<const SLOTS: usize>(
+    walk: &mut Walk<SLOTS>,
+    bytes: &[u8],
+) -> Result<usize, TakeRefusal>
+    requires count { IsSlotCount SLOTS }
+    requires same { walk.old.awaited.items ≡ walk.old.replay.skips }
+    requires as_many { length walk.old.marks ≡ length walk.old.replay.skips }
+    ensures took { IfOk result (λ len. TakesFirst SLOTS bytes.now len walk.old.replay walk.new.replay walk.old.marks walk.new.marks) }
+    ensures within { IfOk result (λ len. (1 ≤ len) × (len ≤ length bytes.now)) }
+    ensures unfit { IsErrOf result Unfit → TakesNone SLOTS bytes.now walk.old.replay }
+    ensures same { walk.new.awaited.items ≡ walk.new.replay.skips }
+    ensures as_many { length walk.new.marks ≡ length walk.new.replay.skips }
+{
+    match PayloadChange::read(bytes) {
+        Some((change, len)) => take_change(walk, change, bytes, len),
+        None => take_of_any_kind(walk, bytes),
     }
 }
 
