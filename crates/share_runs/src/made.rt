@@ -10,22 +10,40 @@ use disk_model::{Disk, MemoryDisk};
 use framed_journal::FramedJournal;
 use journal_opening::open;
 use logged_journal::LoggedJournal;
-use plain_model::Entry;
+use plain_model::{Entry, Ids};
 use restart_store::init;
 use shared_store::{Pass, Store};
 use std::alloc::{AllocError, Global};
 
 // Each call with a large contract is made in a function of its own, whose clauses are what the next call asks for.
 
-/// A disk in memory with a new store of so many pages.
-pub(crate) fn disk_on(alloc: Global, pages: u16) -> Result<MemoryDisk, AllocError>
+/// The disk with a new store of so many pages.
+fn made_on<D: Disk>(mut disk: D, pages: u16) -> Result<D, AllocError>
     requires { (1 ≤ pages) × (pages ≤ 1024) }
 {
-    let mut disk = MemoryDisk::new(alloc);
     match init(&mut disk, pages) {
         Ok(()) => Ok(disk),
         Err(_) => Err(AllocError),
     }
+}
+
+/// A disk in memory with a new store of so many pages.
+pub(crate) fn disk_on(alloc: Global, pages: u16) -> Result<MemoryDisk, AllocError>
+    requires { (1 ≤ pages) × (pages ≤ 1024) }
+{
+    made_on(MemoryDisk::new(alloc), pages)
+}
+
+/// The same, where the disk fails the call of this number, counted from the first one of the making on.
+pub(crate) fn failing_disk_on(
+    alloc: Global,
+    pages: u16,
+    call: u64,
+) -> Result<MemoryDisk, AllocError>
+    requires { (1 ≤ pages) × (pages ≤ 1024) }
+{
+    let disk = MemoryDisk::failing(alloc, Vec::from_array(alloc, [call])?, None);
+    made_on(disk, pages)
 }
 
 /// The journal of the store that the disk holds.
@@ -126,6 +144,27 @@ pub(crate) fn calls_of<D: Disk>(logged: &LoggedJournal<6, D>, client: u8) -> usi
         .iter()
         .filter(|note| is_of(note, client))
         .count()
+}
+
+/// How many calls the disk has failed.
+pub(crate) fn faults_of<D: Disk>(logged: &LoggedJournal<6, D>) -> u64 {
+    logged.disk().faults()
+}
+
+/// The disk of the journal, which is closed.
+pub(crate) fn disk_in<D: Disk>(logged: LoggedJournal<6, D>) -> D {
+    logged.into_disk()
+}
+
+/// The objects that the journal has stored.
+fn stored_in<D: Disk>(journal: &FramedJournal<6, D>) -> Result<Ids, AllocError> {
+    journal.logged().journal().stored()
+}
+
+/// The objects of the store that the disk holds.
+pub(crate) fn stored_on<D: Disk>(alloc: Global, disk: D) -> Result<Ids, AllocError> {
+    let journal = journal_on(alloc, disk)?;
+    stored_in(&journal)
 }
 
 /// How many objects are stored.
