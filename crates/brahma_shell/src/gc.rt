@@ -23,6 +23,7 @@ pub(crate) struct Stepped {
 }
 
 /// Makes a step of the collector, and prints what it deletes. `None` where there is nothing to do.
+#[inline(always)]
 pub(crate) fn collect_step<W: Sink, D: Disk>(
     store: &mut Store<D>,
     out: &mut W,

@@ -46,7 +46,7 @@ fn reply_to<D: Disk>(store: &mut Store<D>, client: u8, call: &Call) -> Result<Re
     }
 }
 
-/// Does one call.
+/// Does one call, and tells it with its reply.
 fn call<D: Disk>(store: &mut Store<D>, client: u8, call: Call) -> Result<Answer, Stop>
     requires client { IsClient client }
     requires in_range { IsInRange 6 call }

@@ -128,6 +128,7 @@ impl<D: Disk> Store<D> {
     }
 
     /// Makes one step of the collector.
+    #[inline(always)]
     pub(crate) fn collect_step(&mut self) -> Result<Collect, CollectRefusal>
         requires running { self.old.failed ≡ None }
         ensures idle { IfOk result (λ step. step ≡ Collect.Idle → GrowsBy self.old.journal self.new.journal [] × MayRest (point_of self.old.journal)) }
