@@ -26,9 +26,6 @@ use Rattle.core_store.proofs.SlotPages.{changed-trans, place-moved}
 put-edit : (cells : List Cell) (id : ℕ) (f : Cell → Cell) (n : ℕ) (x : Cell) → n ≡ id → x ≡ f (cell_at cells id) → edit cells n (λ _. x) ≡ edit cells id f
 put-edit cells id f n x same_id is = ap (λ (k : ℕ). edit cells k (λ _. x)) same_id ∙ edit-same cells id (λ _. x) f is
 
-pub agree-put : {slots : ℕ} (cells : List Cell) (new : List (HeldFrame slots)) (id : ℕ) (f : Cell → Cell) (n : ℕ) (x : Cell) → n ≡ id → x ≡ f (cell_at cells id) → Agree (edit cells n (λ _. x)) new → Agree (edit cells id f) new
-agree-put cells new id f n x same_id is agree = subst (λ (cs : List Cell). Agree cs new) (put-edit cells id f n x same_id is) agree
-
 pub changed-put : {slots : ℕ} (cells : List Cell) (held new : List (HeldFrame slots)) (zeros marks : List Bool) (id : ℕ) (f : Cell → Cell) (n : ℕ) (x : Cell) → n ≡ id → x ≡ f (cell_at cells id)
     → IsChanged cells (edit cells n (λ _. x)) held new zeros marks → IsChanged cells (edit cells id f) held new zeros marks
 changed-put cells held new zeros marks id f n x same_id is changed = subst (λ (cs : List Cell). IsChanged cells cs held new zeros marks) (put-edit cells id f n x same_id is) changed

@@ -197,8 +197,9 @@ impl<const SLOTS: usize, D: Disk> LoggedJournal<SLOTS, D> {
         self.durable
     }
 
-    /// Each image of the disk has what a power loss may leave of the log. An image whose log has what a power loss may leave of it, or the records of all notes, opens to a graph that a crash may
-    /// leave; where it has these and that of one commit more, to one that a crash may leave after the disk failed that.
+    /// Each image of the disk has what a power loss may leave of the log. An image whose log has what a power loss may leave
+    /// of it, or the records of all notes, opens to a graph that a crash may leave; where it has these and that of one commit
+    /// more, to one that a crash may leave after the disk failed that.
     pub(crate) fn know_images(&self)
         ensures images { EachImage D.may_leave self.now.disk (MayBeLeft self.now) }
         ensures left { (image : Bytes) → MayBeLeft self.now image → OpensAfter SLOTS (history_of self.now) image }

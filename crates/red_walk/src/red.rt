@@ -137,8 +137,8 @@ impl<const SLOTS: usize> Red<SLOTS> {
         }
     }
 
-    /// Goes on to this slot of the object that is looked at, or to the next object where it has no such slot. At no slot
-    /// before it was there anything to do.
+    /// Goes on to this slot of the object that is looked at, or to the next object where it has no such slot. That the slots
+    /// gone over gave nothing to do is for the caller to know.
     pub fn pass_to(&mut self, slot: u8)
         requires look { IsLook (next self.old) }
         requires within { slot ≤ SLOTS }

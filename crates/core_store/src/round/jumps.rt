@@ -8,7 +8,7 @@ use green_walk::Found;
 
 impl<const SLOTS: usize> Round<SLOTS> {
     /// Goes on to this slot of the object of the round or of the condemned object that is looked at, or behind the object
-    /// where it has no such slot. At no slot before it was there anything to do.
+    /// where it has no such slot. That the slots gone over gave nothing to do is for the caller to know.
     pub(crate) fn look_to(&mut self, slot: u8)
         requires look { IsSlotLook (asked self.old.view) }
         requires within { slot ≤ SLOTS }
@@ -37,7 +37,7 @@ impl<const SLOTS: usize> Round<SLOTS> {
         }
     }
 
-    /// The test goes on to this slot: no slot before it holds a strong pointer.
+    /// The test goes on to this slot. That no slot gone over holds a strong pointer is for the caller to know.
     pub(crate) fn test_to(&mut self, slot: u8)
         requires at { (id : ℕ) × (at : ℕ) × (asked self.old.view ≡ RoundAt.Test id at) }
         requires within { slot ≤ SLOTS }
@@ -47,8 +47,8 @@ impl<const SLOTS: usize> Round<SLOTS> {
         self.green.test_to(slot);
     }
 
-    /// The walk of green objects goes on to this slot of the object, or behind the object where it has no such slot. At no
-    /// slot before it was there anything to do.
+    /// The walk of green objects goes on to this slot of the object, or behind the object where it has no such slot. That the
+    /// slots gone over gave nothing to do is for the caller to know.
     pub(crate) fn walk_to(&mut self, slot: u8)
         requires at { (id : ℕ) × (at : ℕ) × (asked self.old.view ≡ RoundAt.Out id at) }
         requires within { slot ≤ SLOTS }

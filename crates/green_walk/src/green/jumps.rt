@@ -6,7 +6,7 @@ use super::{Green, Stage};
 use crate::green_at::Test;
 
 impl<const SLOTS: usize> Green<SLOTS> {
-    /// The test goes on to this slot: no slot before it holds a strong pointer.
+    /// The test goes on to this slot. That no slot gone over holds a strong pointer is for the caller to know.
     pub fn test_to(&mut self, slot: u8)
         requires { slot ≤ SLOTS }
         ensures tested { self.new ≡ tested_to self.old slot }
@@ -18,7 +18,7 @@ impl<const SLOTS: usize> Green<SLOTS> {
     }
 
     /// The walk of green objects goes on to this slot of the object that it is at, or to the next object where it has no
-    /// such slot: at no slot before it was there anything to do.
+    /// such slot. That the slots gone over gave nothing to do is for the caller to know.
     pub fn walk_to(&mut self, slot: u8)
         requires { slot ≤ SLOTS }
         ensures walked { self.new ≡ walked_to self.old slot }
