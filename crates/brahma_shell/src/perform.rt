@@ -24,6 +24,7 @@ pub(crate) struct Answer {
 }
 
 /// Does one call, and tells the reply.
+#[inline(always)]
 fn reply_to<D: Disk>(store: &mut Store<D>, client: u8, call: &Call) -> Result<Reply, Stop>
     requires client { IsClient client }
     requires in_range { IsInRange 6 call.now }

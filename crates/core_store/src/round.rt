@@ -51,6 +51,7 @@ fn next_of_test<const SLOTS: usize>(test: Test) -> Option<RoundAt>
 }
 
 /// What the green walk asks for next.
+#[inline(always)]
 fn asked_by_green<const SLOTS: usize>(green: &Green<SLOTS>) -> RoundAt
     requires size { IsSlotCount SLOTS }
     requires slots { green.now.slots ≡ SLOTS }
@@ -163,6 +164,7 @@ impl<const SLOTS: usize> Round<SLOTS> {
     }
 
     /// How much work is left: 0 exactly where no round is open. Each look and each event of the round lowers it.
+    #[inline(always)]
     pub(crate) fn left(&self) -> u64
         ensures { result ≡ left_of SLOTS self.now.view }
     {

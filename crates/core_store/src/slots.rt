@@ -107,6 +107,7 @@ fn raise<const SLOTS: usize>(held: &mut Three<SLOTS>, zeros: &mut Vec<bool>, tar
 }
 
 /// The target counts one pointer with the other bit in place of one with this bit.
+#[inline(always)]
 fn turn<const SLOTS: usize>(held: &mut Three<SLOTS>, zeros: &mut Vec<bool>, target: u32, bit: bool)
     requires size { IsSlotCount SLOTS }
     requires some { IsReadyToLose held.old zeros.old.items target bit }
@@ -260,6 +261,7 @@ pub(crate) fn restore<const SLOTS: usize>(
 }
 
 /// Makes the slot's strong pointer weak, and gives its target.
+#[inline(always)]
 pub(crate) fn weaken<const SLOTS: usize>(
     held: &mut Three<SLOTS>,
     zeros: &mut Vec<bool>,

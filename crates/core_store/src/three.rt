@@ -305,6 +305,7 @@ impl<const SLOTS: usize> Three<SLOTS> {
     }
 
     /// Lays a pointer in a slot of the cell of an id whose page is held: the id that it names, or 0 for null, and its bit.
+    #[inline(always)]
     pub(crate) fn set_pointer(&mut self, id: u32, slot: u8, target: u32, bit: bool)
         requires size { IsSlotCount SLOTS }
         requires above { (0 < id) × (id < 65536) }

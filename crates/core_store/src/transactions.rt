@@ -194,6 +194,7 @@ pub(crate) fn load(transactions: &mut Transactions, pass: u8, r: u8, value: Opti
 }
 
 /// Notes what one write more of the client replaced. Out of memory is its only error, and changes nothing.
+#[inline(always)]
 pub(crate) fn note(transactions: &mut Transactions, pass: u8, replaced: Write) -> Result<(), Memory>
     ensures ok { OnOk result (transactions.new.entries ≡ changed_at pass (writing replaced) transactions.old.entries) }
     ensures err { OnErr result (transactions.new.entries ≡ transactions.old.entries) }

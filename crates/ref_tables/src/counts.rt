@@ -61,6 +61,7 @@ impl Counts {
     }
 
     /// Counts an entry more with the target, for which there is room.
+    #[inline(always)]
     pub(crate) fn add(&mut self, target: u32)
         requires small { count_of self.old target + 1 < 2 ^ 128 }
         requires room { 0 < room_in self.old }

@@ -49,6 +49,7 @@ pub(crate) fn reserve(
 }
 
 /// Appends the entry to the client's, and takes memory only where there is no room for it.
+#[inline(always)]
 pub(crate) fn add(
     lists: &mut Vec<Vec<TempRef>>,
     alloc: Global,

@@ -25,6 +25,7 @@ pub enum Found {
 }
 
 /// Where the first line feed is.
+#[inline(always)]
 fn first_line_feed(bytes: &[u8]) -> Option<usize>
     ensures { result ≡ position (λ b. b == line_feed) bytes.now }
 {
@@ -168,6 +169,7 @@ impl LineReader {
     }
 
     /// Finds the next line.
+    #[inline(always)]
     pub fn advance<R: Source>(&mut self, source: &mut R) -> Result<Found, ReadFailed>
         ensures found { IfOk result (λ found.
             Finds found (prepend_known (pending self.old) (R.left source.old))

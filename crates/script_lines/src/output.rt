@@ -285,6 +285,7 @@ pub fn crash_line(alloc: Global, ids: &[u32]) -> Result<String, Memory>
 }
 
 /// Writes the whole piece, or a front of it where the sink fails.
+#[inline(always)]
 pub fn write_all<W: Sink>(out: &mut W, piece: &[u8]) -> Result<(), WriteFailed>
     ensures ok { OnOk result (Appends (W.written out.old) (W.written out.new) piece.now) }
     ensures front { AppendsFront (W.written out.old) (W.written out.new) piece.now }

@@ -134,6 +134,7 @@ impl LockTable {
 
     /// The client that `own`, where `alone` is true, or `share` would name in `Busy`, and `None`
     /// exactly where that lock would be granted.
+    #[inline(always)]
     pub fn blocks(&self, pass: u8, id: u32, alone: bool) -> Option<u8>
         ensures { IsLeastOrNone (StandsInWay alone (holders_of self.now id) pass) result }
     {
