@@ -1,5 +1,6 @@
 -- A page in which one cell changes, as the laws of a store see it.
 use Rattle.std.proofs.Common.{◌≡◌, ℕ, ◌+◌, ◌<◌, true, false, List, length, map, get_or, set, sym, ap, ◌∙◌, subst, arith}
+use Rattle.std.proofs.Math.Seq.{map-set_same}
 use Rattle.std.proofs.lemmas.List.{length-set, map-set, get_or-map, get_or-set_same}
 use Rattle.cell_model.specs.Cells.{Cell as StoredCell, blank_cell}
 use Rattle.cell_page.specs.declared.cell.Cell.{Cell}
@@ -21,6 +22,10 @@ module _ {slots : ℕ} (cells now : List (Cell slots)) (id : ℕ) (d new : Cell 
       map-set cell_of cells (place_of id) new
       ∙ (ap (λ (c : StoredCell). set (map cell_of cells) (place_of id) c) (model ∙ ap f (sym found))
       ∙ ap (λ (cs : List (Cell slots)). edit_stored (map cell_of cs) id f) view)
+
+  -- of each cell stays what stays of the one that is changed
+  pub edited-others : (f : Cell slots → Cell slots) → f new ≡ f (get_or cells (place_of id) d) → map f (set cells (place_of id) new) ≡ map f now
+  edited-others f same = map-set_same f cells (place_of id) new d same ∙ ap (λ (cs : List (Cell slots)). map f cs) view
 
   -- and stands there then
   pub edited-at : cell_of new ≡ stored_at (map cell_of (set cells (place_of id) new)) id

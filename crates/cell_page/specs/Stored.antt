@@ -1,5 +1,5 @@
 -- Cells and pages as the laws of a store see them: each slot beside its pointer bit.
-use Rattle.std.specs.Prelude.{◌≡◌, ℕ, ◌+◌, ◌==◌, true, false, if◌then◌else◌, List, [], ◌∷◌, map, take, drop, replicate, slice_index_or, slice_set}
+use Rattle.std.specs.Prelude.{◌≡◌, ℕ, ◌+◌, ◌/◌, ◌^◌, ◌==◌, true, false, if◌then◌else◌, List, [], ◌∷◌, map, take, drop, replicate, slice_index_or, slice_set}
 use Rattle.std.specs.Int.{bit_at}
 use Rattle.cell_model.specs.Cells.{Pointer, Cell as StoredCell, blank_cell}
 use Rattle.cell_page.specs.declared.cell.Cell.{Cell}
@@ -37,3 +37,11 @@ stored_at cells id = slice_index_or cells (place_of id) (blank_cell false 0)
 -- the cells of a page where f is applied to that of the id
 abbrev pub edit_stored : List StoredCell → ℕ → (StoredCell → StoredCell) → List StoredCell
 edit_stored cells id f = slice_set cells (place_of id) (f (stored_at cells id))
+
+-- the cell but for its counts
+abbrev pub without_counts : {slots : ℕ} → Cell slots → Cell slots
+without_counts c = record c { strong = 0; weak = 0 }
+
+-- the cell but for its pointers: of the pointer bits there stay those of no slot
+abbrev pub without_pointers : {slots : ℕ} → Cell slots → Cell slots
+without_pointers {slots} c = record c { bits = c.bits / 2 ^ slots; slots = [] }

@@ -1,6 +1,6 @@
 //! The cell, which holds an object of the store or is free.
 
-ghost use Rattle.std.specs.Prelude.{◌≡◌, ◌≢◌, ◌+◌, ◌<◌, ◌^◌, ◌==◌, ℕ, true, false, not, slice_set};
+ghost use Rattle.std.specs.Prelude.{◌≡◌, ◌≢◌, ◌+◌, ◌/◌, ◌<◌, ◌^◌, ◌==◌, ℕ, true, false, not, slice_set};
 ghost use Rattle.std.specs.Int.{bit_at};
 ghost use Rattle.cell_model.specs.Cells.{blank_cell, same, relink, pointer_in, gains, loses, counted};
 ghost use Rattle.cell_page.specs.Format.{IsSlotCount, IsCell, IsTyped, free_cell, fresh_cell};
@@ -127,6 +127,9 @@ impl<const SLOTS: usize> Cell<SLOTS> {
         requires within { slot < SLOTS }
         ensures model { cell_of self.new ≡ relink slot (record { target = target; bit = bit }) (cell_of self.old) }
         ensures others { self.new ≡ record self.old { bits = self.new.bits; slots = slice_set self.old.slots slot target } }
+
+        // The bits of no slot stay.
+        ensures rest { self.new.bits / 2 ^ SLOTS ≡ self.old.bits / 2 ^ SLOTS }
         ensures typed { IsTyped self.old → IsTyped self.new }
 
         // An object goes on to obey the rules, where null has the bit 0.
@@ -148,6 +151,7 @@ impl<const SLOTS: usize> Cell<SLOTS> {
         requires room { counted bit (cell_of self.old) + 1 < 2 ^ 32 }
         ensures zero { result ≡ ((cell_of self.new).strong == 0) }
         ensures model { cell_of self.new ≡ gains bit (cell_of self.old) }
+        ensures others { self.new ≡ record self.old { strong = self.new.strong; weak = self.new.weak } }
         ensures typed { IsTyped self.old → IsTyped self.new }
         ensures rules { (id : ℕ) → IsCell id self.old → self.old.live ≡ true → IsCell id self.new }
     {
@@ -165,6 +169,7 @@ impl<const SLOTS: usize> Cell<SLOTS> {
         ensures strong { result.strong ≡ same self.old.bit bit }
         ensures zero { result.none_left ≡ ((cell_of self.new).strong == 0) }
         ensures model { cell_of self.new ≡ loses bit (cell_of self.old) }
+        ensures others { self.new ≡ record self.old { strong = self.new.strong; weak = self.new.weak } }
         ensures typed { IsTyped self.old → IsTyped self.new }
         ensures rules { (id : ℕ) → IsCell id self.old → self.old.live ≡ true → IsCell id self.new }
     {
@@ -187,6 +192,7 @@ impl<const SLOTS: usize> Cell<SLOTS> {
         requires room { counted (not bit) (cell_of self.old) + 1 < 2 ^ 32 }
         ensures zero { result ≡ ((cell_of self.new).strong == 0) }
         ensures model { cell_of self.new ≡ gains (not bit) (loses bit (cell_of self.old)) }
+        ensures others { self.new ≡ record self.old { strong = self.new.strong; weak = self.new.weak } }
         ensures typed { IsTyped self.old → IsTyped self.new }
         ensures rules { (id : ℕ) → IsCell id self.old → self.old.live ≡ true → IsCell id self.new }
     {
@@ -200,6 +206,7 @@ fn with_bit(bits: u16, place: u8, bit: bool) -> u16
     requires { place < 16 }
     ensures here { (bit_at result place == 1) ≡ bit }
     ensures others { (k : ℕ) → k < 16 → k ≢ place → bit_at result k ≡ bit_at bits k }
+    ensures above { (width : ℕ) → place < width → result / 2 ^ width ≡ bits / 2 ^ width }
     ensures bounded { (width : ℕ) → place < width → bits < 2 ^ width → result < 2 ^ width }
 {
     let mask = 1 << place;

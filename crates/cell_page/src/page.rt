@@ -3,7 +3,7 @@
 ghost use Rattle.std.specs.Prelude.{◌≡◌, ◌+◌, ◌-◌, ◌*◌, ◌%◌, ◌^◌, ◌<◌, ◌≤◌, ◌==◌, ℕ, true, false, not, length, map, slice_index_or, slice_set};
 ghost use Rattle.cell_model.specs.Cells.{same, relink, gains, loses, counted};
 ghost use Rattle.cell_page.specs.Format.{IsSlotCount, IsCell, IsPage, AreTyped, fresh_page, place_of, HasId};
-ghost use Rattle.cell_page.specs.Stored.{cell_of, fresh_cells, stored_at, edit_stored};
+ghost use Rattle.cell_page.specs.Stored.{cell_of, fresh_cells, stored_at, edit_stored, without_counts, without_pointers};
 
 use crate::cell::{Cell, Lost};
 use crate::layout::{CELLS_OF_PAGE, first_id};
@@ -94,6 +94,9 @@ impl<const SLOTS: usize> Page<SLOTS> {
         requires within { slot < SLOTS }
         ensures model { map cell_of self.new ≡ edit_stored (map cell_of self.old) id (relink slot (record { target = target; bit = bit })) }
 
+        // Each cell keeps all but its pointers, its id too.
+        ensures others { map without_pointers self.new ≡ map without_pointers self.old }
+
         // A page goes on to obey the rules, where the cell is an object's and null has the bit 0.
         ensures rules { (page : ℕ) → IsPage page self.old → (stored_at (map cell_of self.old) id).live ≡ true → (target ≡ 0 → bit ≡ false) → IsPage page self.new }
     {
@@ -106,6 +109,11 @@ impl<const SLOTS: usize> Page<SLOTS> {
         requires room { counted bit (stored_at (map cell_of self.old) id) + 1 < 2 ^ 32 }
         ensures zero { result ≡ ((stored_at (map cell_of self.new) id).strong == 0) }
         ensures model { map cell_of self.new ≡ edit_stored (map cell_of self.old) id (gains bit) }
+
+        // Each cell keeps all but its counts, its id too.
+        ensures others { map without_counts self.new ≡ map without_counts self.old }
+
+        // A page goes on to obey the rules, where the cell is an object's.
         ensures rules { (page : ℕ) → IsPage page self.old → (stored_at (map cell_of self.old) id).live ≡ true → IsPage page self.new }
     {
         self.cells[(id - 1) as usize % CELLS_OF_PAGE].gain(bit)
@@ -118,6 +126,11 @@ impl<const SLOTS: usize> Page<SLOTS> {
         ensures strong { result.strong ≡ same (stored_at (map cell_of self.old) id).bit bit }
         ensures zero { result.none_left ≡ ((stored_at (map cell_of self.new) id).strong == 0) }
         ensures model { map cell_of self.new ≡ edit_stored (map cell_of self.old) id (loses bit) }
+
+        // Each cell keeps all but its counts, its id too.
+        ensures others { map without_counts self.new ≡ map without_counts self.old }
+
+        // A page goes on to obey the rules, where the cell is an object's.
         ensures rules { (page : ℕ) → IsPage page self.old → (stored_at (map cell_of self.old) id).live ≡ true → IsPage page self.new }
     {
         self.cells[(id - 1) as usize % CELLS_OF_PAGE].lose(bit)
@@ -131,6 +144,11 @@ impl<const SLOTS: usize> Page<SLOTS> {
         requires room { counted (not bit) (stored_at (map cell_of self.old) id) + 1 < 2 ^ 32 }
         ensures zero { result ≡ ((stored_at (map cell_of self.new) id).strong == 0) }
         ensures model { map cell_of self.new ≡ edit_stored (map cell_of self.old) id (λ c. gains (not bit) (loses bit c)) }
+
+        // Each cell keeps all but its counts, its id too.
+        ensures others { map without_counts self.new ≡ map without_counts self.old }
+
+        // A page goes on to obey the rules, where the cell is an object's.
         ensures rules { (page : ℕ) → IsPage page self.old → (stored_at (map cell_of self.old) id).live ≡ true → IsPage page self.new }
     {
         self.cells[(id - 1) as usize % CELLS_OF_PAGE].turn(bit)

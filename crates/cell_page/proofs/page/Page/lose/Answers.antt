@@ -1,7 +1,9 @@
 use Rattle.std.proofs.Common.{ap, ◌∙◌}
 use Rattle.std.specs.Prelude.{◌==◌}
 use Rattle.cell_model.specs.Cells.{Cell as StoredCell, loses}
-use Rattle.cell_page.proofs.PageEdits.{edited, edited-at, edited-rules}
+use Rattle.cell_page.specs.declared.cell.Cell.{Cell}
+use Rattle.cell_page.specs.Stored.{without_counts}
+use Rattle.cell_page.proofs.PageEdits.{edited, edited-others, edited-at, edited-rules}
 use Rattle.cell_page.proofs.page.Page.lose.Goals as goal
 
 pub returns-clause-zero : goal.returns-clause-zero
@@ -11,6 +13,10 @@ returns-clause-zero g c =
 pub returns-clause-model : goal.returns-clause-model
 returns-clause-model g c =
     edited c.self.inside.cells c.args.self.now c.args.id c.index-self-id.result c.lose.new.self c.self.view_is c.self.invariant.0 (loses c.args.bit) c.lose.ensures.model
+
+pub returns-clause-others : goal.returns-clause-others
+returns-clause-others g c =
+    edited-others c.self.inside.cells c.args.self.now c.args.id c.index-self-id.result c.lose.new.self c.self.view_is c.self.invariant.0 (λ s. without_counts s) (ap (λ (s : Cell g.row.SLOTS). without_counts s) c.lose.ensures.others)
 
 pub returns-clause-rules : goal.returns-clause-rules
 returns-clause-rules g c =

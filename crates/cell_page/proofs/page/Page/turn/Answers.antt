@@ -1,7 +1,9 @@
 use Rattle.std.proofs.Common.{ap, ◌∙◌, not}
 use Rattle.std.specs.Prelude.{◌==◌}
 use Rattle.cell_model.specs.Cells.{Cell as StoredCell, gains, loses}
-use Rattle.cell_page.proofs.PageEdits.{edited, edited-at, edited-rules}
+use Rattle.cell_page.specs.declared.cell.Cell.{Cell}
+use Rattle.cell_page.specs.Stored.{without_counts}
+use Rattle.cell_page.proofs.PageEdits.{edited, edited-others, edited-at, edited-rules}
 use Rattle.cell_page.proofs.page.Page.turn.Goals as goal
 
 pub returns-clause-zero : goal.returns-clause-zero
@@ -11,6 +13,10 @@ returns-clause-zero g c =
 pub returns-clause-model : goal.returns-clause-model
 returns-clause-model g c =
     edited c.self.inside.cells c.args.self.now c.args.id c.index-self-id.result c.turn.new.self c.self.view_is c.self.invariant.0 (λ s. gains (not c.args.bit) (loses c.args.bit s)) c.turn.ensures.model
+
+pub returns-clause-others : goal.returns-clause-others
+returns-clause-others g c =
+    edited-others c.self.inside.cells c.args.self.now c.args.id c.index-self-id.result c.turn.new.self c.self.view_is c.self.invariant.0 (λ s. without_counts s) (ap (λ (s : Cell g.row.SLOTS). without_counts s) c.turn.ensures.others)
 
 pub returns-clause-rules : goal.returns-clause-rules
 returns-clause-rules g c =
