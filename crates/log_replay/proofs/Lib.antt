@@ -3,6 +3,7 @@ mod WriteLists
 mod StepLaws
 mod TakenLaws
 mod UnendedMaps
+mod RowLaws
 mod PlacedLaws
 mod Rooms
 mod FinishLaws

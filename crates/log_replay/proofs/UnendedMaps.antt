@@ -9,16 +9,16 @@ use Rattle.restart_laws.specs.Unended.{Unended, unended_at}
 same_or_apart : (p q : ℕ) → (p ≡ q) ⊎ (p ≢ q)
 same_or_apart p q = grind (arith, nat_tests)
 
-at_here : (p : ℕ) (e : ℕ × Unended) (es : List (ℕ × Unended)) → p ≡ e.0 → unended_at (e ∷ es) p ≡ Some e.1
+pub at_here : (p : ℕ) (e : ℕ × Unended) (es : List (ℕ × Unended)) → p ≡ e.0 → unended_at (e ∷ es) p ≡ Some e.1
 at_here p e es h = grind (arith, nat_tests)
 
-at_next : (p : ℕ) (e : ℕ × Unended) (es : List (ℕ × Unended)) → p ≢ e.0 → unended_at (e ∷ es) p ≡ unended_at es p
+pub at_next : (p : ℕ) (e : ℕ × Unended) (es : List (ℕ × Unended)) → p ≢ e.0 → unended_at (e ∷ es) p ≡ unended_at es p
 at_next p e es h = grind (arith, nat_tests)
 
-set_here : (p : ℕ) (t : Unended) (e : ℕ × Unended) (es : List (ℕ × Unended)) → p ≡ e.0 → set_value (is_at (nat_cmp p)) (e ∷ es) t ≡ (e.0, t) ∷ es
+pub set_here : (p : ℕ) (t : Unended) (e : ℕ × Unended) (es : List (ℕ × Unended)) → p ≡ e.0 → set_value (is_at (nat_cmp p)) (e ∷ es) t ≡ (e.0, t) ∷ es
 set_here p t e es h = grind (arith, nat_tests)
 
-set_next : (p : ℕ) (t : Unended) (e : ℕ × Unended) (es : List (ℕ × Unended)) → p ≢ e.0 → set_value (is_at (nat_cmp p)) (e ∷ es) t ≡ e ∷ set_value (is_at (nat_cmp p)) es t
+pub set_next : (p : ℕ) (t : Unended) (e : ℕ × Unended) (es : List (ℕ × Unended)) → p ≢ e.0 → set_value (is_at (nat_cmp p)) (e ∷ es) t ≡ e ∷ set_value (is_at (nat_cmp p)) es t
 set_next p t e es h = grind (arith, nat_tests)
 
 -- the value that is there is set

@@ -3,3 +3,5 @@ pub mod Placed
 pub mod Replays
 pub mod Steps
 pub mod Finishes
+pub mod Rows
+pub mod Lends

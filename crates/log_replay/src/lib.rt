@@ -12,6 +12,7 @@ mod pages;
 mod refusals;
 mod replay;
 mod transaction;
+mod transactions;
 mod undo;
 mod unended;
 

@@ -14,15 +14,14 @@ ghost use Rattle.log_replay.specs.Replays.{IsReplaying, IsWithin, is_skipped, No
 ghost use Rattle.log_replay.specs.Steps.{FitsCell, changed_in, effect_at, with_cells_after, taken_of_cells, taken_image};
 ghost use Rattle.log_replay.specs.declared.refusals.TakeRefusal.TheVariants.{Unfit};
 
-use crate::cell_steps;
 use crate::concerned::concerned;
 use crate::pages::Pages;
 use crate::refusals::TakeRefusal;
-use crate::unended::{self, UnendedMap};
+use crate::transactions::Transactions;
+use crate::{cell_steps, unended};
 use cell_page::{CELLS_OF_PAGE, Page, page_of};
 use log_record::{CellRecord, Record};
 use std::alloc::Global;
-use std::collections::BTreeMap;
 use std::marker::Model;
 
 /// What the records of a log make of the pages of a store, record by record.
@@ -32,7 +31,7 @@ pub struct Replay<const SLOTS: usize> {
     pub(crate) pages: Pages<SLOTS>,
     /// For each page, how many images of it are still to come.
     pub(crate) skip: Vec<u32>,
-    pub(crate) unended: UnendedMap,
+    pub(crate) unended: Transactions,
 }
 
 /// Contracts see the cells, the transactions that haven't ended, and how many images of each page are still to come.
@@ -58,7 +57,7 @@ impl<const SLOTS: usize> Replay<SLOTS> {
             alloc,
             pages: Pages::new(pages),
             skip,
-            unended: BTreeMap::new(alloc),
+            unended: Transactions::new(alloc),
         }
     }
 

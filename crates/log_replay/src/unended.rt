@@ -12,13 +12,10 @@ ghost use Rattle.log_replay.specs.declared.refusals.TakeRefusal.TheVariants.{Unf
 
 use crate::refusals::TakeRefusal;
 use crate::transaction::{Transaction, Write};
+use crate::transactions::Transactions;
 use log_record::{CellRecord, PAYLOAD_PLACE, PayloadChange};
 use plain_model::Place;
 use std::alloc::Global;
-use std::collections::BTreeMap;
-
-/// The clients whose transactions haven't ended, each with its transaction.
-pub(crate) type UnendedMap = BTreeMap<u8, Transaction>;
 
 /// The place that an undo names by this byte.
 fn place_of(place: u8) -> Place
@@ -32,41 +29,41 @@ fn place_of(place: u8) -> Place
 }
 
 /// Whether the client has a transaction, no write of which was undone.
-fn is_running(unended: &UnendedMap, pass: u8) -> bool
+fn is_running(unended: &Transactions, pass: u8) -> bool
     ensures { (result ≡ true) ↔ IsRunning (unended_at unended.now.entries pass) }
 {
-    match unended.get(&pass) {
+    match unended.get(pass) {
         Some(transaction) => !transaction.is_aborting(),
         None => false,
     }
 }
 
 /// Whether the client has a transaction whose last write that isn't undone is this one.
-fn is_last(unended: &UnendedMap, pass: u8, write: &Write) -> bool
+fn is_last(unended: &Transactions, pass: u8, write: &Write) -> bool
     ensures { (result ≡ true) ↔ IsLastChange (unended_at unended.now.entries pass) (change_by write.now) }
 {
-    match unended.get(&pass) {
+    match unended.get(pass) {
         Some(transaction) => transaction.is_last(write),
         None => false,
     }
 }
 
 /// Whether the client has a transaction whose writes are all undone.
-fn is_all_undone(unended: &UnendedMap, pass: u8) -> bool
+fn is_all_undone(unended: &Transactions, pass: u8) -> bool
     ensures { (result ≡ true) ↔ IsAllUndone (unended_at unended.now.entries pass) }
 {
-    match unended.get(&pass) {
+    match unended.get(pass) {
         Some(transaction) => transaction.is_all_undone(),
         None => false,
     }
 }
 
 /// Whether the record fits the transactions that haven't ended.
-fn fits(unended: &UnendedMap, r: &CellRecord) -> bool
+fn fits(unended: &Transactions, r: &CellRecord) -> bool
     ensures { (result ≡ true) ↔ FitsUnended unended.now.entries (record_of r.now) }
 {
     match *r {
-        CellRecord::Begin { pass } => unended.get(&pass).is_none(),
+        CellRecord::Begin { pass } => unended.get(pass).is_none(),
         CellRecord::Make { pass, .. }
         | CellRecord::Store { pass, .. }
         | CellRecord::Pay { pass, .. }
@@ -94,51 +91,51 @@ fn fits(unended: &UnendedMap, r: &CellRecord) -> bool
 
 /// The client's transaction wrote once more. An error changes nothing.
 #[inline(always)]
-fn note(unended: &mut UnendedMap, pass: u8, write: Write) -> Result<(), TakeRefusal>
+fn note(unended: &mut Transactions, pass: u8, write: Write) -> Result<(), TakeRefusal>
     ensures ok { OnOk result (unended.new.entries ≡ changed_at unended.old.entries pass (with_change (change_by write))) }
     ensures err { OnErr result (unended.new.entries ≡ unended.old.entries) }
 
     // `Unfit` is the answer exactly where the client has no transaction, or one of which a write was undone.
     ensures unfit { (result ≢ Err Unfit) ↔ IsRunning (unended_at unended.old.entries pass) }
 {
-    match unended.get_mut(&pass) {
+    match unended.get_mut(pass) {
         Some(transaction) => transaction.note_if_running(write),
         None => Err(TakeRefusal::Unfit),
     }
 }
 
 /// The last write of the client's transaction is undone.
-fn undo(unended: &mut UnendedMap, pass: u8)
+fn undo(unended: &mut Transactions, pass: u8)
     ensures { unended.new.entries ≡ changed_at unended.old.entries pass without_change }
 {
-    if let Some(transaction) = unended.get_mut(&pass) {
+    if let Some(transaction) = unended.get_mut(pass) {
         transaction.undo();
     }
 }
 
 /// The transactions after a record that adds nothing to them.
-pub(crate) fn leave(unended: &mut UnendedMap, r: &CellRecord)
+pub(crate) fn leave(unended: &mut Transactions, r: &CellRecord)
     requires { NotesNothing r.now }
     ensures { unended.new.entries ≡ unended_after unended.old.entries (record_of r.now) }
 {
     match *r {
         CellRecord::Undo { pass, .. } => undo(unended, pass),
         CellRecord::Commit { pass } | CellRecord::AbortEnd { pass } => {
-            unended.remove(&pass);
+            unended.remove(pass);
         }
         _ => (),
     }
 }
 
 /// The client begins a transaction. An error changes nothing.
-fn begin(unended: &mut UnendedMap, alloc: Global, pass: u8) -> Result<(), TakeRefusal>
+fn begin(unended: &mut Transactions, alloc: Global, pass: u8) -> Result<(), TakeRefusal>
     ensures ok { OnOk result (unended.new.entries ≡ insert_entry nat_cmp unended.old.entries pass just_begun) }
     ensures err { OnErr result (unended.new.entries ≡ unended.old.entries) }
 
     // `Unfit` is the answer exactly where the client has a transaction already.
     ensures unfit { (result ≢ Err Unfit) ↔ (unended_at unended.old.entries pass ≡ None) }
 {
-    if unended.get(&pass).is_some() {
+    if unended.get(pass).is_some() {
         return Err(TakeRefusal::Unfit);
     }
     let Ok(begun) = Transaction::new(alloc) else {
@@ -153,7 +150,7 @@ fn begin(unended: &mut UnendedMap, alloc: Global, pass: u8) -> Result<(), TakeRe
 /// The transactions after the record. An error changes nothing.
 #[inline(always)]
 pub(crate) fn take(
-    unended: &mut UnendedMap,
+    unended: &mut Transactions,
     alloc: Global,
     r: &CellRecord,
 ) -> Result<(), TakeRefusal>
@@ -208,7 +205,7 @@ pub(crate) fn take(
 /// The transactions after a change of a payload. An error changes nothing.
 #[inline(always)]
 pub(crate) fn take_change(
-    unended: &mut UnendedMap,
+    unended: &mut Transactions,
     change: PayloadChange,
 ) -> Result<(), TakeRefusal>
     ensures ok { OnOk result (unended.new.entries ≡ unended_after unended.old.entries (record_of (change_record change))) }
@@ -227,10 +224,10 @@ pub(crate) fn take_change(
 }
 
 /// The first client whose transaction hasn't ended, and the last write of it that isn't undone.
-pub(crate) fn first(unended: &UnendedMap) -> Option<(u8, Option<Write>)>
+pub(crate) fn first(unended: &Transactions) -> Option<(u8, Option<Write>)>
     ensures some { IfSome result (λ p. IsFirst unended.now.entries p.0 p.1) }
     ensures none { IfNone result (unended.now.entries ≡ []) }
 {
-    let (pass, transaction) = unended.first_key_value()?;
-    Some((*pass, transaction.last()))
+    let (pass, transaction) = unended.first()?;
+    Some((pass, transaction.last()))
 }

@@ -1,4 +1,4 @@
-use Rattle.std.proofs.Common.{◌≡◌, sym, ap, ◌∙◌}
+use Rattle.std.proofs.Common.{◌≡◌, ap, sym, ◌∙◌}
 use Rattle.std.specs.Map.{set_value}
 use Rattle.std.specs.Ordering.{nat_cmp}
 use Rattle.std.specs.BTreeMap.{is_at}
@@ -11,5 +11,5 @@ returns-in-Some-clause-err c =
     let es = c.args.unended.now.entries in
     more_on_err c.note_if_running.result _ _
     (λ (same : c.note_if_running.new.self ≡ c.in-Some.transaction.now).
-    (c.get_mut.follows.holds c.note_if_running.new.self).0 ∙ (ap (λ (t : Unended). set_value (is_at (nat_cmp c.args.pass)) es t) same ∙ set-own c.args.pass c.in-Some.transaction.now es (sym c.in-Some.ensures.value)))
+    ap (λ (t : Unended). set_value (is_at (nat_cmp c.args.pass)) es t) same ∙ set-own c.args.pass c.in-Some.transaction.now es (sym c.in-Some.ensures.value))
     c.note_if_running.ensures.err
