@@ -83,12 +83,7 @@ impl<const SLOTS: usize, D: Disk> LoggedJournal<SLOTS, D> {
         match self.journal.apply(held, pass, call) {
             Reply::Memory => Reply::Memory,
             reply => {
-                append_last(
-                    &self.journal,
-                    &mut self.log,
-                    &mut self.spelling,
-                    &mut self.marks,
-                );
+                append_last(&self.journal, &mut self.log, &mut self.marks);
                 self.peak = self.peak.max(self.log.used() + self.journal.bytes_owed());
                 reply
             }
@@ -111,11 +106,7 @@ impl<const SLOTS: usize, D: Disk> LoggedJournal<SLOTS, D> {
         ensures later { D.faults self.old.disk ≤ D.faults self.new.disk }
         ensures moments { LeavesOnlyImages D.moment D.left_since self.old.disk self.new.disk (MayHave self.old pass) }
     {
-        append_record::<SLOTS>(
-            &mut self.log,
-            &mut self.spelling,
-            CellRecord::Commit { pass },
-        );
+        append_record::<SLOTS>(&mut self.log, &CellRecord::Commit { pass });
         if self.log.force(self.disk.as_mut()).is_err() {
             self.failed = Some(FailedCall {
                 commit: Some(pass),
@@ -207,12 +198,7 @@ impl<const SLOTS: usize, D: Disk> LoggedJournal<SLOTS, D> {
             });
         }
         let step = self.journal.abort_step(held, pass);
-        append_last(
-            &self.journal,
-            &mut self.log,
-            &mut self.spelling,
-            &mut self.marks,
-        );
+        append_last(&self.journal, &mut self.log, &mut self.marks);
         Ok(step)
     }
 }

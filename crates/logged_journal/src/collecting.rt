@@ -84,12 +84,7 @@ impl<const SLOTS: usize, D: Disk> LoggedJournal<SLOTS, D> {
         match self.journal.make_event(held, at) {
             Collect::Memory => Collect::Memory,
             step => {
-                append_last(
-                    &self.journal,
-                    &mut self.log,
-                    &mut self.spelling,
-                    &mut self.marks,
-                );
+                append_last(&self.journal, &mut self.log, &mut self.marks);
                 self.peak = self.peak.max(self.log.used() + self.journal.bytes_owed());
                 step
             }

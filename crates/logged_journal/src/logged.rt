@@ -54,7 +54,7 @@ pub struct LoggedJournal<const SLOTS: usize, D: Disk> {
     pub(crate) peak: u64,
     /// The disk's count of faults at the opening.
     pub(crate) opened: u64,
-    /// One record at a time is spelled here.
+    /// An image, or what a log begins with, is spelled here.
     pub(crate) spelling: Vec<u8>,
 }
 

@@ -13,7 +13,7 @@ use crate::typed::{know_cell_record, know_page};
 use cell_page::Page;
 use core_store::{Frame, Journal};
 use gate_log::GateLog;
-use log_record::{CellRecord, Record};
+use log_record::{CellRecord, LONGEST_CELL_RECORD, Record};
 use page_marks::PageMarks;
 
 /// How many bytes the record of a page's image has: its kind, the number of the page, and the page.
@@ -25,33 +25,27 @@ pub(crate) fn image_len<const SLOTS: usize>() -> usize
 }
 
 /// Appends the record to the tail, in room that was taken for it. It takes no memory.
-pub(crate) fn append_record<const SLOTS: usize>(
-    log: &mut GateLog,
-    spelling: &mut Vec<u8>,
-    record: CellRecord,
-)
+pub(crate) fn append_record<const SLOTS: usize>(log: &mut GateLog, record: &CellRecord)
     requires count { IsSlotCount SLOTS }
-    requires spelled { HasCellSpelling SLOTS «record» }
+    requires spelled { HasCellSpelling SLOTS record.now }
     requires standing { log.old.stage ≡ Standing }
-    requires room { length (cell_record_bytes «record») ≤ log.old.room }
+    requires room { length (cell_record_bytes record.now) ≤ log.old.room }
     requires bounded { used log.old + 25 < 2 ^ 32 }
-    requires spelling { image_bytes SLOTS ≤ vec_capacity spelling.old }
-    ensures log { log.new ≡ appended log.old (cell_record_bytes «record») }
-    ensures spelling { image_bytes SLOTS ≤ vec_capacity spelling.new }
-    ensures typed { IsTypedCellRecord «record» }
+    ensures log { log.new ≡ appended log.old (cell_record_bytes record.now) }
+    ensures typed { IsTypedCellRecord record.now }
 {
-    know_cell_record(record);
-    spelling.clear();
-    let _ = record.write(spelling);
-    log.append_reserved(spelling);
+    know_cell_record(*record);
+    let mut spelling = [0; LONGEST_CELL_RECORD];
+    let length = record.spell(&mut spelling);
+    log.append_reserved(&spelling[..length]);
 }
 
 /// Appends the record of the last note, if it has one, in room that was taken for it, and marks the pages that it concerns. It
 /// takes no memory.
+#[inline(always)]
 pub(crate) fn append_last<const SLOTS: usize>(
     journal: &Journal<SLOTS>,
     log: &mut GateLog,
-    spelling: &mut Vec<u8>,
     marks: &mut PageMarks,
 )
     requires count { IsSlotCount SLOTS }
@@ -59,16 +53,14 @@ pub(crate) fn append_last<const SLOTS: usize>(
     requires standing { log.old.stage ≡ Standing }
     requires room { length (last_bytes journal.now.notes) ≤ log.old.room }
     requires bounded { used log.old + 25 < 2 ^ 32 }
-    requires spelling { image_bytes SLOTS ≤ vec_capacity spelling.old }
     ensures log { log.new ≡ appended log.old (last_bytes journal.now.notes) }
-    ensures spelling { image_bytes SLOTS ≤ vec_capacity spelling.new }
     ensures typed { IsLastTyped journal.now.notes }
     ensures marks { AreMarkedAfter SLOTS (last_logged journal.now.notes) marks.old marks.new }
 {
     if let Some(note) = journal.history().last() {
-        if let Some(record) = note.logged {
-            append_record::<SLOTS>(log, spelling, record);
-            marks.take(&record);
+        if let Some(record) = &note.logged {
+            append_record::<SLOTS>(log, record);
+            marks.take(record);
         }
     }
 }

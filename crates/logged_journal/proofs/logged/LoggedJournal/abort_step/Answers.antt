@@ -84,7 +84,7 @@ append_last-requires g c =
     let ids = ap (λ h. h.ids) (owes g d).entry ∙ c.self.invariant.kept.many in
     let room = stands.room in
     let bounded = stands.bounded in
-    (search rules, (c.self.invariant.size, (ids, (stands.stage, (omega (arith, owed, room), (omega (arith, bounded), c.self.invariant.spelling))))))
+    (search rules, (c.self.invariant.size, (ids, (stands.stage, (omega (arith, owed, room), omega (arith, bounded))))))
 
 pub invariant_of-self : goal.invariant_of-self
 invariant_of-self g c =
@@ -92,7 +92,7 @@ invariant_of-self g c =
     record {
       size = c.self.invariant.size;
       own = ap (λ h. h.slots) (owes g d).entry ∙ c.self.invariant.own;
-      spelling = c.append_last.ensures.spelling;
+      spelling = c.self.invariant.spelling;
       counted = c.self.invariant.counted;
       kept = subst (λ (log : LogState). IsKept g.D.Disk.may_leave (record (before g d) { journal = c.abort_step-step.new.self; log = log; marks = c.append_last.new.marks })) (sym c.append_last.ensures.log)
           (kept-stepped g.D.Disk.may_leave g.row.SLOTS (before g d) c.abort_step-step.new.self c.append_last.new.marks c.args.pass c.abort_step-step.result c.append_last.ensures.typed (stepped g d c.append_last.new.marks c.append_last.ensures.marks));

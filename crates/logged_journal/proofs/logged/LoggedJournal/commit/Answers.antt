@@ -87,7 +87,7 @@ invariant_of-self g c =
     record {
       size = c.self.invariant.size;
       own = c.self.invariant.own;
-      spelling = c.append_record.ensures.spelling;
+      spelling = c.self.invariant.spelling;
       counted = (
         let before = c.self.invariant.counted.0 in
             let value = ap g.D.Disk.faults c.as_mut.ensures.value in
@@ -249,7 +249,7 @@ invariant_of-self-2 g c =
     record {
       size = c.self.invariant.size;
       own = ap (λ h. h.slots) (c.apply-reply.ensures.entry (entered g c)) ∙ c.self.invariant.own;
-      spelling = c.append_record.ensures.spelling;
+      spelling = c.self.invariant.spelling;
       counted = (
         let before = c.self.invariant.counted.0 in
             let value = ap g.D.Disk.faults c.as_mut.ensures.value in

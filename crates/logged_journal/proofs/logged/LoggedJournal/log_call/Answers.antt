@@ -150,10 +150,7 @@ append_last-requires g c =
             ap (λ (l : LogState). l.stage) log ∙ stands.stage,
             (
               subst (λ (l : LogState). length (last_bytes c.apply.new.self.notes) ≤ l.room) (sym log) (called-room g.row.SLOTS (view_of c.self.inside) c.apply.new.self c.args.pass c.args.call.now c.apply.result is),
-              (
-                subst (λ (l : LogState). used l + 25 < 4294967296) (sym log) few,
-                c.self.invariant.spelling,
-              ),
+              subst (λ (l : LogState). used l + 25 < 4294967296) (sym log) few,
             ),
           ),
         ),
@@ -221,7 +218,7 @@ invariant_of-self-in_default g c =
     record {
       size = c.self.invariant.size;
       own = called-slots g.row.SLOTS c.self.inside.journal c.apply.new.self c.args.pass c.args.call.now c.apply.result (does g c) ∙ c.self.invariant.own;
-      spelling = c.append_last.ensures.spelling;
+      spelling = c.self.invariant.spelling;
       counted = c.self.invariant.counted;
       kept = subst (P c.append_last.new.log) (sym (peak-is g c))
           (subst (λ (l : LogState). P l (max c.self.inside.peak (used l + bytes_owed (end_of c.apply.new.self.history)))) (sym (log-is g c))

@@ -136,7 +136,7 @@ append_last-requires g c =
     let taken = room_taken g d in
     let bounded = stands.bounded in
     let ids = ap (λ h. h.ids) (makes-entry g d) ∙ c.self.invariant.kept.many in
-    (search rules, (c.self.invariant.size, (ids, (stage, (omega (arith, most, taken, place), (omega (arith, bounded, size), c.self.invariant.spelling))))))
+    (search rules, (c.self.invariant.size, (ids, (stage, (omega (arith, most, taken, place), omega (arith, bounded, size))))))
 
 pub overflow_add-used : goal.overflow_add-used
 overflow_add-used g c =
@@ -161,7 +161,7 @@ invariant_of-self-in_default g c =
     record {
       size = c.self.invariant.size;
       own = ap (λ h. h.slots) (makes-entry g d) ∙ c.self.invariant.own;
-      spelling = c.append_last.ensures.spelling;
+      spelling = c.self.invariant.spelling;
       counted = c.self.invariant.counted;
       kept = subst (λ (w : LoggedView g.row.D.Denot). IsKept g.D.Disk.may_leave w) (sym (after g d c.append_last.new.log c.append_last.new.marks c.max-self-inside.result c.append_last.ensures.log peak))
           (kept-collected g.D.Disk.may_leave g.row.SLOTS v c.make_event.new.self c.append_last.new.marks c.make_event.result (room g d) c.append_last.ensures.typed (collected_is g d c.append_last.new.marks c.append_last.ensures.marks));
