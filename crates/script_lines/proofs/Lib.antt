@@ -4,3 +4,4 @@ pub mod NumberLemmas
 pub mod LineLemmas
 pub mod ReadLemmas
 pub mod OutputLemmas
+pub mod VerbLemmas

@@ -5,9 +5,9 @@ ghost use Rattle.script_lines.specs.Numbers.{client_of};
 ghost use Rattle.script_lines.specs.Operands.{listed};
 ghost use Rattle.script_lines.specs.Grammar.{request_of, is_collector, collector_line, is_cleaner, clean_line, is_crash, crash_line, lone_line, line_of_party, is_comment, meaning_of, IsOfStore, IsAccepted, IsRefused, IsClient, IsLineInRange};
 
-use crate::fields::{Operands, next_field, next_short_field, operands_of};
+use crate::fields::{Operands, next_short_field, operands_of};
 use crate::numbers::{client_of, page_of, payload_of, pick_of, register_of, slot_of, source_of};
-use crate::verb::{Verb, verb_of};
+use crate::verb::{Verb, next_verb};
 use plain_model::Call;
 
 /// What a line of a script asks.
@@ -188,13 +188,13 @@ fn meaning_of(line: &[u8]) -> Option<Line>
     if is_comment(party) {
         return Some(Line::Nothing);
     }
-    let Some((verb, rest)) = next_field(rest) else {
+    let Some((word, verb, rest)) = next_verb(rest) else {
         return lone_line(party);
     };
     if let Some(client) = client_of(party) {
-        return request_of(client, verb_of(verb)?, operands_of(rest)?);
+        return request_of(client, verb?, operands_of(rest)?);
     }
-    line_of_store(party, verb, rest)
+    line_of_store(party, word, rest)
 }
 
 /// The most bytes that a line may have, without its end.
