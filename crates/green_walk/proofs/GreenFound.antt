@@ -95,11 +95,10 @@ module _ (slots limit : ℕ) (seeds : Ids) (done : ℕ) (live green : Ids) (at :
         live_limit = k.live_limit;
         green_limit = ap (λ (v : Ids). v.limit) e ∙ k.green_limit;
         copied_limit = k.copied_limit;
-        most = k.most;
         few = k.few;
         seeds_few = k.seeds_few;
         done_few = k.done_few;
-        way = (omega arith, within.1, λ c. n);
+        way = (omega arith, (λ e. let least = within.0 in omega (arith, least, e)), within.1, λ c. n);
         sound = subst (λ (v : Ids). IsGreening (greening_of slots limit seeds.ids done live.ids v.ids (stage.Into id 0 named) None walked changed current copied.slots)) (sym e) after;
       }
 
@@ -138,7 +137,6 @@ module _ (slots limit : ℕ) (seeds : Ids) (done : ℕ) (live green : Ids) (at :
         live_limit = k.live_limit;
         green_limit = l ∙ k.green_limit;
         copied_limit = k.copied_limit;
-        most = k.most;
         few = k.few;
         seeds_few = k.seeds_few;
         done_few = k.done_few;
@@ -171,7 +169,6 @@ module _ (slots limit : ℕ) (seeds : Ids) (done : ℕ) (live green : Ids) (at :
         live_limit = k.live_limit;
         green_limit = k.green_limit;
         copied_limit = k.copied_limit;
-        most = k.most;
         few = k.few;
         seeds_few = k.seeds_few;
         done_few = k.done_few;

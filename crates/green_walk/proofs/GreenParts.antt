@@ -29,7 +29,6 @@ module _ (slots limit : ℕ) (seeds : Ids) (done : ℕ) (live green : Ids) (at :
     live_limit = k.live_limit;
     green_limit = k.green_limit;
     copied_limit = k.copied_limit;
-    most = k.most;
     few = k.few;
     seeds_few = k.seeds_few;
     done_few = k.done_few;
@@ -51,7 +50,6 @@ module _ (slots limit : ℕ) (seeds : Ids) (done : ℕ) (live green : Ids) (plac
     live_limit = k.live_limit;
     green_limit = k.green_limit;
     copied_limit = k.copied_limit;
-    most = k.most;
     few = k.few;
     seeds_few = k.seeds_few;
     done_few = (let some = done-some in omega (arith, some));

@@ -48,16 +48,15 @@ start-greening slots limit seeds live current copied count l s among few within 
 
 -- what was taken over is in step
 pub start-in-step : (slots limit : ℕ) (j : Judged) (seeds live green : Ids) (copied : SlotList) (current : Bool)
-    → seeds.limit ≡ limit → live.limit ≡ limit → green.limit ≡ limit → copied.limit ≡ limit → copied.most ≡ limit * slots → limit < 65536
+    → seeds.limit ≡ limit → live.limit ≡ limit → green.limit ≡ limit → copied.limit ≡ limit → limit < 65536
     → seeds.ids ≡ j.seeds → live.ids ≡ j.live → green.ids ≡ [] → IsSlotCount slots → IsIdList j.live j.limit → IsIdList j.seeds j.limit → j.limit ≡ limit
     → ((id : ℕ) → Contains j.seeds id → Contains j.live id) → length copied.slots ≤ limit * slots → ((s : CopiedSlot) → Contains copied.slots s → s.slot < slots)
     → AreInStep slots limit seeds 0 live green stage.Seed None 0 false current copied
-start-in-step slots limit j seeds live green copied current sl ll gl cl most small s l g count lk sk same among few within = record {
+start-in-step slots limit j seeds live green copied current sl ll gl cl small s l g count lk sk same among few within = record {
   seeds_limit = sl;
   live_limit = ll;
   green_limit = gl;
   copied_limit = cl;
-  most = most;
   few = small;
   seeds_few = subst (λ (xs : List ℕ). length xs ≤ limit) (sym s) (subst (λ n. length j.seeds ≤ n) same sk.most);
   done_few = omega arith;

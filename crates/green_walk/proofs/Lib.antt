@@ -6,6 +6,8 @@ pub mod JudgedLaws
 pub mod SweepLaws
 pub mod LinkLaws
 pub mod CopiedLaws
+pub mod RowLaws
+pub mod CopiedInside
 pub mod TouchedLaws
 pub mod GreenWork
 pub mod GreenSteps

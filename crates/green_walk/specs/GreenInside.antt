@@ -1,5 +1,5 @@
 -- What a green walk is kept in.
-use Rattle.std.specs.Prelude.{◌≡◌, ℕ, ◌*◌, ◌<◌, ◌≤◌, Bool, true, List, length, drop, slice_index_or, Option}
+use Rattle.std.specs.Prelude.{◌≡◌, ◌≢◌, ℕ, ◌*◌, ◌<◌, ◌≤◌, Bool, true, List, length, drop, slice_index_or, Option}
 use Rattle.red_walk.specs.Ids.{Ids}
 use Rattle.green_walk.specs.declared.copied_slots.CopiedSlot.{CopiedSlot}
 use Rattle.green_walk.specs.declared.green_at.Test.{Test}
@@ -33,7 +33,7 @@ greening_of slots limit seeds done live green at test walked changed current cop
 
 -- while the copies are current, the way along the slots that name the flipped object is known
 abbrev pub IsOnWay : Bool → List CopiedSlot → ℕ → Stage → Type 0
-IsOnWay current copied limit (stage.Into flipped rest named) = (rest ≤ length copied) × (flipped ≤ limit) × (current ≡ true → IsNextNaming copied flipped rest named)
+IsOnWay current copied limit (stage.Into flipped rest named) = (rest ≤ length copied) × (flipped ≢ 0) × (flipped ≤ limit) × (current ≡ true → IsNextNaming copied flipped rest named)
 IsOnWay current copied limit _ = Unit {0}
 
 -- there is room for the same ids everywhere, and what holds of every green walk holds
@@ -42,7 +42,6 @@ pub record AreInStep (slots limit : ℕ) (seeds : Ids) (done : ℕ) (live green 
   pub live_limit : live.limit ≡ limit
   pub green_limit : green.limit ≡ limit
   pub copied_limit : copied.limit ≡ limit
-  pub most : copied.most ≡ limit * slots
   pub few : limit < 65536
   pub seeds_few : length seeds.ids ≤ limit
   pub done_few : done ≤ length seeds.ids

@@ -1,15 +1,14 @@
 //! The green walk.
-ghost use Rattle.std.specs.Prelude.{◌≡◌, ℕ, ◌+◌, ◌<◌, ◌≤◌, not, true, drop, nat_lt, length, slice_index_or, Contains, IfOk, IfSome, if◌then◌else◌};
+ghost use Rattle.std.specs.Prelude.{◌≡◌, ◌≢◌, ℕ, ◌+◌, ◌<◌, ◌≤◌, not, true, drop, nat_lt, length, slice_index_or, Contains, IfOk, IfSome, if◌then◌else◌};
 ghost use Rattle.cell_page.specs.Format.{IsSlotCount};
 ghost use Rattle.red_walk.specs.Ids.{IsIdList};
 ghost use Rattle.red_walk.specs.Walk.{IsWalk, next as next_of_red};
 ghost use Rattle.green_walk.specs.Greening.{GreenStage, AtSeed, AtInto, AtOut, IsGreening, IsAnswer, IsTestable, next, found, found_in, settled, settled_into, settled_out, idle, started, waits, walking, testing, tested, again, are_none, first_seed, asked_at, seed_done};
-ghost use Rattle.green_walk.specs.GreenInside.{IsHead, IsFirstWaiting, IsFirstWaitingTo};
-ghost use Rattle.green_walk.specs.Linked.{IsNextNaming, target_at};
+ghost use Rattle.green_walk.specs.Linked.{IsNextNaming};
 
 use crate::Memory;
 use crate::copied_slots::CopiedSlots;
-use crate::green_at::{GreenAt, Test};
+use crate::green_at::{GreenAt, Test, seed_after};
 use crate::sweep::Found;
 use crate::verdict::Verdict;
 use red_walk::{IdList, Red, RedAt};
@@ -60,7 +59,7 @@ pub struct Green<const SLOTS: usize> {
     changed: bool,
     /// Whether the copies still tell what the slots of the live objects hold.
     current: bool,
-    copied: CopiedSlots,
+    copied: CopiedSlots<SLOTS>,
 }
 
 impl<const SLOTS: usize> Model for Green<SLOTS> {
@@ -98,17 +97,6 @@ fn take_over(list: &mut IdList, ids: &[u32])
     }
 }
 
-/// The first seed behind so many that are done, or the end.
-fn seed_after(seeds: &[u32], done: usize) -> GreenAt
-    ensures { result ≡ first_seed (drop done seeds.now) }
-{
-    if done < seeds.len() {
-        GreenAt::Seed { id: seeds[done] }
-    } else {
-        GreenAt::End
-    }
-}
-
 impl<const SLOTS: usize> Green<SLOTS> {
     /// Nothing to walk, with room for the ids from 1 to `ids`. Out of memory is its only error.
     pub fn new(alloc: Global, ids: u32) -> Result<Green<SLOTS>, Memory>
@@ -128,7 +116,7 @@ impl<const SLOTS: usize> Green<SLOTS> {
             walked: 0,
             changed: false,
             current: false,
-            copied: CopiedSlots::new(alloc, ids, ids as usize * SLOTS)?,
+            copied: CopiedSlots::new(alloc, ids)?,
         })
     }
 
@@ -341,6 +329,7 @@ impl<const SLOTS: usize> Green<SLOTS> {
         requires at { self.old.stage ≡ AtInto flipped (drop rest self.old.copied) }
         requires settled { settled self.old ≡ self.old }
         requires within { rest ≤ length self.old.copied }
+        requires some { flipped ≢ 0 }
         requires small { flipped ≤ self.old.limit }
         requires way { self.old.current ≡ true → IsNextNaming self.old.copied flipped rest named }
         ensures found { (what : Found) → self.new ≡ found_in self.old (AtInto flipped (drop rest self.old.copied)) what }

@@ -1,4 +1,6 @@
 //! What the green walk asks for.
+ghost use Rattle.std.specs.Prelude.{◌≡◌, drop};
+ghost use Rattle.green_walk.specs.Greening.{first_seed};
 
 /// What the green walk asks for next.
 #[derive(Clone, Copy, PartialEq, Eq, Debug)]
@@ -37,4 +39,15 @@ pub struct Test {
     pub id: u32,
     /// The slot that is looked at next; where all slots were looked at, their number.
     pub slot: u8,
+}
+
+/// The first seed behind so many that are done, or the end.
+pub(crate) fn seed_after(seeds: &[u32], done: usize) -> GreenAt
+    ensures { result ≡ first_seed (drop done seeds.now) }
+{
+    if done < seeds.len() {
+        GreenAt::Seed { id: seeds[done] }
+    } else {
+        GreenAt::End
+    }
 }

@@ -12,7 +12,6 @@ invariant_of-self g c =
       live_limit = k.live_limit;
       green_limit = k.green_limit;
       copied_limit = k.copied_limit;
-      most = k.most;
       few = k.few;
       seeds_few = k.seeds_few;
       done_few = k.done_few;

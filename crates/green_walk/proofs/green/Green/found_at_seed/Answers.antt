@@ -1,4 +1,4 @@
-use Rattle.std.proofs.Common.{◌≤◌, sym, ◌∙◌, subst}
+use Rattle.std.proofs.Common.{rules, ◌≤◌, sym, ◌∙◌, subst, arith}
 use Rattle.green_walk.proofs.GreenFound.{made-seed-within, strong-seed-within, made-in-step}
 use Rattle.green_walk.proofs.green.Green.found_at_seed.Goals as goal
 
@@ -18,7 +18,7 @@ pub first_naming-requires : goal.first_naming-requires
 first_naming-requires g c =
     let k = c.self-in-Made.invariant in
     let w = made-seed-within _ _ _ _ _ _ _ _ _ _ _ _ k c.args.self.now c.args.what c.in-Made.id c.self-in-Made.view_is c.in-Made.is c.requires.answer in
-    subst (λ m. c.in-Made.id ≤ m) (sym k.copied_limit) w.1
+    (search rules, ((λ e. let least = w.0 in omega (arith, least, e)), subst (λ m. c.in-Made.id ≤ m) (sym k.copied_limit) w.1))
 
 pub invariant_of-self-in-Made : goal.invariant_of-self-in-Made
 invariant_of-self-in-Made g c =

@@ -1,4 +1,4 @@
-use Rattle.std.proofs.Common.{◌≡◌, ◌*◌, rules, sym, ap, ◌∙◌, arith}
+use Rattle.std.proofs.Common.{◌≡◌, ◌*◌, rules, lit<, sym, ap, ◌∙◌, arith}
 use Rattle.red_walk.specs.Ids.{Ids}
 use Rattle.green_walk.specs.Greening.{Greening}
 use Rattle.green_walk.specs.Linked.{SlotList}
@@ -9,7 +9,7 @@ pub start-requires : goal.start-requires
 start-requires g c =
     let here : c.self.inside.limit ≡ c.args.self.now.limit = ap (λ (v : Greening). v.limit) c.self.view_is in
     let same : c.self.inside.limit ≡ c.args.red.now.limit = here ∙ sym c.requires.limit in
-    (search rules, (c.self.invariant.copied_limit ∙ same, (all-copied g.row.SLOTS c.args.red.now c.is_touched.ensures.sound c.requires.at, (let most = c.self.invariant.most in let room = ap (λ n. n * g.row.SLOTS) same in omega (arith, most, room)))))
+    (search rules, (lit< tt, (c.self.invariant.copied_limit ∙ same, all-copied g.row.SLOTS c.args.red.now c.is_touched.ensures.sound c.requires.at)))
 
 pub invariant_of-self : goal.invariant_of-self
 invariant_of-self g c =
@@ -21,7 +21,6 @@ invariant_of-self g c =
     (ap (λ (i : Ids). i.limit) c.take_over-2.ensures ∙ k.live_limit)
     (ap (λ (i : Ids). i.limit) c.clear.ensures.empty ∙ k.green_limit)
     (ap (λ (s : SlotList). s.limit) c.start.ensures.slots ∙ k.copied_limit)
-    (ap (λ (s : SlotList). s.most) c.start.ensures.slots ∙ k.most)
     k.few
     (ap (λ (i : Ids). i.ids) c.take_over.ensures ∙ c.seeds.ensures.ids)
     (ap (λ (i : Ids). i.ids) c.take_over-2.ensures ∙ c.live.ensures.ids)
