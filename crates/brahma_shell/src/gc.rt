@@ -24,7 +24,7 @@ pub(crate) struct Stepped {
 
 /// Makes a step of the collector, and prints what it deletes. `None` where there is nothing to do.
 #[inline(always)]
-pub(crate) fn collect_step<W: Sink, D: Disk>(
+fn collect_step<W: Sink, D: Disk>(
     store: &mut Store<D>,
     out: &mut W,
 ) -> Result<Option<Stepped>, Stop>
@@ -55,8 +55,28 @@ pub(crate) fn collect_step<W: Sink, D: Disk>(
     }
 }
 
+/// Makes one step of the collector, where there is something to do, and prints what it deletes.
+#[inline(never)]
+pub(crate) fn step<W: Sink, D: Disk>(store: &mut Store<D>, out: &mut W) -> Result<(), Stop>
+    requires running { store.old.failed ≡ None }
+    ensures ok { OnOk result ((text : List ℕ) × Performs store.old.journal store.new.journal Line.CollectStep text
+        × Appends (W.written out.old) (W.written out.new) text) }
+    ensures goes_on { OnOk result (StaysRunning D.faults store.old store.new) }
+    ensures stopped { IfErr result (λ s.
+        StopsPerform s Line.CollectStep store.old.journal store.new.journal (W.written out.old) (W.written out.new)
+        × LeavesLog D.faults s store.old store.new) }
+    ensures write { IsErrOf result Stop.Write → Rose (W.faults out.old) (W.faults out.new) }
+    ensures later { W.faults out.old ≤ W.faults out.new }
+{
+    match collect_step(store, out) {
+        Ok(_) => Ok(()),
+        Err(stop) => Err(stop),
+    }
+}
+
 /// Makes steps of the collector until there is nothing to do, or until no round is open and it has taken as many objects
 /// out of its queue as the store has ids. Prints what they delete.
+#[inline(never)]
 pub(crate) fn collect_all<W: Sink, D: Disk>(store: &mut Store<D>, out: &mut W) -> Result<(), Stop>
     requires running { store.old.failed ≡ None }
     ensures ok { OnOk result ((text : List ℕ) × Performs store.old.journal store.new.journal Line.CollectAll text

@@ -103,6 +103,7 @@ pub(crate) fn ask<D: Disk>(store: &mut Store<D>, client: u8, asked: &Call) -> Re
 }
 
 /// Undoes the client's transaction, and ends it.
+#[inline(never)]
 pub(crate) fn abort<D: Disk>(store: &mut Store<D>, client: u8) -> Result<Answer, Stop>
     requires client { IsClient client }
     requires running { store.old.failed ≡ None }
@@ -120,6 +121,7 @@ pub(crate) fn abort<D: Disk>(store: &mut Store<D>, client: u8) -> Result<Answer,
 
 /// Undoes the last write of the client's transaction that isn't undone, or ends the transaction where there is none.
 /// Nothing is answered to an undo.
+#[inline(never)]
 pub(crate) fn undo<D: Disk>(store: &mut Store<D>, client: u8) -> Result<Option<Answer>, Stop>
     requires client { IsClient client }
     requires running { store.old.failed ≡ None }

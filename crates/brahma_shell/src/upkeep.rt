@@ -13,6 +13,7 @@ use outside_io::Sink;
 use script_lines::{Line, turn_busy_line};
 
 /// Writes the page in place. Nothing is printed.
+#[inline(never)]
 pub(crate) fn clean<D: Disk>(store: &mut Store<D>, page: u16) -> Result<(), Stop>
     requires page { 8 * page < store.old.journal.history.ids }
     requires running { store.old.failed ≡ None }
@@ -35,6 +36,7 @@ pub(crate) fn clean<D: Disk>(store: &mut Store<D>, page: u16) -> Result<(), Stop
 }
 
 /// Makes a checkpoint. It is refused where a client has a transaction; then the least such client is printed.
+#[inline(never)]
 pub(crate) fn turn<W: Sink, D: Disk>(store: &mut Store<D>, out: &mut W) -> Result<(), Stop>
     requires running { store.old.failed ≡ None }
     ensures ok { OnOk result ((text : List ℕ) × Performs store.old.journal store.new.journal Line.Turn text

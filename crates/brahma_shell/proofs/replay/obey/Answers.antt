@@ -2,7 +2,6 @@ use Rattle.std.proofs.Common.{[], inl}
 use Rattle.std.proofs.lemmas.Result.{err_from_is_err_and}
 use Rattle.script_lines.specs.declared.grammar.Line.TheVariants.{Clean}
 use Rattle.brahma_shell.proofs.DoLemmas.{stops-call, upkeep-err, nothing-performs}
-use Rattle.brahma_shell.proofs.GcLemmas.{steps-performs}
 use Rattle.script_lines.proofs.OutputLemmas.{Appends-none}
 use Rattle.brahma_shell.proofs.replay.obey.Goals as goal
 
@@ -19,11 +18,6 @@ returns-in_err-answer-in-Undo-clause-stopped g c =
     let h = c.in_err-answer-in-Undo.ensures.err in
     rw (p.1, p.2)
     (inl (stops-call c.in_err-answer-in-Undo.field-0.0 c.args.line c.args.store.now.journal c.undo.new.store.journal _ _ h.0 (Appends-none (g.W.Sink.written c.args.out.now)), h.1))
-
-pub returns-in-Ok-clause-ok : goal.returns-in-Ok-clause-ok
-returns-in-Ok-clause-ok g c =
-    let h = c.in-Ok.ensures.ok in
-    rw c.in-CollectStep.is (h.0, steps-performs c.in-Ok.field-0 c.args.store.now.journal c.collect_step.new.store.journal h.0 h.1, h.2)
 
 pub returns-in-Nothing-clause-ok : goal.returns-in-Nothing-clause-ok
 returns-in-Nothing-clause-ok g c = rw c.in-Nothing.is ([], nothing-performs c.args.store.now.journal, Appends-none (g.W.Sink.written c.args.out.now))
