@@ -86,11 +86,6 @@ named-from : (slots : List CopiedSlot) («from» id k limit : ℕ) (first next :
 named-from slots «from» id k limit first next linked some small f w e =
     subst (λ i. IsNextNaming slots i «from» (get_or first i 0)) e (linked.firsts k f w (λ z. some (sym e ∙ z)) (subst (λ i. i ≤ limit) (sym e) small))
 
--- where the place that is kept has a slot that names the object, that is the first one
-pub first-named : (slots : List CopiedSlot) («from» id limit : ℕ) (first next : List ℕ) → AreLinked slots «from» limit first next → id ≢ 0 → id ≤ limit
-    → «from» ≤ get_or first id 0 → get_or first id 0 < length slots → target_at slots (get_or first id 0) ≡ id → IsNextNaming slots id «from» (get_or first id 0)
-first-named slots «from» id limit first next linked some small f w e = named-from slots «from» id (get_or first id 0) limit first next linked some small f w e
-
 -- where it has none, there is no such slot
 pub none-named : (slots : List CopiedSlot) («from» id limit : ℕ) (first next : List ℕ) → AreLinked slots «from» limit first next → id ≢ 0 → id ≤ limit
     → («from» ≤ get_or first id 0 → get_or first id 0 < length slots → target_at slots (get_or first id 0) ≡ id → ⊥) → IsNextNaming slots id «from» (length slots)
