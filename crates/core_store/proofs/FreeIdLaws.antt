@@ -1,161 +1,143 @@
 -- The free ids of a store, as they are kept.
-use Rattle.std.proofs.Common.{◌≡◌, ℕ, zero, suc, ◌+◌, ◌-◌, ◌<◌, ◌≤◌, List, [], ◌++◌, Bool, true, false, cond, refl, sym, ap, ◌∙◌, arith}
+use Rattle.std.proofs.Common.{◌≡◌, ℕ, zero, suc, ◌+◌, ◌<◌, ◌≤◌, List, [], ◌∷◌, Bool, true, false, cond, get_or, set, refl, sym, ap, ◌∙◌, arith, ⊎_elim}
 use Rattle.std.specs.Prelude.{◌==◌, ◌&&◌, ◌||◌, not, nat_lt, nat_le}
-use Rattle.std.specs.List.{list_any, range_with_len}
+use Rattle.std.specs.List.{list_any, range_with_len, filter}
 use Rattle.std.specs.Ordering.{nat_cmp}
 use Rattle.std.specs.BTreeMap.{is_at}
+use Rattle.std.proofs.lemmas.Bool.{cases_eq, cases_lt, eq-eqb, ne_eqb}
 use Rattle.std.proofs.lemmas.Bool.Decides.{nat_tests}
-use Rattle.std.proofs.lemmas.List.Folds.{list_any-append}
+use Rattle.std.proofs.lemmas.List.{get_or-set_same, get_or-set_other, length-set}
+use Rattle.std.proofs.lemmas.Map.Views.{any-filter_same}
 use Rattle.plain_laws.proofs.Ids.{at_eq}
-use Rattle.core_store.specs.FreeIds.{all_free, IsFreeInside, IsLeastOf, Frees, Takes}
+use Rattle.core_store.specs.FreeIds.{free_in, IsFreeInside, IsLeastOf, Frees, Takes}
+
+-- ---- which ids are free
 
 -- a range has the numbers from its first one on
 in_range : (k n a : ℕ) → list_any (is_at (nat_cmp k)) (range_with_len a n) ≡ (nat_le a k && nat_lt k (a + n))
 in_range k zero a = grind (arith, nat_tests)
 in_range k (suc n) a = ap (λ b. is_at (nat_cmp k) a || b) (in_range k n (a + 1)) ∙ (ap (λ b. b || (nat_le (a + 1) k && nat_lt k (a + 1 + n))) (at_eq k a) ∙ grind (arith, nat_tests))
 
-behind : (k reached limit : ℕ) → (nat_le (reached + 1) k && nat_lt k (reached + 1 + (limit - reached))) ≡ (nat_lt reached k && nat_le k limit)
-behind k reached limit = grind (arith, nat_tests)
+bounds : (k limit : ℕ) → (nat_le 1 k && nat_lt k (1 + limit)) ≡ (nat_lt 0 k && nat_le k limit)
+bounds k limit = grind (arith, nat_tests)
 
--- which ids are free
-pub free-at : (freed : List ℕ) (reached limit k : ℕ) → list_any (is_at (nat_cmp k)) (all_free freed reached limit) ≡ (list_any (is_at (nat_cmp k)) freed || (nat_lt reached k && nat_le k limit))
-unfolding all_free
-free-at freed reached limit k =
-    list_any-append (is_at (nat_cmp k)) freed (range_with_len (reached + 1) (limit - reached))
-    ∙ ap (λ b. list_any (is_at (nat_cmp k)) freed || b) (in_range k (limit - reached) (reached + 1) ∙ behind k reached limit)
+same : (k j : ℕ) → (j == k) ≡ true → j ≡ k
+same k j h = grind (arith, nat_tests)
 
--- ---- one that joins
+-- those that the row marks
+pub free-at : (row : List Bool) (limit k : ℕ) → list_any (is_at (nat_cmp k)) (free_in row limit) ≡ (get_or row k false && (nat_lt 0 k && nat_le k limit))
+unfolding free_in
+free-at row limit k =
+    any-filter_same (is_at (nat_cmp k)) (λ id. get_or row id false) (get_or row k false) (λ j h. ap (λ id. get_or row id false) (same k j (sym (at_eq k j) ∙ h))) (range_with_len 1 limit)
+    ∙ ap (λ b. get_or row k false && b) (in_range k limit 1 ∙ bounds k limit)
 
--- what std says of a key that joins, and of one that is removed
-joined-key : (id : ℕ) (old new : List ℕ) → ((k : ℕ) → list_any (is_at (nat_cmp k)) new ≡ cond (is_at (nat_cmp id) k) true (list_any (is_at (nat_cmp k)) old)) → Frees old new id
-joined-key id old new h k = h k ∙ (ap (λ b. cond b true (list_any (is_at (nat_cmp k)) old)) (at_eq id k) ∙ by (k == id) (list_any (is_at (nat_cmp k)) old))
+-- of the ids of the store the row tells it
+pub free-is : (row : List Bool) (limit k : ℕ) → 1 ≤ k → k ≤ limit → get_or row k false ≡ list_any (is_at (nat_cmp k)) (free_in row limit)
+free-is row limit k low high = sym (free-at row limit k ∙ by (get_or row k false))
   where
-    by : (a b : Bool) → cond a true b ≡ (a || b)
-    by true b = refl
-    by false b = refl
+    by : (b : Bool) → (b && (nat_lt 0 k && nat_le k limit)) ≡ b
+    by true = grind (arith, nat_tests)
+    by false = refl
 
-removed-key : (id : ℕ) (old new : List ℕ) → ((k : ℕ) → list_any (is_at (nat_cmp k)) new ≡ cond (is_at (nat_cmp id) k) false (list_any (is_at (nat_cmp k)) old)) → Takes old new id
-removed-key id old new h k = h k ∙ (ap (λ b. cond b false (list_any (is_at (nat_cmp k)) old)) (at_eq id k) ∙ by (k == id) (list_any (is_at (nat_cmp k)) old))
+-- outside of them none is free
+pub free-below : (row : List Bool) (limit k : ℕ) → k < 1 → list_any (is_at (nat_cmp k)) (free_in row limit) ≡ false
+free-below row limit k low = free-at row limit k ∙ by (get_or row k false)
   where
-    by : (a b : Bool) → cond a false b ≡ (not a && b)
-    by true b = refl
-    by false b = refl
+    by : (b : Bool) → (b && (nat_lt 0 k && nat_le k limit)) ≡ false
+    by true = grind (arith, nat_tests)
+    by false = refl
 
-or-assoc : (a b c : Bool) → ((a || b) || c) ≡ (a || (b || c))
-or-assoc true b c = refl
-or-assoc false b c = refl
+pub free-behind : (row : List Bool) (limit k : ℕ) → limit < k → list_any (is_at (nat_cmp k)) (free_in row limit) ≡ false
+free-behind row limit k high = free-at row limit k ∙ by (get_or row k false)
+  where
+    by : (b : Bool) → (b && (nat_lt 0 k && nat_le k limit)) ≡ false
+    by true = grind (arith, nat_tests)
+    by false = refl
 
-above : (id reached limit : ℕ) (b : Bool) → id ≤ limit → (b || (nat_lt reached id && nat_le id limit)) ≡ false → id ≤ reached
-above id reached limit b h e = grind (arith, nat_tests)
+-- a free id is one of the store, and is marked
+pub record IsMarked (row : List Bool) (limit k : ℕ) : Type 0 where
+  pub low : 1 ≤ k
+  pub high : k ≤ limit
+  pub mark : get_or row k false ≡ true
 
--- an id of the store that isn't free was reached
-pub reached-stored : (freed : List ℕ) (reached limit id : ℕ) → id ≤ limit → list_any (is_at (nat_cmp id)) (all_free freed reached limit) ≡ false → id ≤ reached
-reached-stored freed reached limit id h e = above id reached limit (list_any (is_at (nat_cmp id)) freed) h (sym (free-at freed reached limit id) ∙ e)
-
-module _ (old new : List ℕ) (reached limit id : ℕ) (joins : (k : ℕ) → list_any (is_at (nat_cmp k)) new ≡ cond (is_at (nat_cmp id) k) true (list_any (is_at (nat_cmp k)) old)) where
-  pub Frees-joined : Frees (all_free old reached limit) (all_free new reached limit) id
-  Frees-joined k =
-      let behind_it = nat_lt reached k && nat_le k limit in
-      free-at new reached limit k ∙ (ap (λ b. b || behind_it) (joined-key id old new joins k)
-      ∙ (or-assoc (k == id) (list_any (is_at (nat_cmp k)) old) behind_it ∙ ap (λ b. (k == id) || b) (sym (free-at old reached limit k))))
-
-  pub inside-joined : IsFreeInside old reached limit → id ≤ reached → IsFreeInside new reached limit
-  inside-joined i h = record { within = i.within; stored = λ k e. by k (list_any (is_at (nat_cmp k)) old) (i.stored k) (sym (joined-key id old new joins k) ∙ e) }
-    where
-      by : (k : ℕ) (b : Bool) → (b ≡ true → k ≤ reached) → ((k == id) || b) ≡ true → k ≤ reached
-      by k true f e = f refl
-      by k false f e = grind (arith, nat_tests)
-
--- ---- one that is removed
-
--- one of the freed ids
-module _ (old new : List ℕ) (reached limit id : ℕ) (goes : (k : ℕ) → list_any (is_at (nat_cmp k)) new ≡ cond (is_at (nat_cmp id) k) false (list_any (is_at (nat_cmp k)) old)) where
-  pub Takes-removed : id ≤ reached → Takes (all_free old reached limit) (all_free new reached limit) id
-  Takes-removed h k =
-      free-at new reached limit k ∙ (ap (λ b. b || (nat_lt reached k && nat_le k limit)) (removed-key id old new goes k)
-      ∙ (by (list_any (is_at (nat_cmp k)) old) ∙ ap (λ b. not (k == id) && b) (sym (free-at old reached limit k))))
-    where
-      by : (b : Bool) → ((not (k == id) && b) || (nat_lt reached k && nat_le k limit)) ≡ (not (k == id) && (b || (nat_lt reached k && nat_le k limit)))
-      by true = grind (arith, nat_tests)
-      by false = grind (arith, nat_tests)
-
-  pub inside-removed : IsFreeInside old reached limit → IsFreeInside new reached limit
-  inside-removed i = record { within = i.within; stored = λ k e. by k (list_any (is_at (nat_cmp k)) old) (i.stored k) (sym (removed-key id old new goes k) ∙ e) }
-    where
-      by : (k : ℕ) (b : Bool) → (b ≡ true → k ≤ reached) → (not (k == id) && b) ≡ true → k ≤ reached
-      by k true f e = f refl
-      by k false f e = grind (arith, nat_tests)
-
--- the first one behind all that were reached
-module _ (freed : List ℕ) (reached limit id : ℕ) (i : IsFreeInside freed reached limit) (l : IsLeastOf (all_free freed reached limit) id) (over : reached < id) where
-  pub next-within : id ≤ limit
-  next-within = by (list_any (is_at (nat_cmp id)) freed) (i.stored id) (sym (free-at freed reached limit id) ∙ l.among)
-    where
-      by : (b : Bool) → (b ≡ true → id ≤ reached) → (b || (nat_lt reached id && nat_le id limit)) ≡ true → id ≤ limit
-      by true f e = let n = f refl in absurd (omega (arith, n, over))
-      by false f e = grind (arith, nat_tests)
-
-  next-is : id ≡ reached + 1
-  next-is =
-      let within = next-within in
-      let free = free-at freed reached limit (reached + 1) ∙ by (list_any (is_at (nat_cmp (reached + 1))) freed) in
-      let least = l.least (reached + 1) free in
-      omega (arith, least, over)
-    where
-      by : (b : Bool) → (b || (nat_lt reached (reached + 1) && nat_le (reached + 1) limit)) ≡ true
-      by true = refl
-      by false = let within = next-within in grind (arith, nat_tests)
-
-  pub inside-next : IsFreeInside freed id limit
-  inside-next = record { within = next-within; stored = λ k e. (let n = i.stored k e in omega (arith, n, over)) }
-
-  pub Takes-next : Takes (all_free freed reached limit) (all_free freed id limit) id
-  Takes-next k = free-at freed id limit k ∙ (by (list_any (is_at (nat_cmp k)) freed) (i.stored k) ∙ ap (λ b. not (k == id) && b) (sym (free-at freed reached limit k)))
-    where
-      by : (b : Bool) → (b ≡ true → k ≤ reached) → (b || (nat_lt id k && nat_le k limit)) ≡ (not (k == id) && (b || (nat_lt reached k && nat_le k limit)))
-      by true f = let n = f refl in grind (arith, nat_tests)
-      by false f = let n = next-is in grind (arith, nat_tests)
+pub free-marked : (row : List Bool) (limit k : ℕ) → list_any (is_at (nat_cmp k)) (free_in row limit) ≡ true → IsMarked row limit k
+free-marked row limit k e = by (get_or row k false) refl (sym (free-at row limit k) ∙ e)
+  where
+    by : (b : Bool) → b ≡ get_or row k false → (b && (nat_lt 0 k && nat_le k limit)) ≡ true → IsMarked row limit k
+    by true is h = record { low = grind (arith, nat_tests); high = grind (arith, nat_tests); mark = sym is }
+    by false is h = absurd (cc)
 
 -- ---- the least one
 
--- the least of those that were freed
-pub least-freed : (freed : List ℕ) (reached limit id : ℕ) → IsFreeInside freed reached limit → list_any (is_at (nat_cmp id)) freed ≡ true → ((k : ℕ) → list_any (is_at (nat_cmp k)) freed ≡ true → id ≤ k) → IsLeastOf (all_free freed reached limit) id
-least-freed freed reached limit id i among least = record {
-  among = free-at freed reached limit id ∙ ap (λ b. b || (nat_lt reached id && nat_le id limit)) among;
-  least = λ k e. by k (list_any (is_at (nat_cmp k)) freed) (least k) (i.stored id among) (sym (free-at freed reached limit k) ∙ e);
-}
-  where
-    by : (k : ℕ) (b : Bool) → (b ≡ true → id ≤ k) → id ≤ reached → (b || (nat_lt reached k && nat_le k limit)) ≡ true → id ≤ k
-    by k true f h e = f refl
-    by k false f h e = grind (arith, nat_tests)
+module _ (row : List Bool) (limit id : ℕ) (none : (k : ℕ) → 1 ≤ k → k < id → get_or row k false ≡ false) where
+  -- the first one that is marked
+  pub least-marked : IsMarked row limit id → IsLeastOf (free_in row limit) id
+  least-marked m = record {
+    among = sym (free-is row limit id m.low m.high) ∙ m.mark;
+    least = λ k e. let f = free-marked row limit k e in ⊎_elim (λ (l : k < id). absurd (let no = none k f.low l in let yes = f.mark in cc)) (λ l. l) (cases_lt k id);
+  }
 
--- where none was freed, the first one behind all that were reached
-pub least-next : (freed : List ℕ) (reached limit : ℕ) → freed ≡ [] → reached < limit → IsLeastOf (all_free freed reached limit) (reached + 1)
-least-next freed reached limit none some = record {
-  among = free-at freed reached limit (reached + 1) ∙ (ap (λ xs. list_any (is_at (nat_cmp (reached + 1))) xs || (nat_lt reached (reached + 1) && nat_le (reached + 1) limit)) none ∙ grind (arith, nat_tests));
-  least = λ k e. by k (sym (ap (λ xs. list_any (is_at (nat_cmp k)) xs || (nat_lt reached k && nat_le k limit)) none) ∙ (sym (free-at freed reached limit k) ∙ e));
-}
-  where
-    by : (k : ℕ) → (nat_lt reached k && nat_le k limit) ≡ true → reached + 1 ≤ k
-    by k e = grind (arith, nat_tests)
+  -- none is marked behind it either
+  pub none-next : get_or row id false ≡ false → (k : ℕ) → 1 ≤ k → k < id + 1 → get_or row k false ≡ false
+  none-next e k low l = ⊎_elim (λ (is : k ≡ id). ap (λ i. get_or row i false) is ∙ e) (λ n. none k low (omega (arith, l, n))) (cases_eq k id)
 
--- where none was freed and all were reached, none is free
-pub none-free : (freed : List ℕ) (reached limit : ℕ) → freed ≡ [] → limit ≤ reached → all_free freed reached limit ≡ []
-unfolding all_free
-none-free freed reached limit none all = let z : limit - reached ≡ 0 = omega arith in ap (λ xs. xs ++ range_with_len (reached + 1) (limit - reached)) none ∙ ap (λ n. range_with_len (reached + 1) n) z
+-- where none is marked, none is free
+nothing-passes : (f : ℕ → Bool) (n a : ℕ) → ((k : ℕ) → a ≤ k → k < a + n → f k ≡ false) → filter f (range_with_len a n) ≡ []
+nothing-passes f zero a none = refl
+nothing-passes f (suc n) a none =
+    ap (λ b. cond b (a ∷ filter f (range_with_len (a + 1) n)) (filter f (range_with_len (a + 1) n))) (none a (omega arith) (omega arith))
+    ∙ nothing-passes f n (a + 1) (λ k low high. none k (omega (arith, low)) (omega (arith, high)))
 
--- ---- whether an id is free
+pub none-free : (row : List Bool) (limit : ℕ) → ((k : ℕ) → 1 ≤ k → k < limit + 1 → get_or row k false ≡ false) → free_in row limit ≡ []
+unfolding free_in
+none-free row limit none = nothing-passes (λ id. get_or row id false) limit 1 (λ k low high. none k low (omega (arith, high)))
 
-pub free-behind : (freed : List ℕ) (reached limit id : ℕ) → IsFreeInside freed reached limit → reached < id → nat_le id limit ≡ list_any (is_at (nat_cmp id)) (all_free freed reached limit)
-free-behind freed reached limit id i over = sym (free-at freed reached limit id ∙ by (list_any (is_at (nat_cmp id)) freed) (i.stored id))
-  where
-    by : (b : Bool) → (b ≡ true → id ≤ reached) → (b || (nat_lt reached id && nat_le id limit)) ≡ nat_le id limit
-    by true f = let n = f refl in absurd (omega (arith, n, over))
-    by false f = grind (arith, nat_tests)
+-- ---- a mark that is changed
 
-pub free-before : (freed : List ℕ) (reached limit id : ℕ) → id ≤ reached → list_any (is_at (nat_cmp id)) freed ≡ list_any (is_at (nat_cmp id)) (all_free freed reached limit)
-free-before freed reached limit id h = sym (free-at freed reached limit id ∙ by (list_any (is_at (nat_cmp id)) freed))
-  where
-    by : (b : Bool) → (b || (nat_lt reached id && nat_le id limit)) ≡ b
-    by true = refl
-    by false = grind (arith, nat_tests)
+module _ (row : List Bool) (first limit id : ℕ) (i : IsFreeInside row first limit) (low : 1 ≤ id) (high : id ≤ limit) where
+  marked : (b : Bool) → get_or (set row id b) id false ≡ b
+  marked b = get_or-set_same row id b false (let l = i.length in omega (arith, l, high))
+
+  others : (b : Bool) (k : ℕ) → (k == id) ≡ false → get_or (set row id b) k false ≡ get_or row k false
+  others b k n = get_or-set_other row id k b false (λ e. absurd (let same = eq-eqb k id e in cc))
+
+  pub Frees-marked : Frees (free_in row limit) (free_in (set row id true) limit) id
+  Frees-marked k = free-at (set row id true) limit k ∙ by (k == id) refl
+    where
+      by : (b : Bool) → (k == id) ≡ b → (get_or (set row id true) k false && (nat_lt 0 k && nat_le k limit)) ≡ (b || list_any (is_at (nat_cmp k)) (free_in row limit))
+      by true e = let is = same id k e in ap (λ i. get_or (set row id true) i false && (nat_lt 0 i && nat_le i limit)) is ∙ (ap (λ b. b && (nat_lt 0 id && nat_le id limit)) (marked true) ∙ grind (arith, nat_tests))
+      by false e = ap (λ b. b && (nat_lt 0 k && nat_le k limit)) (others true k e) ∙ sym (free-at row limit k)
+
+  pub Takes-marked : Takes (free_in row limit) (free_in (set row id false) limit) id
+  Takes-marked k = free-at (set row id false) limit k ∙ by (k == id) refl
+    where
+      by : (b : Bool) → (k == id) ≡ b → (get_or (set row id false) k false && (nat_lt 0 k && nat_le k limit)) ≡ (not b && list_any (is_at (nat_cmp k)) (free_in row limit))
+      by true e = let is = same id k e in ap (λ i. get_or (set row id false) i false && (nat_lt 0 i && nat_le i limit)) is ∙ ap (λ b. b && (nat_lt 0 id && nat_le id limit)) (marked false)
+      by false e = ap (λ b. b && (nat_lt 0 k && nat_le k limit)) (others false k e) ∙ sym (free-at row limit k)
+
+  -- the id that is free now may be the first one
+  pub inside-freed : (least : ℕ) → 1 ≤ least → least ≤ first → least ≤ id → IsFreeInside (set row id true) least limit
+  inside-freed least some most here = record {
+    length = length-set row id true ∙ i.length;
+    few = i.few;
+    above = some;
+    within = let w = i.within in omega (arith, w, most);
+    stored = λ k a b. others true k (ne_eqb k id (λ e. omega (arith, e, b, here))) ∙ i.stored k a (omega (arith, b, most));
+  }
+
+  -- the least one is taken, and so is all before it
+  pub inside-taken : IsLeastOf (free_in row limit) id → IsFreeInside (set row id false) (id + 1) limit
+  inside-taken l = record {
+    length = length-set row id false ∙ i.length;
+    few = i.few;
+    above = omega arith;
+    within = omega (arith, high);
+    stored = λ k a b. ⊎_elim (λ (is : k ≡ id). ap (λ j. get_or (set row id false) j false) is ∙ marked false) (λ n. others false k (ne_eqb k id n) ∙ before k a (omega (arith, b, n))) (cases_eq k id);
+  }
+    where
+      before : (k : ℕ) → 1 ≤ k → k < id → get_or row k false ≡ false
+      before k a b = by (get_or row k false) (λ e. l.least k (sym (free-is row limit k a (omega (arith, b, high))) ∙ e))
+        where
+          by : (b : Bool) → (b ≡ true → id ≤ k) → b ≡ false
+          by true f = absurd (let n = f refl in omega (arith, n, b))
+          by false f = refl

@@ -1,14 +1,10 @@
 -- The free ids, the marks and the queue of a store that opens, read off its cells.
-use Rattle.std.proofs.Common.{◌≡◌, ℕ, suc, ◌+◌, ◌<◌, ◌≤◌, List, [], ◌∷◌, ◌++◌, Bool, true, false, cond, length, map, take, get_or, refl, sym, ap, ◌∙◌, arith, add-one, ⊎_elim, ne_eqb, append_assoc, append-nil}
+use Rattle.std.proofs.Common.{◌≡◌, ℕ, suc, ◌+◌, ◌<◌, ◌≤◌, List, [], ◌∷◌, ◌++◌, Bool, true, false, length, map, take, get_or, set, replicate, refl, sym, ap, ◌∙◌, arith, add-one, ⊎_elim, ne_eqb, append_assoc, append-nil}
 use Rattle.std.specs.Prelude.{◌==◌, ◌&&◌, ◌||◌, not, nat_lt, nat_le, if◌then◌else◌}
-use Rattle.std.specs.List.{list_any}
-use Rattle.std.specs.Ordering.{nat_cmp}
-use Rattle.std.specs.BTreeMap.{is_at}
-use Rattle.std.proofs.lemmas.Bool.{cases_eq, cases_lt}
+use Rattle.std.proofs.lemmas.Bool.{cases_eq}
 use Rattle.std.proofs.lemmas.Bool.Decides.{nat_tests}
-use Rattle.std.proofs.lemmas.List.{take_more, take_all, get_or-map, get_or_past, length-map, length-take-le, map-append}
+use Rattle.std.proofs.lemmas.List.{take_more, take_all, get_or-map, get_or-replicate, get_or-set_same, get_or-set_other, length-map, length-set, length-take-le, map-append}
 use Rattle.plain_model.specs.Graphs.{root}
-use Rattle.plain_laws.proofs.Ids.{at_eq}
 use Rattle.cell_model.specs.Cells.{Cell as StoredCell, blank_cell, cell_at, is_live}
 use Rattle.cell_page.specs.declared.cell.Cell.{Cell}
 use Rattle.cell_page.specs.Stored.{cell_of}
@@ -16,7 +12,7 @@ use Rattle.ref_tables.specs.Queue.{has, joined}
 use Rattle.restart_laws.specs.Graph.{zeros_from, zeros_of}
 use Rattle.core_store.specs.Changes.{has_no_strong}
 use Rattle.core_store.specs.Opening.{store_of}
-use Rattle.core_store.specs.FreeIds.{all_free, IsFreeInside, AreFreeIn}
+use Rattle.core_store.specs.FreeIds.{free_in, AreFreeIn}
 use Rattle.core_store.proofs.FreeIdLaws.{free-at}
 
 -- ---- the cell of an id
@@ -28,86 +24,78 @@ module _ {slots : ℕ} (cells : List (Cell slots)) where
       ap (cell_at (store_of cells)) (add-one place)
       ∙ (get_or-map cell_of cells place c (blank_cell false 0) within ∙ sym (ap cell_of is))
 
-  -- behind the last one there is none
-  stored-past : (id : ℕ) → length cells < id → is_live (store_of cells) id ≡ false
-  stored-past id past =
-      let long = length-map cells cell_of in
-      ap (λ (c : StoredCell). c.live) (get_or_past (store_of cells) id (blank_cell false 0) (omega (arith, past, long)))
-
 -- the first cells, and one more
 pub store-more : {slots : ℕ} (cells : List (Cell slots)) (place : ℕ) (c : Cell slots) → place < length cells → c ≡ get_or cells place c → store_of (take (place + 1) cells) ≡ store_of (take place cells) ++ cell_of c ∷ []
 store-more {slots} cells place c within is =
     ap (λ (cs : List StoredCell). blank_cell false slots ∷ cs)
     (ap (map cell_of) (take_more cells place c within ∙ ap (λ (d : Cell slots). take place cells ++ d ∷ []) (sym is)) ∙ map-append cell_of (take place cells) (c ∷ []))
 
--- ---- the greatest live id
-
--- behind this id none of the first cells is live
-pub record IsGreatest {slots : ℕ} (cells : List (Cell slots)) (place greatest : ℕ) : Type 0 where
-  pub within : greatest ≤ place
-  pub none : (id : ℕ) → greatest < id → id ≤ place → is_live (store_of cells) id ≡ false
-
-pub greatest-live : {slots : ℕ} (cells : List (Cell slots)) (place greatest : ℕ) → IsGreatest cells place greatest → IsGreatest cells (place + 1) (place + 1)
-greatest-live cells place greatest h = record { within = omega arith; none = λ id a b. absurd (omega (arith, a, b)) }
-
-pub greatest-free : {slots : ℕ} (cells : List (Cell slots)) (place greatest : ℕ) (c : Cell slots) → place < length cells → c ≡ get_or cells place c → c.live ≡ false → IsGreatest cells place greatest → IsGreatest cells (place + 1) greatest
-greatest-free cells place greatest c within is free h = record {
-  within = (let l = h.within in omega (arith, l));
-  none = λ id a b. ⊎_elim
-      (λ (e : id ≡ place + 1). ap (is_live (store_of cells)) e ∙ (ap (λ (c : StoredCell). c.live) (stored-at cells place c within is) ∙ free))
-      (λ n. h.none id a (omega (arith, b, n)))
-      (cases_eq id (place + 1));
-}
-
-pub greatest-above : {slots : ℕ} (cells : List (Cell slots)) (place greatest : ℕ) → length cells ≤ place → place ≤ length cells → IsGreatest cells place greatest → (id : ℕ) → greatest < id → is_live (store_of cells) id ≡ false
-greatest-above cells place greatest all most h id a = ⊎_elim
-    (λ (l : id < place + 1). h.none id a (omega (arith, l)))
-    (λ (past : place + 1 ≤ id). stored-past cells id (omega (arith, past, most, all)))
-    (cases_lt id (place + 1))
-
 -- ---- the free ids
 
--- of no cells there is none
-pub free-none : (cells : List StoredCell) (freed : List ℕ) → freed ≡ [] → AreFreeIn cells 0 freed
-free-none cells freed none k = ap (λ xs. list_any (is_at (nat_cmp k)) xs) none ∙ by (is_live cells k)
-  where
-    by : (b : Bool) → false ≡ (nat_lt 0 k && nat_le k 0 && not b)
-    by true = grind (arith, nat_tests)
-    by false = grind (arith, nat_tests)
+-- the row marks those of the first ids that it did and that aren't live, and of the others those that it did
+pub record AreMarked {slots : ℕ} (cells : List (Cell slots)) (old new : List Bool) (place : ℕ) : Type 0 where
+  pub length : length new ≡ length old
+  pub before : (id : ℕ) → 0 < id → id ≤ place → get_or new id false ≡ (not (is_live (store_of cells) id) && get_or old id false)
+  pub behind : (id : ℕ) → place < id → get_or new id false ≡ get_or old id false
 
--- a live one
-pub free-kept : (cells : List StoredCell) (place : ℕ) (freed : List ℕ) → is_live cells (place + 1) ≡ true → AreFreeIn cells place freed → AreFreeIn cells (place + 1) freed
-free-kept cells place freed live h k = h k ∙ by (is_live cells k) (λ e. ap (is_live cells) e ∙ live)
-  where
-    by : (b : Bool) → (k ≡ place + 1 → b ≡ true) → (nat_lt 0 k && nat_le k place && not b) ≡ (nat_lt 0 k && nat_le k (place + 1) && not b)
-    by true f = grind (arith, nat_tests)
-    by false f = ⊎_elim (λ (e : k ≡ place + 1). absurd (let no = f e in cc)) (λ n. grind (arith, nat_tests, n)) (cases_eq k (place + 1))
+pub marked-none : {slots : ℕ} (cells : List (Cell slots)) (row : List Bool) → AreMarked cells row row 0
+marked-none cells row = record { length = refl; before = λ id a b. absurd (omega (arith, a, b)); behind = λ id a. refl }
 
--- one that is free
-pub free-more : (cells : List StoredCell) (place : ℕ) (old new : List ℕ) → is_live cells (place + 1) ≡ false → ((k : ℕ) → list_any (is_at (nat_cmp k)) new ≡ cond (is_at (nat_cmp (place + 1)) k) true (list_any (is_at (nat_cmp k)) old)) → AreFreeIn cells place old → AreFreeIn cells (place + 1) new
-free-more cells place old new free joins h k =
-    joins k ∙ (ap (λ b. cond b true (list_any (is_at (nat_cmp k)) old)) (at_eq (place + 1) k) ∙ (ap (λ b. cond (k == (place + 1)) true b) (h k)
-    ∙ by (is_live cells k) (λ e. ap (is_live cells) e ∙ free)))
-  where
-    by : (b : Bool) → (k ≡ place + 1 → b ≡ false) → cond (k == (place + 1)) true (nat_lt 0 k && nat_le k place && not b) ≡ (nat_lt 0 k && nat_le k (place + 1) && not b)
-    by true f = ⊎_elim (λ (e : k ≡ place + 1). absurd (let no = f e in cc)) (λ n. grind (arith, nat_tests, n)) (cases_eq k (place + 1))
-    by false f = grind (arith, nat_tests)
+module _ {slots : ℕ} (cells : List (Cell slots)) (old now : List Bool) (place : ℕ) (c : Cell slots) (within : place < length cells) (is : c ≡ get_or cells place c) (long : length old ≡ length cells + 1) (m : AreMarked cells old now place) where
+  live-is : is_live (store_of cells) (place + 1) ≡ c.live
+  live-is = ap (λ (c : StoredCell). c.live) (stored-at cells place c within is)
 
--- those up to the greatest live one, and all behind it
-pub free-over : (cells : List StoredCell) (freed : List ℕ) (reached limit : ℕ) → reached ≤ limit → ((id : ℕ) → reached < id → is_live cells id ≡ false) → AreFreeIn cells reached freed → AreFreeIn cells limit (all_free freed reached limit)
-free-over cells freed reached limit most above h k =
-    free-at freed reached limit k ∙ (ap (λ b. b || (nat_lt reached k && nat_le k limit)) (h k) ∙ by (is_live cells k) (above k))
-  where
-    by : (b : Bool) → (reached < k → b ≡ false) → ((nat_lt 0 k && nat_le k reached && not b) || (nat_lt reached k && nat_le k limit)) ≡ (nat_lt 0 k && nat_le k limit && not b)
-    by true f = ⊎_elim (λ (l : k < reached + 1). grind (arith, nat_tests, l)) (λ (over : reached + 1 ≤ k). absurd (let no = f (omega (arith, over)) in cc)) (cases_lt k (reached + 1))
-    by false f = grind (arith, nat_tests)
+  -- its cell is free
+  pub marked-free : c.live ≡ false → AreMarked cells old now (place + 1)
+  marked-free free = record {
+    length = m.length;
+    before = λ id a b. ⊎_elim
+        (λ (e : id ≡ place + 1). m.behind id (omega (arith, e)) ∙ sym (ap (λ b. not b && get_or old id false) (ap (is_live (store_of cells)) e ∙ (live-is ∙ free))))
+        (λ n. m.before id a (omega (arith, b, n)))
+        (cases_eq id (place + 1));
+    behind = λ id a. m.behind id (omega (arith, a));
+  }
 
-pub free-inside : (cells : List StoredCell) (freed : List ℕ) (reached limit : ℕ) → reached ≤ limit → AreFreeIn cells reached freed → IsFreeInside freed reached limit
-free-inside cells freed reached limit most h = record { within = most; stored = λ k e. by k (is_live cells k) (sym (h k) ∙ e) }
+  -- its cell is live
+  pub marked-live : c.live ≡ true → AreMarked cells old (set now (place + 1) false) (place + 1)
+  marked-live live = record {
+    length = length-set now (place + 1) false ∙ m.length;
+    before = λ id a b. ⊎_elim
+        (λ (e : id ≡ place + 1).
+        ap (λ i. get_or (set now (place + 1) false) i false) e
+        ∙ (get_or-set_same now (place + 1) false false (let l = m.length in omega (arith, l, long, within))
+        ∙ sym (ap (λ b. not b && get_or old id false) (ap (is_live (store_of cells)) e ∙ (live-is ∙ live)))))
+        (λ n. get_or-set_other now (place + 1) id false false n ∙ m.before id a (omega (arith, b, n)))
+        (cases_eq id (place + 1));
+    behind = λ id a. get_or-set_other now (place + 1) id false false (λ e. omega (arith, e, a)) ∙ m.behind id (omega (arith, a));
+  }
+
+-- in a row that marked all, those that aren't live are left
+pub free-over : (cells : List StoredCell) (row : List Bool) (limit : ℕ) → ((id : ℕ) → 0 < id → id ≤ limit → get_or row id false ≡ (not (is_live cells id) && get_or (replicate (limit + 1) true) id false)) → AreFreeIn cells limit (free_in row limit)
+free-over cells row limit marks k = free-at row limit k ∙ by (nat_lt 0 k && nat_le k limit) refl
   where
-    by : (k : ℕ) (b : Bool) → (nat_lt 0 k && nat_le k reached && not b) ≡ true → k ≤ reached
-    by k true e = grind (arith, nat_tests)
-    by k false e = grind (arith, nat_tests)
+    free : 0 < k → k ≤ limit → get_or row k false ≡ not (is_live cells k)
+    free a b = marks k a b ∙ (ap (λ x. not (is_live cells k) && x) (get_or-replicate (limit + 1) k true false (omega (arith, b))) ∙ and-true (not (is_live cells k)))
+      where
+        and-true : (b : Bool) → (b && true) ≡ b
+        and-true true = refl
+        and-true false = refl
+
+    swap : (a b : Bool) → (a && b) ≡ (b && a)
+    swap true true = refl
+    swap true false = refl
+    swap false true = refl
+    swap false false = refl
+
+    low : (nat_lt 0 k && nat_le k limit) ≡ true → 0 < k
+    low e = grind (arith, nat_tests)
+
+    high : (nat_lt 0 k && nat_le k limit) ≡ true → k ≤ limit
+    high e = grind (arith, nat_tests)
+
+    by : (b : Bool) → (nat_lt 0 k && nat_le k limit) ≡ b → (get_or row k false && b) ≡ (b && not (is_live cells k))
+    by true e = swap (get_or row k false) true ∙ free (low e) (high e)
+    by false e = swap (get_or row k false) false
 
 -- ---- the marks
 

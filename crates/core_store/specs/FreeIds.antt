@@ -1,5 +1,5 @@
 -- The ids that are free: those of a store that aren't stored.
-use Rattle.std.specs.Prelude.{◌≡◌, ℕ, zero, suc, ◌+◌, ◌-◌, ◌≤◌, ◌==◌, ◌&&◌, ◌||◌, not, true, nat_lt, nat_le, if◌then◌else◌, List, [], ◌∷◌, ◌++◌}
+use Rattle.std.specs.Prelude.{◌≡◌, ℕ, zero, suc, ◌+◌, ◌≤◌, ◌==◌, ◌&&◌, ◌||◌, not, true, nat_lt, nat_le, if◌then◌else◌, Bool, false, ◌<◌, filter, length, get_or, List, [], ◌∷◌, ◌++◌}
 use Rattle.std.specs.List.{list_any, range_with_len}
 use Rattle.std.specs.Ordering.{nat_cmp}
 use Rattle.std.specs.BTreeMap.{is_at}
@@ -34,11 +34,14 @@ taken free (suc n) = taken free n ++ (if list_any (is_at (nat_cmp (suc n))) free
 
 -- ---- how they are kept
 
--- those up to the greatest that was ever stored, and those behind it
-unfoldable pub all_free : List ℕ → ℕ → ℕ → List ℕ
-all_free freed reached limit = freed ++ range_with_len (reached + 1) (limit - reached)
+-- the ids from 1 on that a row marks as free, at their indices, ascending
+unfoldable pub free_in : List Bool → ℕ → List ℕ
+free_in row limit = filter (λ id. get_or row id false) (range_with_len 1 limit)
 
--- the former are no greater
-pub record IsFreeInside (freed : List ℕ) (reached limit : ℕ) : Type 0 where
-  pub within : reached ≤ limit
-  pub stored : (k : ℕ) → list_any (is_at (nat_cmp k)) freed ≡ true → k ≤ reached
+-- the row has a place for each id, and marks none below the first one
+pub record IsFreeInside (row : List Bool) (first limit : ℕ) : Type 0 where
+  pub length : length row ≡ limit + 1
+  pub few : limit ≤ 8192
+  pub above : 1 ≤ first
+  pub within : first ≤ limit + 1
+  pub stored : (k : ℕ) → 1 ≤ k → k < first → get_or row k false ≡ false

@@ -1,5 +1,5 @@
 //! The events of the collector that change cells.
-ghost use Rattle.std.specs.Prelude.{◌≡◌, ◌<◌, ◌≤◌, IfOk, OnErr, ◌==◌, length, not, ◌&&◌, get_or, false};
+ghost use Rattle.std.specs.Prelude.{◌≡◌, ◌<◌, ◌≤◌, ◌==◌, length, not, ◌&&◌, get_or, false};
 ghost use Rattle.plain_model.specs.Graphs.{root};
 ghost use Rattle.ref_tables.specs.Queue.{has};
 ghost use Rattle.core_store.specs.RoundView.{asked, ids_in};
@@ -17,7 +17,6 @@ use crate::three::Three;
 use cell_page::{Cell, ROOT};
 use green_walk::Found;
 use log_record::CellRecord;
-use plain_model::Memory;
 
 impl<const SLOTS: usize> Tables<SLOTS> {
     /// Whether an object is to join the open round: no strong pointer leads to it, it isn't the root, and it isn't in
@@ -87,21 +86,20 @@ impl<const SLOTS: usize> Tables<SLOTS> {
     }
 
     /// Frees a condemned object.
-    pub(crate) fn free_dead(&mut self, held: &mut Three<SLOTS>, id: u32) -> Result<Event, Memory>
+    pub(crate) fn free_dead(&mut self, held: &mut Three<SLOTS>, id: u32) -> Event
         requires ready { CanCollect (view_of self.old) held.old }
         requires at { asked (view_of self.old).round ≡ RoundAt.Free id }
-        ensures ok { IfOk result (λ e. CollectsOne SLOTS (view_of self.old) (view_of self.new) held.old held.new e.act e.logged) }
-        ensures err { OnErr result ((view_of self.new ≡ view_of self.old) × (held.new ≡ held.old)) }
+        ensures collects { CollectsOne SLOTS (view_of self.old) (view_of self.new) held.old held.new result.act result.logged }
         ensures owed { self.new.owed ≡ self.old.owed }
         ensures pages { pages_held held.new ≡ pages_held held.old }
     {
-        self.free.insert(id)?;
+        self.free.insert(id);
         held.put_cell(Cell::free(id));
         self.round.freed(id);
-        Ok(Event {
+        Event {
             act: Act::Change,
             logged: Some(CellRecord::Free { id }),
-        })
+        }
     }
 
     /// Flips a seed: its pointers to itself stay weak, and all others to it become strong.

@@ -1,5 +1,5 @@
 //! The events of the collector: which one comes next, and those that change no cell.
-ghost use Rattle.std.specs.Prelude.{◌≡◌, ℕ, ◌<◌, ◌≤◌, List, IfOk, OnErr, length, Bool, not, ◌&&◌, get_or, false};
+ghost use Rattle.std.specs.Prelude.{◌≡◌, ℕ, ◌<◌, ◌≤◌, List, length, Bool, not, ◌&&◌, get_or, false};
 ghost use Rattle.store_model.specs.Core.{Core};
 ghost use Rattle.core_store.specs.declared.three.HeldFrame.{HeldFrame};
 ghost use Rattle.core_store.specs.RoundView.{Closed, is_closed, asked};
@@ -17,7 +17,7 @@ use crate::round_at::RoundAt;
 use crate::tables::Tables;
 use crate::three::Three;
 use log_record::CellRecord;
-use plain_model::{Entry, Memory};
+use plain_model::Entry;
 
 /// An event of the collector: which one, and what it logs.
 #[derive(Clone, Copy)]
@@ -34,36 +34,31 @@ impl<const SLOTS: usize> Tables<SLOTS> {
         self.round.is_closed() && self.queue.len() == 0
     }
 
-    /// Makes the event that comes next. Out of memory leaves all as it was.
-    pub(crate) fn collect_step(
-        &mut self,
-        held: &mut Three<SLOTS>,
-        next: RoundAt,
-    ) -> Result<Event, Memory>
+    /// Makes the event that comes next.
+    pub(crate) fn collect_step(&mut self, held: &mut Three<SLOTS>, next: RoundAt) -> Event
         requires next { next ≡ asked (view_of self.old).round }
         requires ready { CanCollect (view_of self.old) held.old }
         requires busy { (is_closed (view_of self.old).round && is_none_queued (view_of self.old).queue) ≡ false }
-        ensures ok { IfOk result (λ e. CollectsOne SLOTS (view_of self.old) (view_of self.new) held.old held.new e.act e.logged) }
-        ensures err { OnErr result ((view_of self.new ≡ view_of self.old) × (held.new ≡ held.old)) }
+        ensures collects { CollectsOne SLOTS (view_of self.old) (view_of self.new) held.old held.new result.act result.logged }
         ensures owed { self.new.owed ≡ self.old.owed }
         ensures pages { pages_held held.new ≡ pages_held held.old }
     {
         match next {
-            RoundAt::Queue => Ok(self.begin_round()),
-            RoundAt::Look { id, slot } => Ok(self.weaken(held, id, slot)),
-            RoundAt::Copy { id } => Ok(self.copy(held, id)),
-            RoundAt::Judge => Ok(self.judge()),
-            RoundAt::Cut { id, slot } => Ok(self.cut_dead(held, id, slot)),
+            RoundAt::Queue => self.begin_round(),
+            RoundAt::Look { id, slot } => self.weaken(held, id, slot),
+            RoundAt::Copy { id } => self.copy(held, id),
+            RoundAt::Judge => self.judge(),
+            RoundAt::Cut { id, slot } => self.cut_dead(held, id, slot),
             RoundAt::Free { id } => self.free_dead(held, id),
-            RoundAt::Flip { id } => Ok(self.flip(held, id)),
-            RoundAt::Into { from, slot, to } => Ok(self.weaken_into(held, from, slot, to)),
-            RoundAt::Strengthen { from, slot, to } => Ok(self.strengthen(held, from, slot, to)),
-            RoundAt::End => Ok(self.end_round()),
+            RoundAt::Flip { id } => self.flip(held, id),
+            RoundAt::Into { from, slot, to } => self.weaken_into(held, from, slot, to),
+            RoundAt::Strengthen { from, slot, to } => self.strengthen(held, from, slot, to),
+            RoundAt::End => self.end_round(),
             // Looks are made before.
-            RoundAt::Seed { .. } | RoundAt::Test { .. } | RoundAt::Out { .. } => Ok(Event {
+            RoundAt::Seed { .. } | RoundAt::Test { .. } | RoundAt::Out { .. } => Event {
                 act: Act::Other,
                 logged: None,
-            }),
+            },
         }
     }
 

@@ -1,5 +1,5 @@
 //! The ids that aren't stored.
-ghost use Rattle.std.specs.Prelude.{◌≡◌, ℕ, ◌<◌, ◌≤◌, length, false, [], IfOk, OnOk, OnErr, MatchOption};
+ghost use Rattle.std.specs.Prelude.{◌≡◌, ℕ, ◌<◌, ◌≤◌, length, get_or, not, ◌&&◌, ◌+◌, false, [], IfOk, MatchOption};
 ghost use Rattle.std.specs.List.{list_any};
 ghost use Rattle.std.specs.Ordering.{nat_cmp};
 ghost use Rattle.std.specs.BTreeMap.{is_at};
@@ -10,46 +10,43 @@ ghost use Rattle.core_store.specs.FreeIds.{AreFreeIn, IsLeastOf, Frees, Takes, t
 use cell_page::Cell;
 use plain_model::Memory;
 use std::alloc::Global;
-use std::collections::BTreeSet;
 use std::marker::Model;
 
 /// The ids of a store that aren't stored, of all from 1 to a limit.
 ///
-/// Those behind the greatest that was stored since the opening are no more than a range, so that a fresh store takes no
-/// memory for them.
+/// A call costs the same however many there are, but for `stored`, and for `least`, which looks on from where it was found last
+/// or an id was freed since.
 #[derive(Debug, Drop)]
 pub(crate) struct FreeIds {
-    /// Those up to the greatest that was stored since the opening.
-    freed: BTreeSet<u32>,
-    /// The greatest id that was stored since the opening. All behind it are free.
-    reached: u32,
+    /// For each id, at its index, whether it is free.
+    row: Vec<bool>,
+    /// No id below this one is free.
+    first: u32,
     /// The greatest id of the store.
     limit: u32,
 }
 
 impl Model for FreeIds {
-    ghost use Rattle.core_store.specs.FreeIds.{FreeView, IsFreeInside, all_free};
+    ghost use Rattle.core_store.specs.FreeIds.{FreeView, IsFreeInside, free_in};
 
     ghost Value = { FreeView };
 
-    ghost view = { λ a. record { ids = all_free a.freed.keys a.reached a.limit; limit = a.limit } };
+    ghost view = { λ a. record { ids = free_in a.row.items a.limit; limit = a.limit } };
 
-    ghost invariant = { λ a. IsFreeInside a.freed.keys a.reached a.limit };
+    ghost invariant = { λ a. IsFreeInside a.row.items a.first a.limit };
 }
 
-/// The greatest id whose cell is live, or 0, where the cells stand by their ids from 1 on.
-fn greatest_live<const SLOTS: usize>(cells: &[Cell<SLOTS>]) -> u32
-    requires { length cells.now ≤ 8192 }
-    ensures within { result ≤ length cells.now }
-    ensures above { (id : ℕ) → result < id → is_live (store_of cells.now) id ≡ false }
+/// Marks the id of each live cell as stored, where the cells stand by their ids from 1 on.
+fn mark_live<const SLOTS: usize>(row: &mut Vec<bool>, cells: &[Cell<SLOTS>])
+    requires { length row.old.items ≡ length cells.now + 1 }
+    ensures length { length row.new.items ≡ length row.old.items }
+    ensures marked { (id : ℕ) → 0 < id → id ≤ length cells.now → get_or row.new.items id false ≡ (not (is_live (store_of cells.now) id) && get_or row.old.items id false) }
 {
-    let mut greatest = 0;
     for (place, cell) in cells.iter().enumerate() {
         if cell.live {
-            greatest = place as u32 + 1;
+            row[place + 1] = false;
         }
     }
-    greatest
 }
 
 impl FreeIds {
@@ -62,16 +59,11 @@ impl FreeIds {
         ensures free { IfOk result (λ f. AreFreeIn (store_of cells.now) (length cells.now) f.ids) }
         ensures limit { IfOk result (λ f. f.limit ≡ length cells.now) }
     {
-        let reached = greatest_live(cells);
-        let mut freed = BTreeSet::new(alloc);
-        for place in 0..reached {
-            if !cells[place as usize].live {
-                freed.insert(place + 1)?;
-            }
-        }
+        let mut row = vec![in alloc; true; cells.len() + 1]?;
+        mark_live(&mut row, cells);
         Ok(FreeIds {
-            freed,
-            reached,
+            row,
+            first: 1,
             limit: cells.len() as u32,
         })
     }
@@ -80,21 +72,17 @@ impl FreeIds {
     pub(crate) fn contains(&self, id: u32) -> bool
         ensures { result ≡ list_any (is_at (nat_cmp id)) self.now.ids }
     {
-        if self.reached < id {
-            return id <= self.limit;
-        }
-        self.freed.contains(&id)
+        1 <= id && id <= self.limit && self.row[id as usize]
     }
 
     /// The least free id, where there is one.
     pub(crate) fn least(&self) -> Option<u32>
         ensures { MatchOption result (self.now.ids ≡ []) (IsLeastOf self.now.ids) }
     {
-        if let Some(id) = self.freed.first().copied() {
-            return Some(id);
-        }
-        if self.reached < self.limit {
-            return Some(self.reached + 1);
+        for id in self.first..self.limit + 1 {
+            if self.row[id as usize] {
+                return Some(id);
+            }
         }
         None
     }
@@ -105,23 +93,19 @@ impl FreeIds {
         ensures takes { Takes self.old.ids self.new.ids id }
         ensures limit { self.new.limit ≡ self.old.limit }
     {
-        if self.reached < id {
-            self.reached = id;
-        } else {
-            self.freed.remove(&id);
-        }
+        self.row[id as usize] = false;
+        self.first = id + 1;
     }
 
-    /// The stored id is free from now on. Out of memory leaves all as it was.
-    pub(crate) fn insert(&mut self, id: u32) -> Result<(), Memory>
-        requires within { id ≤ self.old.limit }
+    /// The stored id is free from now on.
+    pub(crate) fn insert(&mut self, id: u32)
+        requires within { (1 ≤ id) × (id ≤ self.old.limit) }
         requires stored { list_any (is_at (nat_cmp id)) self.old.ids ≡ false }
-        ensures ok { OnOk result (Frees self.old.ids self.new.ids id) }
-        ensures err { OnErr result (self.new ≡ self.old) }
+        ensures frees { Frees self.old.ids self.new.ids id }
         ensures limit { self.new.limit ≡ self.old.limit }
     {
-        self.freed.insert(id)?;
-        Ok(())
+        self.row[id as usize] = true;
+        self.first = self.first.min(id);
     }
 
     /// The ids that are stored, ascending.

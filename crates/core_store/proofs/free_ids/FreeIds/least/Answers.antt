@@ -1,42 +1,38 @@
-use Rattle.std.proofs.Common.{◌≡◌, ◌<◌, ◌+◌, [], ◌∷◌, List, ℕ, true, false, Bor, Option, Some, None, nat_cmp, refl, sym, ap, ◌∙◌, subst, arith, length}
-use Rattle.std.specs.Prelude.{IfSome, IsSome}
-use Rattle.std.specs.List.{list_any}
-use Rattle.std.specs.Option.{option_copied}
-use Rattle.std.specs.Ordering.{is_gt}
-use Rattle.std.specs.BTreeMap.{is_at}
-use Rattle.std.proofs.lemmas.Map.Keys.{le_from_not_gt}
+use Rattle.std.proofs.Common.{false, sym, ap, ◌∙◌, subst, arith}
+use Rattle.std.proofs.lemmas.List.{get_or_default}
 use Rattle.core_store.specs.FreeIds.{FreeView, IsLeastOf}
-use Rattle.core_store.proofs.FreeIdLaws.{least-freed, least-next, none-free}
+use Rattle.core_store.proofs.FreeIdLaws.{least-marked, none-next, none-free}
 use Rattle.core_store.proofs.free_ids.FreeIds.least.Goals as goal
 
--- what holds of the first one, holds of its copy
-copied-some : (o : Option (Bor ℕ)) (id : ℕ) (P : ℕ → Type 0) → Some id ≡ option_copied o → IfSome o (λ k. P k.now) → P id
-copied-some (Some k) id P e h = subst P (cc) h
-copied-some None id P e h = absurd (cc)
+pub loop-id-init : goal.loop-id-init
+loop-id-init c = c.self.invariant.stored
 
--- where there is no first one, there is none
-copied-none : (o : Option (Bor ℕ)) (xs : List ℕ) → None ≡ option_copied o → (0 < length xs → IsSome o) → xs ≡ []
-copied-none (Some k) xs e h = absurd (cc)
-copied-none None [] e h = refl
-copied-none None (x ∷ xs) e h = let some = h (omega arith) in absurd (cc)
-
-pub returns-in-Some : goal.returns-in-Some
-returns-in-Some c =
+pub returns-then-index : goal.returns-then-index
+returns-then-index c =
     let s = c.self.inside in
-    let id = c.in-Some.id in
+    let i = c.self.invariant in
+    let id = c.loop-id.id in
+    let from = c.loop-id.auto.id in
+    let until = c.loop-id-test.true in
+    let long = i.length in
+    let above = i.above in
     subst (λ (f : FreeView). IsLeastOf f.ids id) c.self.view_is
-    (least-freed s.freed.keys s.reached s.limit id c.self.invariant
-    (copied-some c.first.result id (λ k. list_any (is_at (nat_cmp k)) s.freed.keys ≡ true) c.in-Some.ensures c.first.ensures.member)
-    (λ k e. le_from_not_gt id k (copied-some c.first.result id (λ i. (q : ℕ) → list_any (is_at (nat_cmp q)) s.freed.keys ≡ true → is_gt (nat_cmp i q) ≡ false) c.in-Some.ensures c.first.ensures.least k e)))
+    (least-marked s.row.items s.limit id c.loop-id.invariant record {
+      low = omega (arith, from, above);
+      high = omega (arith, until);
+      mark = get_or_default s.row.items id false c.index.result.now (omega (arith, until, long)) ∙ (sym c.index.ensures ∙ c.if-index.true);
+    })
 
-pub returns-then-self : goal.returns-then-self
-returns-then-self c =
+pub loop-id-preserved : goal.loop-id-preserved
+loop-id-preserved c =
     let s = c.self.inside in
-    let none = copied-none c.first.result s.freed.keys c.in_default.ensures c.first.ensures.variant.1 in
-    subst (λ (f : FreeView). IsLeastOf f.ids (s.reached + 1)) c.self.view_is (least-next s.freed.keys s.reached s.limit none c.if-self.true)
+    let id = c.loop-id.id in
+    let until = c.loop-id-test.true in
+    let long = c.self.invariant.length in
+    none-next s.row.items s.limit id c.loop-id.invariant (get_or_default s.row.items id false c.index.result.now (omega (arith, until, long)) ∙ (sym c.index.ensures ∙ c.if-index.false))
 
 pub returns : goal.returns
 returns c =
     let s = c.self.inside in
-    let none = copied-none c.first.result s.freed.keys c.in_default.ensures c.first.ensures.variant.1 in
-    sym (ap (λ (f : FreeView). f.ids) c.self.view_is) ∙ none-free s.freed.keys s.reached s.limit none c.if-self.false
+    let all = c.loop-id-test.false in
+    sym (ap (λ (f : FreeView). f.ids) c.self.view_is) ∙ none-free s.row.items s.limit (λ k low high. c.loop-id.invariant k low (omega (arith, high, all)))

@@ -32,7 +32,7 @@ collect_step-requires g c =
 abbrev after : (g : Over) (c : goal.After-answer_of g) → Inside g.row.SLOTS
 after g c = record { alloc = c.self.inside.alloc; opening = c.self.inside.opening; trace = c.add.new.self; tables = c.collect_step.new.self }
 
-grows : (g : Over) (c : goal.After-answer_of g) → Grows c.self.inside (after g c) (collector_note c.in-Ok.event.act c.in-Ok.event.logged c.left-left.result)
+grows : (g : Over) (c : goal.After-answer_of g) → Grows c.self.inside (after g c) (collector_note c.collect_step.result.act c.collect_step.result.logged c.left-left.result)
 grows g c = record {
   opening = refl;
   limits = c.add.ensures.rest.0 ∙ c.take_room.ensures.rest.0;
@@ -40,8 +40,8 @@ grows g c = record {
   reserved = c.add.ensures.reserved;
   trace =
       c.add.ensures.items
-      ∙ (ap (λ (xs : List Note). xs ++ record { entry = c.entry_of.result; logged = c.in-Ok.event.logged; left = c.left-left.result; act = c.in-Ok.event.act } ∷ []) c.take_room.ensures.notes.0
-      ∙ ap (λ (e : Entry). c.self.inside.trace.notes.items ++ record { entry = e; logged = c.in-Ok.event.logged; left = c.left-left.result; act = c.in-Ok.event.act } ∷ []) c.entry_of.ensures);
+      ∙ (ap (λ (xs : List Note). xs ++ record { entry = c.entry_of.result; logged = c.collect_step.result.logged; left = c.left-left.result; act = c.collect_step.result.act } ∷ []) c.take_room.ensures.notes.0
+      ∙ ap (λ (e : Entry). c.self.inside.trace.notes.items ++ record { entry = e; logged = c.collect_step.result.logged; left = c.left-left.result; act = c.collect_step.result.act } ∷ []) c.entry_of.ensures);
   left = c.left-left.ensures;
 }
 
@@ -49,35 +49,35 @@ pub invariant_of-self-2 : goal.invariant_of-self-2
 invariant_of-self-2 g c =
     let room = on_ok c.take_room.result c.is_err.result c.is_err.ensures.value c.if-is_err.false c.take_room.ensures.room in
     let long = c.take_room.ensures.notes.1 in
-    let same = c.in-Ok.ensures.owed in
-    (made c.self.inside (after g c) c.args.self.now c.args.held.now c.collect_step.new.held c.in-Ok.event.act c.in-Ok.event.logged c.left-left.result c.self.invariant c.self.view_is c.requires.agree (grows g c) c.in-Ok.ensures.ok c.requires.history c.requires.ready c.in-Ok.ensures.owed).sound
+    let same = c.collect_step.ensures.owed in
+    (made c.self.inside (after g c) c.args.self.now c.args.held.now c.collect_step.new.held c.collect_step.result.act c.collect_step.result.logged c.left-left.result c.self.invariant c.self.view_is c.requires.agree (grows g c) c.collect_step.ensures.collects c.requires.history c.requires.ready c.collect_step.ensures.owed).sound
     (omega (arith, room, same, long, c.add.ensures.len, c.add.ensures.room, c.owed.ensures))
 
 pub returns-clause-event : goal.returns-clause-event
 returns-clause-event g c = λ _.
-    made-event c.self.inside (after g c) c.args.self.now c.args.held.now c.collect_step.new.held c.in-Ok.event.act c.in-Ok.event.logged c.left-left.result c.self.invariant c.self.view_is c.requires.agree (grows g c) c.in-Ok.ensures.ok c.requires.history c.requires.ready c.in-Ok.ensures.owed
+    made-event c.self.inside (after g c) c.args.self.now c.args.held.now c.collect_step.new.held c.collect_step.result.act c.collect_step.result.logged c.left-left.result c.self.invariant c.self.view_is c.requires.agree (grows g c) c.collect_step.ensures.collects c.requires.history c.requires.ready c.collect_step.ensures.owed
     c.answer_of.result c.answer_of.ensures
 
 pub returns-clause-safe : goal.returns-clause-safe
 returns-clause-safe g c =
-    made-safe c.self.inside (after g c) c.args.self.now c.args.held.now c.collect_step.new.held c.in-Ok.event.act c.in-Ok.event.logged c.left-left.result c.self.invariant c.self.view_is c.requires.agree (grows g c) c.in-Ok.ensures.ok c.requires.history c.requires.ready c.in-Ok.ensures.owed
+    made-safe c.self.inside (after g c) c.args.self.now c.args.held.now c.collect_step.new.held c.collect_step.result.act c.collect_step.result.logged c.left-left.result c.self.invariant c.self.view_is c.requires.agree (grows g c) c.collect_step.ensures.collects c.requires.history c.requires.ready c.collect_step.ensures.owed
     c.answer_of.result c.answer_of.ensures
 
 pub returns-clause-lower : goal.returns-clause-lower
 returns-clause-lower g c = λ left e.
-    let told : c.left-left.result ≡ left = told-left c.in-Ok.event.act c.in-Ok.event.logged c.left-left.result left (sym (ap left_told c.answer_of.ensures) ∙ e) in (
+    let told : c.left-left.result ≡ left = told-left c.collect_step.result.act c.collect_step.result.logged c.left-left.result left (sym (ap left_told c.answer_of.ensures) ∙ e) in (
       sym told ∙ c.left-left.ensures,
       λ p.
           let lower =
-          made-lower c.self.inside (after g c) c.args.self.now c.args.held.now c.collect_step.new.held c.in-Ok.event.act c.in-Ok.event.logged c.left-left.result c.self.invariant c.self.view_is c.requires.agree (grows g c) c.in-Ok.ensures.ok c.requires.history c.requires.ready c.in-Ok.ensures.owed
+          made-lower c.self.inside (after g c) c.args.self.now c.args.held.now c.collect_step.new.held c.collect_step.result.act c.collect_step.result.logged c.left-left.result c.self.invariant c.self.view_is c.requires.agree (grows g c) c.collect_step.ensures.collects c.requires.history c.requires.ready c.collect_step.ensures.owed
           (sym (ap pops c.answer_of.ensures) ∙ p) in
           omega (arith, lower, told),
     )
 
 pub returns-clause-agree : goal.returns-clause-agree
 returns-clause-agree g c =
-    (made c.self.inside (after g c) c.args.self.now c.args.held.now c.collect_step.new.held c.in-Ok.event.act c.in-Ok.event.logged c.left-left.result c.self.invariant c.self.view_is c.requires.agree (grows g c) c.in-Ok.ensures.ok c.requires.history c.requires.ready c.in-Ok.ensures.owed).agree
+    (made c.self.inside (after g c) c.args.self.now c.args.held.now c.collect_step.new.held c.collect_step.result.act c.collect_step.result.logged c.left-left.result c.self.invariant c.self.view_is c.requires.agree (grows g c) c.collect_step.ensures.collects c.requires.history c.requires.ready c.collect_step.ensures.owed).agree
 
 pub returns-clause-elsewhere : goal.returns-clause-elsewhere
 returns-clause-elsewhere g c =
-    (made c.self.inside (after g c) c.args.self.now c.args.held.now c.collect_step.new.held c.in-Ok.event.act c.in-Ok.event.logged c.left-left.result c.self.invariant c.self.view_is c.requires.agree (grows g c) c.in-Ok.ensures.ok c.requires.history c.requires.ready c.in-Ok.ensures.owed).elsewhere
+    (made c.self.inside (after g c) c.args.self.now c.args.held.now c.collect_step.new.held c.collect_step.result.act c.collect_step.result.logged c.left-left.result c.self.invariant c.self.view_is c.requires.agree (grows g c) c.collect_step.ensures.collects c.requires.history c.requires.ready c.collect_step.ensures.owed).elsewhere

@@ -1,4 +1,4 @@
-use Rattle.std.proofs.Common.{Some, true, false, rules, ◌≡◌, ℕ, ◌<◌, ◌≤◌, List, refl, sym, ap, ◌∙◌, subst}
+use Rattle.std.proofs.Common.{Some, true, false, rules, ◌≡◌, ℕ, ◌<◌, ◌≤◌, List, sym, ap, ◌∙◌, subst}
 use Rattle.cell_page.specs.declared.cell.Cell.{Cell}
 use Rattle.cell_page.specs.Format.{IsCell, page_of_id}
 use Rattle.cell_model.specs.Cells.{Cell as StoredCell, edit, blank_cell}
@@ -10,8 +10,6 @@ use Rattle.core_store.specs.declared.act.Act.TheVariants as act
 use Rattle.core_store.specs.declared.round_at.RoundAt.TheVariants as at
 use Rattle.core_store.specs.Frames.{Agree, is_held}
 use Rattle.core_store.specs.RoundView.{Rounds, Sweeping, IsInStep}
-use Rattle.core_store.specs.FreeIds.{FreeView}
-use Rattle.core_store.specs.Tables.{TablesView}
 use Rattle.core_store.specs.Collecting.{Collected}
 use Rattle.core_store.specs.Views.{view_of}
 use Rattle.core_store.proofs.AskedLaws.{asked-free}
@@ -19,7 +17,6 @@ use Rattle.core_store.proofs.EndQueue.{not-free}
 use Rattle.core_store.proofs.NextLaws.{one-live}
 use Rattle.core_store.proofs.PlanLaws.{live-id}
 use Rattle.core_store.proofs.FreeRound.{free-collected}
-use Rattle.core_store.proofs.MapLaws.{on_err}
 use Rattle.core_store.proofs.ReadyRound.{can-there, can-pages, can-small}
 use Rattle.core_store.proofs.tables.Tables.free_dead.Goals as goal
 
@@ -28,16 +25,14 @@ insert-requires-clause-within g c =
     let r = c.requires.ready in
     let t = c.args.self.now in
     let id = c.args.id in
-    subst (λ n. id ≤ n) (sym t.free_sized) (one-live r.stands id (live-id r.stands id (can-there (view_of t) r (at.Free id) c.requires.at))).1
+    let of_store = one-live r.stands id (live-id r.stands id (can-there (view_of t) r (at.Free id) c.requires.at)) in
+    (of_store.0, subst (λ n. id ≤ n) (sym t.free_sized) of_store.1)
 
 pub insert-requires-clause-stored : goal.insert-requires-clause-stored
 insert-requires-clause-stored g c =
     let r = c.requires.ready in
     let v = view_of c.args.self.now in
     not-free g.row.SLOTS v r.core r.stands c.args.id (can-there v r (at.Free c.args.id) c.requires.at)
-
-pub returns-in_err-insert-clause-err : goal.returns-in_err-insert-clause-err
-returns-in_err-insert-clause-err g c = on_err c.from_residual.result _ (ap (λ (f : FreeView). let w : TablesView = record (view_of c.args.self.now) { free = f.ids } in w) c.in_err-insert.ensures.err, refl)
 
 pub put_cell-requires : goal.put_cell-requires
 put_cell-requires g c =
@@ -54,14 +49,14 @@ put_cell-requires g c =
       ),
     )
 
-pub invariant_of-self-2 : goal.invariant_of-self-2
-invariant_of-self-2 g c =
+pub invariant_of-self : goal.invariant_of-self
+invariant_of-self g c =
     let t = c.args.self.now in
     let w = asked-free t.round.view c.args.id c.requires.at in
     record { free_sized = c.insert.ensures.limit ∙ t.free_sized; owes = t.owes; queue_sized = t.queue_sized; named_sized = t.named_sized; round_sized = ap (λ (r : Rounds). r.limit) (c.freed.ensures.freed w.0 w.1 w.2 w.3 w.4) ∙ t.round_sized }
 
-pub returns-clause-ok : goal.returns-clause-ok
-returns-clause-ok g c d h agree ready =
+pub returns-clause-collects : goal.returns-clause-collects
+returns-clause-collects g c d h agree ready =
     let v = view_of c.args.self.now in
     let id = c.args.id in
     let w = asked-free v.round id c.requires.at in
@@ -69,7 +64,7 @@ returns-clause-ok g c d h agree ready =
     let step = subst (λ (r : Rounds). IsInStep g.row.SLOTS r.limit r.view) is c.freed.ensures.sound in
     let step_of = subst (λ (n : ℕ). IsInStep g.row.SLOTS n (Sweeping (removed w.0 id) (found w.1 (Made id)) w.2 w.3)) c.args.self.now.round_sized step in
     subst (λ (r : Rounds). Collected g.row.SLOTS v (record v { free = c.insert.new.self.ids; round = r.view }) d c.args.held.now c.put_cell.new.self act.Change (Some (logs.Free id))) (sym is)
-    (free-collected g.row.SLOTS v d h w.0 w.1 w.2 w.3 id w.4 w.5 c.insert.new.self.ids c.in_ok-insert.ensures.ok step_of
+    (free-collected g.row.SLOTS v d h w.0 w.1 w.2 w.3 id w.4 w.5 c.insert.new.self.ids c.insert.ensures.frees step_of
     c.args.held.now c.put_cell.new.self (can-pages v c.requires.ready (at.Free id) c.requires.at).0 (freed d.cells agree))
   where
     freed : (cells : List StoredCell) → Agree cells c.args.held.now → Agree (edit cells c.args.id (λ _. blank_cell false g.row.SLOTS)) c.put_cell.new.self
