@@ -1,5 +1,5 @@
 -- A journal after an event of the collector, and after looks of it.
-use Rattle.std.proofs.Common.{◌≡◌, ℕ, ◌<◌, false, List, refl, sym, ap, ◌∙◌, subst, Option, Some, None, arith}
+use Rattle.std.proofs.Common.{◌≡◌, ℕ, ◌<◌, false, List, [], ◌∷◌, ◌++◌, refl, sym, ap, ◌∙◌, subst, Option, Some, None, arith}
 use Rattle.plain_model.specs.History.{end_of}
 use Rattle.plain_model.specs.Outcomes.{IsReachableInSomeOutcome}
 use Rattle.store_model.specs.Core.{Core, Round}
@@ -12,14 +12,15 @@ use Rattle.core_store.specs.declared.collect.Collect.TheVariants.{Deleted}
 use Rattle.core_store.specs.declared.journal.Journal.TheInside.{Inside}
 use Rattle.core_store.specs.declared.note.Note.{Note}
 use Rattle.core_store.specs.declared.three.HeldFrame.{HeldFrame}
-use Rattle.core_store.specs.Collecting.{Collected, CollectsOne, answer_of, is_pop}
+use Rattle.core_store.specs.declared.trace.Trace.{Trace}
+use Rattle.core_store.specs.Collecting.{Collected, CollectsOne, IsNoted, answer_of, is_pop}
 use Rattle.core_store.specs.Collects.{Collects, BeginsGreen, entry_of}
 use Rattle.core_store.specs.Events.{core_after}
 use Rattle.core_store.specs.Frames.{Agree}
 use Rattle.core_store.specs.JournalView.{JournalView, cells_of, core_of, last_left, with_note}
 use Rattle.core_store.specs.Journal.{view_of, IsJournalInside}
 use Rattle.core_store.specs.Limited.{is_past_limit}
-use Rattle.core_store.specs.RoundView.{IsInStep, Proceeds, round_of}
+use Rattle.core_store.specs.RoundView.{IsInStep, Proceeds, left_of, round_of}
 use Rattle.core_store.specs.Steppings.{IsReadyForCollector, MakesEvent, pops, left_told}
 use Rattle.core_store.specs.Views.{view_of as tables_of}
 use Rattle.core_store.proofs.AskLaws.{ready-collect}
@@ -75,6 +76,18 @@ told-left a (Some (logs.Strengthen x slot target)) left told e = cc
 told-left a (Some (logs.Flip x)) left told e = cc
 told-left a (Some (logs.CutDead x slot target strong)) left told e = cc
 told-left a (Some (logs.Free x)) left told e = cc
+
+-- the journal grew by the note that was entered where room was taken for it before
+pub entered : {slots : ℕ} (a b : Inside slots) (taken : Trace) (event : Act) (logged : Option CellRecord) → b.opening ≡ a.opening → taken.notes.items ≡ a.trace.notes.items → (taken.limits ≡ a.trace.limits) × (taken.marks ≡ a.trace.marks) → IsNoted taken b.trace event logged (left_of slots b.tables.round.view)
+    → Grows a b (collector_note event logged (left_of slots b.tables.round.view))
+entered {slots} a b taken event logged opening items rest n = record {
+  opening = opening;
+  limits = n.limits ∙ rest.0;
+  marks = n.marks ∙ rest.1;
+  reserved = n.reserved;
+  trace = n.items ∙ ap (λ (ns : List Note). ns ++ collector_note event logged (left_of slots b.tables.round.view) ∷ []) items;
+  left = refl;
+}
 
 module _ {slots : ℕ} (a b : Inside slots) (now : JournalView) (held new : List (HeldFrame slots)) (act : Act) (logged : Option CellRecord) (left : ℕ) (s : IsJournalInside a) (is : view_of a ≡ now) (agree : Agree (cells_of now) held)
     (g : Grows a b (collector_note act logged left)) (collects : CollectsOne slots (tables_of a.tables) (tables_of b.tables) held new act logged) (within : is_past_limit now 1 ≡ false) (ready : IsReadyForCollector now held) (same : b.tables.owed ≡ a.tables.owed) where

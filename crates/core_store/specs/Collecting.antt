@@ -1,5 +1,5 @@
 -- What a step of the collector works on, and what it is answered.
-use Rattle.std.specs.Prelude.{◌≡◌, ℕ, Bool, true, false, List, [], Option, Some, None}
+use Rattle.std.specs.Prelude.{◌≡◌, ◌+◌, ◌≤◌, ℕ, Bool, true, false, List, [], ◌∷◌, ◌++◌, Option, Some, None, vec_len, vec_capacity}
 use Rattle.cell_model.specs.Cells.{Cell}
 use Rattle.store_model.specs.Core.{Core}
 use Rattle.log_record.specs.declared.cell_record.CellRecord.{CellRecord}
@@ -7,6 +7,7 @@ use Rattle.log_record.specs.declared.cell_record.CellRecord.TheVariants as logs
 use Rattle.core_store.specs.declared.three.HeldFrame.{HeldFrame}
 use Rattle.core_store.specs.declared.want.Work.{Work}
 use Rattle.core_store.specs.declared.act.Act.{Act}
+use Rattle.core_store.specs.declared.trace.Trace.{Trace}
 use Rattle.core_store.specs.declared.act.Act.TheVariants as act
 use Rattle.core_store.specs.declared.collect.Collect.{Collect}
 use Rattle.core_store.specs.declared.collect.Collect.TheVariants.{Did, Deleted}
@@ -17,7 +18,7 @@ use Rattle.core_store.specs.Slots.{HoldsPagesOf}
 use Rattle.std.specs.Option.{option_map_or}
 use Rattle.core_store.specs.Work.{objects_of, pages_of_work}
 use Rattle.core_store.specs.Events.{core_after}
-use Rattle.core_store.specs.RoundView.{RoundView, asked, is_event, looked_past, Proceeds}
+use Rattle.core_store.specs.RoundView.{RoundView, asked, is_event, left_of, looked_past, Proceeds}
 use Rattle.core_store.specs.Collects.{Collects, BeginsGreen, entry_of}
 use Rattle.core_store.specs.Tables.{TablesView}
 use Rattle.core_store.specs.Stands.{Stands, Moves}
@@ -93,3 +94,20 @@ is_pop _ = false
 abbrev pub answer_of : Act → Option CellRecord → ℕ → Collect
 answer_of act (Some (logs.Free id)) left = Deleted id left
 answer_of act _ left = Did (is_pop act) left
+
+-- the trace has the note of this event behind the others, and else is as it was; what was reserved is given up
+pub record IsNoted (t u : Trace) (event : Act) (logged : Option CellRecord) (left : ℕ) : Type 0 where
+  pub items : u.notes.items ≡ t.notes.items ++ record { entry = entry_of logged; logged = logged; left = left; act = event } ∷ []
+  pub len : vec_len u.notes ≡ vec_len t.notes + 1
+  pub room : vec_capacity t.notes ≤ vec_capacity u.notes
+  pub limits : u.limits ≡ t.limits
+  pub marks : u.marks ≡ t.marks
+  pub reserved : u.reserved ≡ false
+
+-- the collector made the event that comes next, the trace has its note, and the answer tells of it
+pub record EntersOne (slots : ℕ) (v w : TablesView) (held new : List (HeldFrame slots)) (t u : Trace) (answer : Collect) : Type 0 where
+  pub event : Act
+  pub logged : Option CellRecord
+  pub collects : CollectsOne slots v w held new event logged
+  pub noted : IsNoted t u event logged (left_of slots w.round)
+  pub told : answer ≡ answer_of event logged (left_of slots w.round)

@@ -1,21 +1,24 @@
 //! The events of the collector: which one comes next, and those that change no cell.
-ghost use Rattle.std.specs.Prelude.{◌≡◌, ℕ, ◌<◌, ◌≤◌, List, length, Bool, not, ◌&&◌, get_or, false};
+ghost use Rattle.std.specs.Prelude.{◌≡◌, ℕ, ◌<◌, ◌≤◌, List, length, Bool, not, ◌&&◌, get_or, false, vec_len, vec_capacity};
 ghost use Rattle.store_model.specs.Core.{Core};
 ghost use Rattle.core_store.specs.declared.three.HeldFrame.{HeldFrame};
-ghost use Rattle.core_store.specs.RoundView.{Closed, is_closed, asked};
+ghost use Rattle.core_store.specs.RoundView.{Closed, is_closed, asked, left_of};
 ghost use Rattle.core_store.specs.Frames.{pages_held};
 ghost use Rattle.core_store.specs.Views.{view_of};
 ghost use Rattle.core_store.specs.Stands.{Stands};
 ghost use Rattle.core_store.specs.Steps.{AreNames, JoinsIfLoose};
-ghost use Rattle.core_store.specs.Collecting.{CanCollect, CollectsOne, answer_of};
+ghost use Rattle.core_store.specs.Collecting.{CanCollect, CollectsOne, answer_of, IsNoted, EntersOne};
 ghost use Rattle.core_store.specs.Queued.{is_none_queued};
 ghost use Rattle.core_store.specs.Collects.{entry_of};
 
 use crate::act::Act;
 use crate::collect::Collect;
+use crate::note::Note;
+use crate::round::Round;
 use crate::round_at::RoundAt;
 use crate::tables::Tables;
 use crate::three::Three;
+use crate::trace::Trace;
 use log_record::CellRecord;
 use plain_model::Entry;
 
@@ -26,6 +29,24 @@ pub(crate) struct Event {
     pub(crate) logged: Option<CellRecord>,
 }
 
+/// Adds the note of an event that was made, behind which the round stands so, and for which there is room. Tells what the event
+/// did.
+#[inline(always)]
+fn enter<const SLOTS: usize>(event: Event, round: &Round<SLOTS>, trace: &mut Trace) -> Collect
+    requires room { vec_len trace.old.notes < vec_capacity trace.old.notes }
+    ensures noted { IsNoted trace.old trace.new event.act event.logged (left_of SLOTS round.now.view) }
+    ensures answer { result ≡ answer_of event.act event.logged (left_of SLOTS round.now.view) }
+{
+    let left = round.left();
+    trace.add(Note {
+        entry: entry_of(event.logged),
+        logged: event.logged,
+        left,
+        act: event.act,
+    });
+    answer_of(event, left)
+}
+
 impl<const SLOTS: usize> Tables<SLOTS> {
     /// Whether the queue is empty and no round is open.
     pub(crate) fn is_idle(&self) -> bool
@@ -34,31 +55,39 @@ impl<const SLOTS: usize> Tables<SLOTS> {
         self.round.is_closed() && self.queue.len() == 0
     }
 
-    /// Makes the event that comes next.
-    pub(crate) fn collect_step(&mut self, held: &mut Three<SLOTS>, next: RoundAt) -> Event
+    /// Makes the event that comes next, adds its note, for which there is room, and tells what it did.
+    #[inline(always)]
+    pub(crate) fn collect_step(
+        &mut self,
+        trace: &mut Trace,
+        held: &mut Three<SLOTS>,
+        next: RoundAt,
+    ) -> Collect
         requires next { next ≡ asked (view_of self.old).round }
         requires ready { CanCollect (view_of self.old) held.old }
         requires busy { (is_closed (view_of self.old).round && is_none_queued (view_of self.old).queue) ≡ false }
-        ensures collects { CollectsOne SLOTS (view_of self.old) (view_of self.new) held.old held.new result.act result.logged }
+        requires room { vec_len trace.old.notes < vec_capacity trace.old.notes }
+        ensures enters { EntersOne SLOTS (view_of self.old) (view_of self.new) held.old held.new trace.old trace.new result }
         ensures owed { self.new.owed ≡ self.old.owed }
         ensures pages { pages_held held.new ≡ pages_held held.old }
     {
         match next {
-            RoundAt::Queue => self.begin_round(),
-            RoundAt::Look { id, slot } => self.weaken(held, id, slot),
-            RoundAt::Copy { id } => self.copy(held, id),
-            RoundAt::Judge => self.judge(),
-            RoundAt::Cut { id, slot } => self.cut_dead(held, id, slot),
-            RoundAt::Free { id } => self.free_dead(held, id),
-            RoundAt::Flip { id } => self.flip(held, id),
-            RoundAt::Into { from, slot, to } => self.weaken_into(held, from, slot, to),
-            RoundAt::Strengthen { from, slot, to } => self.strengthen(held, from, slot, to),
-            RoundAt::End => self.end_round(),
+            RoundAt::Queue => enter(self.begin_round(), &self.round, trace),
+            RoundAt::Look { id, slot } => enter(self.weaken(held, id, slot), &self.round, trace),
+            RoundAt::Copy { id } => enter(self.copy(held, id), &self.round, trace),
+            RoundAt::Judge => enter(self.judge(), &self.round, trace),
+            RoundAt::Cut { id, slot } => enter(self.cut_dead(held, id, slot), &self.round, trace),
+            RoundAt::Free { id } => enter(self.free_dead(held, id), &self.round, trace),
+            RoundAt::Flip { id } => enter(self.flip(held, id), &self.round, trace),
+            RoundAt::Into { from, slot, to } => {
+                enter(self.weaken_into(held, from, slot, to), &self.round, trace)
+            }
+            RoundAt::Strengthen { from, slot, to } => {
+                enter(self.strengthen(held, from, slot, to), &self.round, trace)
+            }
+            RoundAt::End => enter(self.end_round(), &self.round, trace),
             // Looks are made before.
-            RoundAt::Seed { .. } | RoundAt::Test { .. } | RoundAt::Out { .. } => Event {
-                act: Act::Other,
-                logged: None,
-            },
+            RoundAt::Seed { .. } | RoundAt::Test { .. } | RoundAt::Out { .. } => Collect::Idle,
         }
     }
 
@@ -161,7 +190,8 @@ impl<const SLOTS: usize> Tables<SLOTS> {
 }
 
 /// The history's entry of an event of the collector.
-pub(crate) fn entry_of(logged: Option<CellRecord>) -> Entry
+#[inline(always)]
+fn entry_of(logged: Option<CellRecord>) -> Entry
     ensures { result ≡ entry_of logged }
 {
     match logged {
@@ -171,7 +201,8 @@ pub(crate) fn entry_of(logged: Option<CellRecord>) -> Entry
 }
 
 /// What a step of the collector is answered that made this event.
-pub(crate) fn answer_of(event: Event, left: u64) -> Collect
+#[inline(always)]
+fn answer_of(event: Event, left: u64) -> Collect
     ensures { result ≡ answer_of event.act event.logged left }
 {
     if let Some(CellRecord::Free { id }) = event.logged {

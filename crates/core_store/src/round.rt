@@ -140,6 +140,7 @@ impl<const SLOTS: usize> Round<SLOTS> {
     }
 
     /// What the collector looks at or does next.
+    #[inline(always)]
     pub(crate) fn at(&self) -> RoundAt
         ensures next { result ≡ asked self.now.view }
         // What holds of every round.
