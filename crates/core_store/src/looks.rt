@@ -137,10 +137,12 @@ impl<const SLOTS: usize> Tables<SLOTS> {
         }
     }
 
-    /// Looks at what the held pages show, and goes on where there is nothing to do, up to the next event. All pages are held.
-    pub(crate) fn look_on(&mut self, held: &Three<SLOTS>)
+    /// Looks at what the held pages show, and goes on where there is nothing to do, up to the next event, and tells what that
+    /// works at. All pages are held.
+    pub(crate) fn look_on(&mut self, held: &Three<SLOTS>) -> RoundAt
         requires standing { IsStanding (view_of self.old) held.now }
         requires all { HoldsAll self.old.ids held.now }
+        ensures at { result ≡ asked (view_of self.new).round }
         ensures passes { (c : Core) → Stands SLOTS (view_of self.old) c → Agree c.cells held.now → Passes SLOTS c.cells (view_of self.old).round (view_of self.new).round }
         ensures stands { (c : Core) → Stands SLOTS (view_of self.old) c → Agree c.cells held.now → Stands SLOTS (view_of self.new) c }
         ensures event { (c : Core) → Stands SLOTS (view_of self.old) c → Agree c.cells held.now → is_event c.cells (asked (view_of self.new).round) ≡ true }
@@ -149,7 +151,7 @@ impl<const SLOTS: usize> Tables<SLOTS> {
         'looks: loop {
             let at = self.next_look(held);
             if is_event(held, at) {
-                return;
+                return at;
             }
             self.look_past(held, at);
         }

@@ -226,8 +226,8 @@ impl<const SLOTS: usize, D: Disk> FramedJournal<SLOTS, D> {
             });
         }
         let frames = self.frames.as_slice();
-        hold_for_collect_step(&mut self.logged, frames, &mut self.held);
-        let step = self.logged.collect_step(&mut self.held);
+        let at = hold_for_collect_step(&mut self.logged, frames, &mut self.held);
+        let step = self.logged.collect_at(&mut self.held, at);
         put_back(&mut self.frames, &mut self.held);
         step
     }

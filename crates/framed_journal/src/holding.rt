@@ -1,19 +1,20 @@
 //! Which frames are held before a call, and how they are put back behind it.
-ghost use Rattle.std.specs.Prelude.{◌≡◌, ◌≢◌, ℕ, ◌*◌, ◌<◌, ◌≤◌, [], length, None};
+ghost use Rattle.std.specs.Prelude.{◌≡◌, ◌≢◌, ◌⊎◌, ◌↔◌, ℕ, ◌*◌, ◌<◌, ◌≤◌, [], length, true, None, IfSome};
 ghost use Rattle.std.specs.List.{AllByRecursion};
 ghost use Rattle.plain_model.specs.Machine.{IsInRange, transaction_of};
 ghost use Rattle.plain_model.specs.History.{end_of};
 ghost use Rattle.cell_page.specs.Format.{IsSlotCount};
 ghost use Rattle.core_store.specs.JournalView.{JournalView, cells_of};
 ghost use Rattle.core_store.specs.Frames.{pages_held, HasPages};
-ghost use Rattle.core_store.specs.Limited.{pages_for_call, pages_for_collector};
+ghost use Rattle.core_store.specs.Limited.{is_past_limit, pages_for_call, pages_for_collector};
+ghost use Rattle.core_store.specs.RoundView.{Closed, asked};
 ghost use Rattle.core_store.specs.Logged.{want_of, pages_for_undo};
 ghost use Rattle.core_store.specs.Replaced.{next_to_restore};
 ghost use Rattle.core_store.specs.Work.{IsWorkIn, pages_of_work};
 ghost use Rattle.core_store.specs.Steppings.{IsReadyForCollector, OnlyLooks};
 ghost use Rattle.framed_journal.specs.Holding.{AreFramesOf, AreFramesIn, AreHeldOf, IsHeldFor, FollowsChange, PutsAllBack};
 
-use core_store::{Frame, Journal, Three, Want, Work};
+use core_store::{Frame, Journal, RoundAt, Three, Want, Work};
 use disk_model::Disk;
 use logged_journal::LoggedJournal;
 use plain_model::Call;
@@ -160,24 +161,26 @@ fn hold_for_looks<const SLOTS: usize, D: Disk>(
     }
 }
 
-/// Holds the frames that the collector's next event needs. The collector looks at what they show, and goes on where there
-/// is nothing to do.
+/// Holds the frames that the collector's next event needs, and tells what that works at: nothing where it would make none. The
+/// collector looks at what they show, and goes on where there is nothing to do.
 pub(crate) fn hold_for_collect_step<const SLOTS: usize, D: Disk>(
     logged: &mut LoggedJournal<SLOTS, D>,
     frames: &[Frame<SLOTS>],
     held: &mut Three<SLOTS>,
-)
+) -> Option<RoundAt>
     requires frames { AreFramesIn logged.old.journal frames.now held.old }
     ensures held { IsHeldFor logged.new.journal held.old held.new }
     ensures ready { IsReadyForCollector logged.new.journal held.new }
+    ensures none { (result ≡ None) ↔ (is_past_limit logged.new.journal 1 ≡ true) ⊎ ((logged.new.journal.queue ≡ []) × (logged.new.journal.round ≡ Closed)) }
+    ensures at { IfSome result (λ at. at ≡ asked logged.new.journal.round) }
     ensures same { logged.new ≡ record logged.old { journal = logged.new.journal } }
     ensures looks { OnlyLooks SLOTS logged.old.journal logged.new.journal }
 {
     if held.is_whole() {
-        logged.look_on(held);
-    } else {
-        hold_for_looks(logged, frames, held);
+        return logged.look_on(held);
     }
+    hold_for_looks(logged, frames, held);
+    logged.journal().next_event()
 }
 
 /// Puts the frames back into their places, where three are held at most.

@@ -32,18 +32,20 @@ impl<const SLOTS: usize, D: Disk> LoggedJournal<SLOTS, D> {
         self.journal.wants_collect_step(held)
     }
 
-    /// Looks at what the held pages show, and goes on where there is nothing to do, up to the collector's next event. All pages
-    /// of the store are held.
+    /// Looks at what the held pages show, and goes on where there is nothing to do, up to the collector's next event, and tells
+    /// what that works at: nothing where it would make none. All pages of the store are held.
     ///
     /// Nothing else changes, and no event is made.
-    pub fn look_on(&mut self, held: &Three<SLOTS>)
+    pub fn look_on(&mut self, held: &Three<SLOTS>) -> Option<RoundAt>
         requires agree { Agree (cells_of self.old.journal) held.now }
         requires all { HoldsAll self.old.journal.history.ids held.now }
         ensures ready { IsReadyForCollector self.new.journal held.now }
         ensures looks { OnlyLooks SLOTS self.old.journal self.new.journal }
+        ensures none { (result ≡ None) ↔ (is_past_limit self.new.journal 1 ≡ true) ⊎ ((self.new.journal.queue ≡ []) × (self.new.journal.round ≡ Closed)) }
+        ensures at { IfSome result (λ at. at ≡ asked self.new.journal.round) }
         ensures same { self.new ≡ record self.old { journal = self.new.journal } }
     {
-        self.journal.look_on(held);
+        self.journal.look_on(held)
     }
 
     /// A step of the collector that makes no event. It logs nothing.
@@ -115,13 +117,40 @@ impl<const SLOTS: usize, D: Disk> LoggedJournal<SLOTS, D> {
                 faults: failed.faults,
             });
         }
-        let Some(at) = self.journal.next_event() else {
+        let at = self.journal.next_event();
+        self.collect_at(held, at)
+    }
+
+    /// The same, where the disk failed no call before and it is known what the next event works at: nothing where it would make
+    /// none.
+    #[inline(always)]
+    pub fn collect_at(
+        &mut self,
+        held: &mut Three<SLOTS>,
+        at: Option<RoundAt>,
+    ) -> Result<Collect, CollectRefusal>
+        requires agree { Agree (cells_of self.old.journal) held.old }
+        requires ready { IsReadyForCollector self.old.journal held.old }
+        requires running { self.old.failed ≡ None }
+        requires none { (at ≡ None) ↔ (is_past_limit self.old.journal 1 ≡ true) ⊎ ((self.old.journal.queue ≡ []) × (self.old.journal.round ≡ Closed)) }
+        requires at { IfSome at (λ place. place ≡ asked self.old.journal.round) }
+        ensures never_stopped { (faults : ℕ) → IsErrOf result (CollectRefusal.Stopped faults) → ⊥ }
+        ensures log_full { (IsErrOf result CollectRefusal.LogFull) ↔ IsPastLogToCollect self.old }
+        ensures log_marked { IsErrOf result CollectRefusal.LogFull → (self.new ≡ record self.old { log_full = true }) × (held.new ≡ held.old) }
+        ensures does { IfOk result (λ step. DoesCollect SLOTS self.old.journal self.new.journal step) }
+        ensures goes_on { IfOk result (λ _. GoesOn self.old self.new) }
+        ensures frames { KeepsFrames self.old.journal self.new.journal held.old held.new }
+        ensures same { IfOk result (λ step. (step ≡ Collect.TraceFull) ⊎ (step ≡ Collect.Idle) ⊎ (step ≡ Collect.Memory) → held.new ≡ held.old) }
+        ensures untouched { KeepsDisk self.old self.new }
+    {
+        let _ = &self.journal;
+        let Some(place) = at else {
             return Ok(self.rest(held));
         };
-        if self.is_past(at.record_length()) {
+        if self.is_past(place.record_length()) {
             self.mark_full();
             return Err(CollectRefusal::LogFull);
         }
-        Ok(self.log_step(held, at))
+        Ok(self.log_step(held, place))
     }
 }
