@@ -1,31 +1,33 @@
--- The collector goes to a slot further on, over null slots: this is a run of looks.
+-- The collector goes to a slot further on, over slots at which there is nothing to do: this is a run of looks.
 use Rattle.std.proofs.Common.{◌≡◌, ◌≢◌, ℕ, zero, suc, ◌+◌, ◌-◌, ◌<◌, ◌≤◌, List, drop, length, Bool, false, Some, refl, sym, ap, ◌∙◌, subst, arith}
-use Rattle.std.specs.Prelude.{◌==◌, if◌then◌else◌}
+use Rattle.std.specs.Prelude.{◌==◌, ◌&&◌, if◌then◌else◌}
 use Rattle.std.proofs.lemmas.Bool.{ne_eqb}
-use Rattle.cell_model.specs.Cells.{Cell, pointer_at}
+use Rattle.cell_model.specs.Cells.{Cell, cell_at, pointer_at}
 use Rattle.store_model.specs.Core.{Core}
 use Rattle.red_walk.specs.Walk.{Walk, moved_to}
 use Rattle.red_walk.proofs.KeptLaws.{moved-to-law}
 use Rattle.green_walk.specs.declared.sweep.Found.TheVariants.{Nothing}
 use Rattle.green_walk.specs.Sweeping.{SweepState as Sweep}
-use Rattle.green_walk.specs.Greening.{Greening, found, tested, tested_to, walked_to}
+use Rattle.green_walk.specs.Greening.{GreenStage, AtSeed, AtInto, AtOut, Greening, found, settled, tested, tested_to, waits, walked_at, walked_to}
+use Rattle.green_walk.proofs.GreenSteps.{settled-waits}
 use Rattle.green_walk.proofs.JumpLaws.{tested-to-law, walked-to-law}
 use Rattle.core_store.specs.declared.round_at.RoundAt.{RoundAt}
 use Rattle.core_store.specs.declared.round_at.RoundAt.TheVariants as at
 use Rattle.core_store.specs.declared.three.HeldFrame.{HeldFrame}
-use Rattle.core_store.specs.RoundView.{RoundView, Walking, Sweeping, asked, is_event, is_white, looked_past, passed_by_sweep, to_slot, swept_to, looked_to}
+use Rattle.core_store.specs.RoundView.{RoundView, Walking, Sweeping, asked, is_event, is_white, looked_past, passed_by_sweep, to_slot, swept_to, looked_to, Passes, more}
 use Rattle.core_store.specs.Tables.{TablesView}
 use Rattle.core_store.specs.Stands.{Stands}
 use Rattle.core_store.specs.Frames.{Agree}
 use Rattle.core_store.specs.Ready.{IsStanding}
-use Rattle.core_store.specs.Nulls.{slot_at}
+use Rattle.core_store.specs.Changes.{has_no_strong, is_counted_strong}
+use Rattle.core_store.specs.Nulls.{slot_at, at_slot, waits_in, is_white_in, IsIdleAt}
 use Rattle.core_store.proofs.AskedLaws.{asked-look, asked-cut}
 use Rattle.core_store.proofs.SeenLaws.{GreenOf, green-of, passed-by}
 use Rattle.core_store.proofs.RoundLaws.{green-goes}
 use Rattle.core_store.proofs.PassLaws.{HasPassed, passed-none, passed-more}
-use Rattle.core_store.proofs.NullLaws.{at_slot, IsNullAt, look-on, sweeps, null-weak, null-white, null-idle, null-next, null-here, same-slot}
+use Rattle.core_store.proofs.NullLaws.{look-on, sweeps, white-in, idle-nothing, idle-next, null-idle, same-slot}
 
--- ---- to go on from a null slot is to go to the next one
+-- ---- to go on from such a slot is to go to the next one
 
 look-goes : (slots : ℕ) (cells : List Cell) (r : RoundView) (id k : ℕ) → asked r ≡ at.Look id k → looked_past slots cells r ≡ looked_to slots r (k + 1)
 look-goes slots cells r id k e =
@@ -39,37 +41,69 @@ cut-goes slots cells r id k e =
     let x = asked-cut r id k e in
     ap (looked_past slots cells) x.3 ∙ (ap (passed_by_sweep slots cells x.0 x.1 k x.2) x.4 ∙ sym (ap (λ (q : RoundView). looked_to slots q (k + 1)) x.3 ∙ ap (swept_to slots x.0 x.1 k x.2 (k + 1)) x.4))
 
-test-goes : (slots : ℕ) (cells : List Cell) (r : RoundView) (id k : ℕ) → asked r ≡ at.Test id k → (pointer_at cells id k).target ≡ 0 → looked_past slots cells r ≡ looked_to slots r (k + 1)
-test-goes slots cells r id k e zero_there =
+test-goes : (slots : ℕ) (cells : List Cell) (r : RoundView) (id k : ℕ) → asked r ≡ at.Test id k → is_counted_strong cells (pointer_at cells id k) ≡ false → looked_past slots cells r ≡ looked_to slots r (k + 1)
+test-goes slots cells r id k e weak =
     let x = green-of r (at.Test id k) tt e in
     let g = x.of in
-    let past : looked_past slots cells r ≡ Sweeping x.walk x.swept x.slot (tested g) = x.passes slots cells ∙ ap (λ (b : Bool). Sweeping x.walk x.swept x.slot (if b then found g Nothing else tested g)) (null-weak cells id k zero_there) in
+    let past : looked_past slots cells r ≡ Sweeping x.walk x.swept x.slot (tested g) = x.passes slots cells ∙ ap (λ (b : Bool). Sweeping x.walk x.swept x.slot (if b then found g Nothing else tested g)) weak in
     let jump : tested g ≡ tested_to g (k + 1) = (tested-to-law g x.asks.0 0 0 x.asks.1).0 ∙ ap (λ (n : ℕ). tested_to g (n + 1)) x.asks.3 in
     past ∙ (ap (Sweeping x.walk x.swept x.slot) jump ∙ sym (x.goes slots (k + 1)))
 
-module _ {slots : ℕ} {v : TablesView} {c : Core} (h : Stands slots v c) where
-  out-goes : («from» k : ℕ) → asked v.round ≡ at.Out «from» k → (pointer_at c.cells «from» k).target ≡ 0 → looked_past slots c.cells v.round ≡ looked_to slots v.round (k + 1)
-  out-goes «from» k e zero_there =
-      let x = green-of v.round (at.Out «from» k) tt e in
-      let g = x.of in
-      let white : is_white c.cells g (pointer_at c.cells «from» k).target ≡ false = ap (is_white c.cells g) zero_there ∙ null-white h x in
-      let past : looked_past slots c.cells v.round ≡ Sweeping x.walk x.swept x.slot (found g Nothing) = x.passes slots c.cells ∙ rw white refl in
-      past ∙ (ap (Sweeping x.walk x.swept x.slot) (walked-to-law g «from» k 0 0 x.asks.0).0 ∙ sym (x.goes slots (k + 1)))
+out-goes : (slots : ℕ) (cells : List Cell) (r : RoundView) («from» k : ℕ) → asked r ≡ at.Out «from» k → is_white_in cells r (pointer_at cells «from» k).target ≡ false → looked_past slots cells r ≡ looked_to slots r (k + 1)
+out-goes slots cells r «from» k e idle =
+    let x = green-of r (at.Out «from» k) tt e in
+    let g = x.of in
+    let white : is_white cells g (pointer_at cells «from» k).target ≡ false = white-in cells x (pointer_at cells «from» k).target ∙ idle in
+    let past : looked_past slots cells r ≡ Sweeping x.walk x.swept x.slot (found g Nothing) = x.passes slots cells ∙ rw white refl in
+    past ∙ (ap (Sweeping x.walk x.swept x.slot) (walked-to-law g «from» k 0 0 x.asks.0).0 ∙ sym (x.goes slots (k + 1)))
 
-  pub null-goes : (r : RoundAt) (k : ℕ) → asked v.round ≡ at_slot r k → IsNullAt c.cells (at_slot r k) → looked_past slots c.cells v.round ≡ looked_to slots v.round (k + 1)
-  null-goes (at.Look id slot) k e zero_there = look-goes slots c.cells v.round id k e
-  null-goes (at.Cut id slot) k e zero_there = cut-goes slots c.cells v.round id k e
-  null-goes (at.Test id slot) k e zero_there = test-goes slots c.cells v.round id k e zero_there
-  null-goes (at.Out «from» slot) k e zero_there = out-goes «from» k e zero_there
-  null-goes at.Queue k e none = absurd none
-  null-goes (at.Copy id) k e none = absurd none
-  null-goes at.Judge k e none = absurd none
-  null-goes (at.Free id) k e none = absurd none
-  null-goes (at.Seed id) k e none = absurd none
-  null-goes (at.Flip id) k e none = absurd none
-  null-goes (at.Into «from» slot to) k e none = absurd none
-  null-goes (at.Strengthen «from» slot to) k e none = absurd none
-  null-goes at.End k e none = absurd none
+idle-goes : (slots : ℕ) (cells : List Cell) (q : RoundView) (r : RoundAt) (k : ℕ) → asked q ≡ at_slot r k → IsIdleAt cells q (at_slot r k) → looked_past slots cells q ≡ looked_to slots q (k + 1)
+idle-goes slots cells q (at.Look id slot) k e idle = look-goes slots cells q id k e
+idle-goes slots cells q (at.Cut id slot) k e idle = cut-goes slots cells q id k e
+idle-goes slots cells q (at.Test id slot) k e idle = test-goes slots cells q id k e idle
+idle-goes slots cells q (at.Out «from» slot) k e idle = out-goes slots cells q «from» k e idle
+idle-goes slots cells q at.Queue k e idle = absurd idle
+idle-goes slots cells q (at.Copy id) k e idle = absurd idle
+idle-goes slots cells q at.Judge k e idle = absurd idle
+idle-goes slots cells q (at.Free id) k e idle = absurd idle
+idle-goes slots cells q (at.Seed id) k e idle = absurd idle
+idle-goes slots cells q (at.Flip id) k e idle = absurd idle
+idle-goes slots cells q (at.Into «from» slot to) k e idle = absurd idle
+idle-goes slots cells q (at.Strengthen «from» slot to) k e idle = absurd idle
+idle-goes slots cells q at.End k e idle = absurd idle
+
+-- ---- what waits goes on to wait
+
+at-waits : (g : Greening) (st : GreenStage) (n id : ℕ) → waits (walked_at g st n) id ≡ waits g id
+at-waits g (AtOut place slot) n id = refl
+at-waits g AtSeed n id = refl
+at-waits g (AtInto flipped rest) n id = refl
+
+walked-waits : (g : Greening) (n id : ℕ) → waits (walked_to g n) id ≡ waits g id
+walked-waits g n id = at-waits (settled g) (settled g).stage n id ∙ settled-waits g id
+
+out-waits : (slots : ℕ) (r : RoundView) («from» j n id : ℕ) → asked r ≡ at.Out «from» j → waits_in (looked_to slots r n) id ≡ waits_in r id
+out-waits slots r «from» j n id e =
+    let x = green-of r (at.Out «from» j) tt e in
+    ap (λ (q : RoundView). waits_in q id) (x.goes slots n) ∙ (walked-waits x.of n id ∙ sym (ap (λ (q : RoundView). waits_in q id) x.is))
+
+-- so there is nothing to do at a slot where there was nothing before the looks
+idle-behind : (slots : ℕ) (cells : List Cell) (q : RoundView) (r : RoundAt) (n k : ℕ) → asked q ≡ r → IsIdleAt cells q (at_slot r k) → IsIdleAt cells (looked_to slots q n) (at_slot r k)
+idle-behind slots cells q (at.Look id slot) n k e idle = idle
+idle-behind slots cells q (at.Cut id slot) n k e idle = idle
+idle-behind slots cells q (at.Test id slot) n k e idle = idle
+idle-behind slots cells q (at.Out «from» slot) n k e idle =
+    let to = (pointer_at cells «from» k).target in
+    ap (λ (b : Bool). b && has_no_strong (cell_at cells to)) (out-waits slots q «from» slot n to e) ∙ idle
+idle-behind slots cells q at.Queue n k e idle = absurd idle
+idle-behind slots cells q (at.Copy id) n k e idle = absurd idle
+idle-behind slots cells q at.Judge n k e idle = absurd idle
+idle-behind slots cells q (at.Free id) n k e idle = absurd idle
+idle-behind slots cells q (at.Seed id) n k e idle = absurd idle
+idle-behind slots cells q (at.Flip id) n k e idle = absurd idle
+idle-behind slots cells q (at.Into «from» slot to) n k e idle = absurd idle
+idle-behind slots cells q (at.Strengthen «from» slot to) n k e idle = absurd idle
+idle-behind slots cells q at.End n k e idle = absurd idle
 
 -- ---- who goes to a slot and from there to another one has gone to that one
 
@@ -122,7 +156,7 @@ module _ {slots : ℕ} {v : TablesView} {c : Core} (h : Stands slots v c) where
   goes-twice (at.Strengthen i s to) id slot j k m is e l f = absurd (cc)
   goes-twice at.End id slot j k m is e l f = absurd (cc)
 
--- ---- over several null slots
+-- ---- over several slots
 
 module _ {slots : ℕ} (v : TablesView) (held : List (HeldFrame slots)) (t : IsStanding v held) (r : RoundAt) (id first : ℕ) (is : slot_at r ≡ Some (id, first)) (e : asked v.round ≡ r) where
   abbrev gone : ℕ → TablesView
@@ -133,60 +167,64 @@ module _ {slots : ℕ} (v : TablesView) (held : List (HeldFrame slots)) (t : IsS
     pub passed : HasPassed slots v (gone n) held
     pub next : n < slots → asked (looked_to slots v.round n) ≡ at_slot r n
 
-  -- the slot is null in all cells with these held pages
-  abbrev pub IsNull : ℕ → Type 0
-  IsNull k = (d : Core) → Agree d.cells held → (pointer_at d.cells id k).target ≡ 0
+  -- there is nothing to do at this slot in whatever stands behind the tables and these held pages
+  abbrev pub IsIdle : ℕ → Type 0
+  IsIdle k = (d : Core) → Stands slots v d → Agree d.cells held → IsIdleAt d.cells v.round (at_slot r k)
 
   at-first : asked v.round ≡ at_slot r first
   at-first = e ∙ sym (same-slot r id first is)
 
-  gone-first : IsNull first → IsGone (first + 1)
-  gone-first null =
-      let here : (d : Core) → Agree d.cells held → IsNullAt d.cells (at_slot r first) = λ d agree. null-here d.cells r id first first is (null d agree) in
-      let nothing : (d : Core) → Agree d.cells held → is_event d.cells (asked v.round) ≡ false = λ d agree. ap (is_event d.cells) at-first ∙ null-idle d.cells (at_slot r first) (here d agree) in
-      let goes : (d : Core) → Stands slots v d → Agree d.cells held → looked_to slots v.round (first + 1) ≡ looked_past slots d.cells v.round = λ d h agree. sym (null-goes h r first at-first (here d agree)) in
+  gone-first : IsIdle first → IsGone (first + 1)
+  gone-first idle =
+      let nothing : (d : Core) → Stands slots v d → Agree d.cells held → is_event d.cells (asked v.round) ≡ false = λ d h agree. ap (is_event d.cells) at-first ∙ idle-nothing d.cells v.round (at_slot r first) (idle d h agree) in
+      let goes : (d : Core) → Stands slots v d → Agree d.cells held → looked_to slots v.round (first + 1) ≡ looked_past slots d.cells v.round = λ d h agree. sym (idle-goes slots d.cells v.round r first at-first (idle d h agree)) in
       record {
         passed = passed-more slots v v (gone (first + 1)) held (passed-none slots v held) (record {
           same = refl;
-          nothing = λ d h agree. nothing d agree;
+          nothing = nothing;
           passes = goes;
-          stands = λ d h agree. (passed-by h (looked_to slots v.round (first + 1)) (nothing d agree) (goes d h agree)).stands;
+          stands = λ d h agree. (passed-by h (looked_to slots v.round (first + 1)) (nothing d h agree) (goes d h agree)).stands;
         });
-        next = λ l. ap asked (goes t.core t.stands t.agree) ∙ null-next t.stands r first at-first (here t.core t.agree) l;
+        next = λ l. ap asked (goes t.core t.stands t.agree) ∙ idle-next t.stands r first at-first (idle t.core t.stands t.agree) l;
       }
 
-  gone-more : (n : ℕ) → IsGone n → n < slots → IsNull n → IsGone (n + 1)
-  gone-more n g l null =
+  gone-more : (n : ℕ) → IsGone n → n < slots → IsIdle n → IsGone (n + 1)
+  gone-more n g l idle =
       let u = gone n in
       let at_n = g.next l in
-      let here : (d : Core) → Agree d.cells held → IsNullAt d.cells (at_slot r n) = λ d agree. null-here d.cells r id first n is (null d agree) in
-      let nothing : (d : Core) → Agree d.cells held → is_event d.cells (asked u.round) ≡ false = λ d agree. ap (is_event d.cells) at_n ∙ null-idle d.cells (at_slot r n) (here d agree) in
+      let here : (d : Core) → Stands slots v d → Agree d.cells held → IsIdleAt d.cells u.round (at_slot r n) = λ d h agree. idle-behind slots d.cells v.round r n n e (idle d h agree) in
+      let nothing : (d : Core) → Stands slots v d → Agree d.cells held → is_event d.cells (asked u.round) ≡ false = λ d h agree. ap (is_event d.cells) at_n ∙ idle-nothing d.cells u.round (at_slot r n) (here d h agree) in
       let twice : looked_to slots u.round (n + 1) ≡ looked_to slots v.round (n + 1) = goes-twice t.stands r id first first n (n + 1) is at-first l at_n in
-      let goes : (d : Core) → Stands slots u d → Agree d.cells held → looked_to slots v.round (n + 1) ≡ looked_past slots d.cells u.round = λ d h agree. sym (null-goes h r n at_n (here d agree) ∙ twice) in
+      let goes : (d : Core) → Stands slots v d → Agree d.cells held → looked_to slots v.round (n + 1) ≡ looked_past slots d.cells u.round = λ d h agree. sym (idle-goes slots d.cells u.round r n at_n (here d h agree) ∙ twice) in
       let before = g.passed.stands t.core t.stands t.agree in
       record {
-        passed = passed-more slots v u (gone (n + 1)) held g.passed (record {
+        passed = record {
           same = refl;
-          nothing = λ d h agree. nothing d agree;
-          passes = goes;
-          stands = λ d h agree. (passed-by h (looked_to slots v.round (n + 1)) (nothing d agree) (goes d h agree)).stands;
-        });
-        next = λ m. ap asked (goes t.core before t.agree) ∙ null-next before r n at_n (here t.core t.agree) m;
+          passes = λ d h agree. subst (λ (q : RoundView). Passes slots d.cells v.round q) (sym (goes d h agree)) (more u.round (g.passed.passes d h agree) (nothing d h agree));
+          stands = λ d h agree. (passed-by (g.passed.stands d h agree) (looked_to slots v.round (n + 1)) (nothing d h agree) (goes d h agree)).stands;
+        };
+        next = λ m. ap asked (goes t.core t.stands t.agree) ∙ idle-next before r n at_n (here t.core t.stands t.agree) m;
       }
 
-  gone-behind : (n : ℕ) → first + 1 + n ≤ slots → ((k : ℕ) → first ≤ k → k < first + 1 + n → IsNull k) → IsGone (first + 1 + n)
-  gone-behind zero l null = subst IsGone (omega arith) (gone-first (null first (omega arith) (omega arith)))
-  gone-behind (suc n) l null =
-      subst IsGone (omega arith) (gone-more (first + 1 + n) (gone-behind n (omega (arith, l)) (λ k a b. null k a (omega (arith, b)))) (omega (arith, l)) (null (first + 1 + n) (omega arith) (omega arith)))
+  gone-behind : (n : ℕ) → first + 1 + n ≤ slots → ((k : ℕ) → first ≤ k → k < first + 1 + n → IsIdle k) → IsGone (first + 1 + n)
+  gone-behind zero l idle = subst IsGone (omega arith) (gone-first (idle first (omega arith) (omega arith)))
+  gone-behind (suc n) l idle =
+      subst IsGone (omega arith) (gone-more (first + 1 + n) (gone-behind n (omega (arith, l)) (λ k a b. idle k a (omega (arith, b)))) (omega (arith, l)) (idle (first + 1 + n) (omega arith) (omega arith)))
 
-  -- where all slots up to this one are null, to go to it is a run of looks at them
-  pub nulls-passed : (place : ℕ) → first < place → place ≤ slots → ((k : ℕ) → first ≤ k → k < place → IsNull k) → HasPassed slots v (gone place) held
-  nulls-passed place some few null =
+  -- where there is nothing to do at all slots up to this one, to go to it is a run of looks at them
+  pub slots-passed : (place : ℕ) → first < place → place ≤ slots → ((k : ℕ) → first ≤ k → k < place → IsIdle k) → HasPassed slots v (gone place) held
+  slots-passed place some few idle =
       let same : first + 1 + (place - (first + 1)) ≡ place = omega (arith, some) in
-      subst (λ (n : ℕ). HasPassed slots v (gone n) held) same (gone-behind (place - (first + 1)) (omega (arith, same, few)) (λ k a b. null k a (omega (arith, same, b)))).passed
+      subst (λ (n : ℕ). HasPassed slots v (gone n) held) same (gone-behind (place - (first + 1)) (omega (arith, same, few)) (λ k a b. idle k a (omega (arith, same, b)))).passed
 
 -- the same, of the tables as they are behind it
+pub slots-behind : {slots : ℕ} (v w : TablesView) (held : List (HeldFrame slots)) → IsStanding v held → (r : RoundAt) (id first place : ℕ) → slot_at r ≡ Some (id, first) → r ≡ asked v.round → first ≤ place → place ≢ first → place ≤ slots
+    → ((k : ℕ) → first ≤ k → k < place → (d : Core) → Stands slots v d → Agree d.cells held → IsIdleAt d.cells v.round (at_slot r k)) → w ≡ record v { round = looked_to slots v.round place } → HasPassed slots v w held
+slots-behind {slots} v w held t r id first place is e behind other few idle same =
+    subst (λ (x : TablesView). HasPassed slots v x held) (sym same) (slots-passed v held t r id first is (sym e) place (omega (arith, behind, other)) few idle)
+
+-- and where they are null
 pub nulls-behind : {slots : ℕ} (v w : TablesView) (held : List (HeldFrame slots)) → IsStanding v held → (r : RoundAt) (id first place : ℕ) → slot_at r ≡ Some (id, first) → r ≡ asked v.round → first ≤ place → place ≢ first → place ≤ slots
     → ((k : ℕ) → first ≤ k → k < place → (d : Core) → Agree d.cells held → (pointer_at d.cells id k).target ≡ 0) → w ≡ record v { round = looked_to slots v.round place } → HasPassed slots v w held
-nulls-behind {slots} v w held t r id first place is e behind other few null same =
-    subst (λ (x : TablesView). HasPassed slots v x held) (sym same) (nulls-passed v held t r id first is (sym e) place (omega (arith, behind, other)) few null)
+nulls-behind v w held t r id first place is e behind other few null same =
+    slots-behind v w held t r id first place is e behind other few (λ k a b d h agree. null-idle h r id first k (sym e) is (null k a b d agree)) same

@@ -1,8 +1,8 @@
--- The collector goes on over null slots.
+-- The collector goes on over slots at which there is nothing to do, and null slots are such.
 use Rattle.std.proofs.Common.{◌≡◌, ℕ, ◌+◌, ◌<◌, List, [], ◌∷◌, length, drop, Bool, true, false, not, Option, Some, None, refl, sym, ap, ◌∙◌, subst, arith}
 use Rattle.std.specs.Prelude.{◌==◌, ◌&&◌, if◌then◌else◌, slice_index_or}
 use Rattle.std.proofs.lemmas.Bool.{ne_eqb}
-use Rattle.cell_model.specs.Cells.{Cell, cell_at, pointer_at}
+use Rattle.cell_model.specs.Cells.{Cell, cell_at, pointer_at, is_live}
 use Rattle.cell_model.proofs.EditLaws.{live-there}
 use Rattle.store_model.specs.Core.{Core}
 use Rattle.red_walk.specs.declared.red_at.RedAt.TheVariants as red
@@ -23,53 +23,36 @@ use Rattle.core_store.specs.RoundView.{RoundView, Sweeping, asked, asked_by_walk
 use Rattle.core_store.specs.Tables.{TablesView}
 use Rattle.core_store.specs.Stands.{Stands}
 use Rattle.core_store.specs.Frames.{Agree, HoldsAll}
+use Rattle.core_store.specs.Logged.{object_and_targets}
 use Rattle.core_store.specs.Slots.{HoldsPagesOf}
 use Rattle.core_store.specs.Collecting.{objects_at}
-use Rattle.core_store.specs.Nulls.{slot_at}
+use Rattle.core_store.specs.Nulls.{slot_at, at_slot, is_white_in, IsIdleAt}
 use Rattle.core_store.proofs.AskedLaws.{asked-look, asked-cut}
 use Rattle.core_store.proofs.LookLaws.{null-look}
 use Rattle.core_store.proofs.SeenLaws.{GreenOf, green-of, waiting-live, work-at, there-at}
 use Rattle.core_store.proofs.PassLaws.{HasPassed}
-use Rattle.core_store.proofs.ReadyRound.{asked-few}
+use Rattle.core_store.proofs.ReadyRound.{asked-few, few-slot}
 use Rattle.core_store.proofs.WantLaws.{all-objects}
-
--- ---- looks at null slots
-
--- the same look at another slot of the object
-abbrev pub at_slot : RoundAt → ℕ → RoundAt
-at_slot (at.Look id slot) other = at.Look id other
-at_slot (at.Cut id slot) other = at.Cut id other
-at_slot (at.Test id slot) other = at.Test id other
-at_slot (at.Out «from» slot) other = at.Out «from» other
-at_slot r other = r
-
--- it is a look at such a slot, which is null
-abbrev pub IsNullAt : List Cell → RoundAt → Type 0
-IsNullAt cells (at.Look id slot) = (pointer_at cells id slot).target ≡ 0
-IsNullAt cells (at.Cut id slot) = (pointer_at cells id slot).target ≡ 0
-IsNullAt cells (at.Test id slot) = (pointer_at cells id slot).target ≡ 0
-IsNullAt cells (at.Out «from» slot) = (pointer_at cells «from» slot).target ≡ 0
-IsNullAt cells _ = ⊥
 
 -- ---- there is nothing to do
 
 pub null-weak : (cells : List Cell) (id slot : ℕ) → (pointer_at cells id slot).target ≡ 0 → is_counted_strong cells (pointer_at cells id slot) ≡ false
 null-weak cells id slot e = sym (null-look cells id slot 0 e refl)
 
-pub null-idle : (cells : List Cell) (r : RoundAt) → IsNullAt cells r → is_event cells r ≡ false
-null-idle cells (at.Look id slot) e = null-weak cells id slot e
-null-idle cells (at.Cut id slot) e = ap (λ (n : ℕ). not (n == 0)) e
-null-idle cells (at.Test id slot) e = refl
-null-idle cells (at.Out «from» slot) e = refl
-null-idle cells at.Queue e = absurd e
-null-idle cells (at.Copy id) e = absurd e
-null-idle cells at.Judge e = absurd e
-null-idle cells (at.Free id) e = absurd e
-null-idle cells (at.Seed id) e = absurd e
-null-idle cells (at.Flip id) e = absurd e
-null-idle cells (at.Into «from» slot to) e = absurd e
-null-idle cells (at.Strengthen «from» slot to) e = absurd e
-null-idle cells at.End e = absurd e
+pub idle-nothing : (cells : List Cell) (q : RoundView) (r : RoundAt) → IsIdleAt cells q r → is_event cells r ≡ false
+idle-nothing cells q (at.Look id slot) e = e
+idle-nothing cells q (at.Cut id slot) e = ap (λ (n : ℕ). not (n == 0)) e
+idle-nothing cells q (at.Test id slot) e = refl
+idle-nothing cells q (at.Out «from» slot) e = refl
+idle-nothing cells q at.Queue e = absurd e
+idle-nothing cells q (at.Copy id) e = absurd e
+idle-nothing cells q at.Judge e = absurd e
+idle-nothing cells q (at.Free id) e = absurd e
+idle-nothing cells q (at.Seed id) e = absurd e
+idle-nothing cells q (at.Flip id) e = absurd e
+idle-nothing cells q (at.Into «from» slot to) e = absurd e
+idle-nothing cells q (at.Strengthen «from» slot to) e = absurd e
+idle-nothing cells q at.End e = absurd e
 
 -- null is no object that waits
 pub null-waits : {slots : ℕ} {v : TablesView} {c : Core} (h : Stands slots v c) {a : RoundAt} (x : GreenOf v.round a) → waits x.of 0 ≡ false
@@ -79,8 +62,12 @@ null-waits {c} h x = by (waits x.of 0) refl
     by false e = refl
     by true e = absurd (live-there c.cells 0 h.sound.consistent.exact.none (waiting-live h x 0 e) refl)
 
-pub null-white : {slots : ℕ} {v : TablesView} {c : Core} (h : Stands slots v c) {a : RoundAt} (x : GreenOf v.round a) → is_white c.cells x.of 0 ≡ false
-null-white {c} h x = ap (λ (b : Bool). b && has_no_strong (cell_at c.cells 0)) (null-waits h x)
+-- what is white for the round is so for its green walk
+pub white-in : (cells : List Cell) {r : RoundView} {a : RoundAt} (x : GreenOf r a) (id : ℕ) → is_white cells x.of id ≡ is_white_in cells r id
+white-in cells x id = ap (λ (q : RoundView). is_white_in cells q id) (sym x.is)
+
+pub null-white : {slots : ℕ} {v : TablesView} {c : Core} (h : Stands slots v c) {a : RoundAt} (x : GreenOf v.round a) → is_white_in c.cells v.round 0 ≡ false
+null-white {c} h x = sym (white-in c.cells x 0) ∙ ap (λ (b : Bool). b && has_no_strong (cell_at c.cells 0)) (null-waits h x)
 
 -- ---- the next slot of the object comes next
 
@@ -144,8 +131,8 @@ module _ {slots : ℕ} {v : TablesView} {c : Core} (h : Stands slots v c) where
   pub sweeps : {a : RoundAt} (x : GreenOf v.round a) → IsSweeping slots v.ids x.walk x.swept x.slot x.of
   sweeps x = subst (IsInStep slots v.ids) x.is h.in_step
 
-  test-next : (id k : ℕ) → asked v.round ≡ at.Test id k → (pointer_at c.cells id k).target ≡ 0 → k + 1 < slots → asked (looked_past slots c.cells v.round) ≡ at.Test id (k + 1)
-  test-next id k e zero l =
+  test-next : (id k : ℕ) → asked v.round ≡ at.Test id k → is_counted_strong c.cells (pointer_at c.cells id k) ≡ false → k + 1 < slots → asked (looked_past slots c.cells v.round) ≡ at.Test id (k + 1)
+  test-next id k e weak l =
       let x = green-of v.round (at.Test id k) tt e in
       let g = x.of in
       let s = sweeps x in
@@ -154,43 +141,43 @@ module _ {slots : ℕ} {v : TablesView} {c : Core} (h : Stands slots v c) where
       let same_slot = x.asks.3 in
       let within : t.slot < g.slots = omega (arith, size, same_slot, l) in
       let law = tested-law g t s.greens.greening x.asks.1 within in
-      let past : looked_past slots c.cells v.round ≡ Sweeping x.walk x.swept x.slot (tested g) = x.passes slots c.cells ∙ ap (λ (b : Bool). Sweeping x.walk x.swept x.slot (if b then found g Nothing else tested g)) (null-weak c.cells id k zero) in
+      let past : looked_past slots c.cells v.round ≡ Sweeping x.walk x.swept x.slot (tested g) = x.passes slots c.cells ∙ ap (λ (b : Bool). Sweeping x.walk x.swept x.slot (if b then found g Nothing else tested g)) weak in
       let behind : Test = record t { slot = t.slot + 1 } in
       let further : (t.slot + 1 == g.slots) ≡ false = ne_eqb (t.slot + 1) g.slots (λ f. absurd (omega (arith, size, same_slot, l, f))) in
       let on : asked_by_green g.slots (Some behind) (next_of_green g) ≡ at.Test t.id (t.slot + 1) = test-on g.slots g (next_of_green g) behind t.id (test-law g t s.greens.greening x.asks.1).0 further in
       ap asked past ∙ (ap (asked_by_sweep x.slot (tested g)) x.rest ∙ (ap (λ (o : Option Test). asked_by_green g.slots o (next_of_green (tested g))) law.2 ∙ (ap (asked_by_green g.slots (Some behind)) law.1 ∙ (on ∙ rw (x.asks.2, same_slot) refl))))
 
-  out-next : («from» k : ℕ) → asked v.round ≡ at.Out «from» k → (pointer_at c.cells «from» k).target ≡ 0 → k + 1 < slots → asked (looked_past slots c.cells v.round) ≡ at.Out «from» (k + 1)
-  out-next «from» k e zero l =
+  out-next : («from» k : ℕ) → asked v.round ≡ at.Out «from» k → is_white_in c.cells v.round (pointer_at c.cells «from» k).target ≡ false → k + 1 < slots → asked (looked_past slots c.cells v.round) ≡ at.Out «from» (k + 1)
+  out-next «from» k e idle l =
       let x = green-of v.round (at.Out «from» k) tt e in
       let g = x.of in
       let s = sweeps x in
       let size = s.greens.green_slots in
-      let white : is_white c.cells g (pointer_at c.cells «from» k).target ≡ false = ap (is_white c.cells g) zero ∙ null-white h x in
+      let white : is_white c.cells g (pointer_at c.cells «from» k).target ≡ false = white-in c.cells x (pointer_at c.cells «from» k).target ∙ idle in
       let past : looked_past slots c.cells v.round ≡ Sweeping x.walk x.swept x.slot (found g Nothing) = x.passes slots c.cells ∙ rw white refl in
       let in_hand = (found-law g Nothing s.greens.greening (subst (λ (n : GreenAt). IsAnswer g n Nothing) (sym x.asks.0) tt)).1 in
       let on = out-on g «from» k x.asks.0 (omega (arith, size, l)) in
       ap asked past ∙ (ap (asked_by_sweep x.slot (found g Nothing)) x.rest ∙ (ap (λ (o : Option Test). asked_by_green (found g Nothing).slots o (next_of_green (found g Nothing))) in_hand ∙ ap (asked_by_green (found g Nothing).slots None) on))
 
-  -- behind a null slot the next one is looked at
-  pub null-next : (r : RoundAt) (k : ℕ) → asked v.round ≡ at_slot r k → IsNullAt c.cells (at_slot r k) → k + 1 < slots → asked (looked_past slots c.cells v.round) ≡ at_slot r (k + 1)
-  null-next (at.Look id slot) k e zero l = look-next slots c.cells v.round id k e l
-  null-next (at.Cut id slot) k e zero l = cut-next slots c.cells v.round id k e l
-  null-next (at.Test id slot) k e zero l = test-next id k e zero l
-  null-next (at.Out «from» slot) k e zero l = out-next «from» k e zero l
-  null-next at.Queue k e zero l = absurd zero
-  null-next (at.Copy id) k e zero l = absurd zero
-  null-next at.Judge k e zero l = absurd zero
-  null-next (at.Free id) k e zero l = absurd zero
-  null-next (at.Seed id) k e zero l = absurd zero
-  null-next (at.Flip id) k e zero l = absurd zero
-  null-next (at.Into «from» slot to) k e zero l = absurd zero
-  null-next (at.Strengthen «from» slot to) k e zero l = absurd zero
-  null-next at.End k e zero l = absurd zero
+  -- behind such a slot the next one is looked at
+  pub idle-next : (r : RoundAt) (k : ℕ) → asked v.round ≡ at_slot r k → IsIdleAt c.cells v.round (at_slot r k) → k + 1 < slots → asked (looked_past slots c.cells v.round) ≡ at_slot r (k + 1)
+  idle-next (at.Look id slot) k e idle l = look-next slots c.cells v.round id k e l
+  idle-next (at.Cut id slot) k e idle l = cut-next slots c.cells v.round id k e l
+  idle-next (at.Test id slot) k e idle l = test-next id k e idle l
+  idle-next (at.Out «from» slot) k e idle l = out-next «from» k e idle l
+  idle-next at.Queue k e idle l = absurd idle
+  idle-next (at.Copy id) k e idle l = absurd idle
+  idle-next at.Judge k e idle l = absurd idle
+  idle-next (at.Free id) k e idle l = absurd idle
+  idle-next (at.Seed id) k e idle l = absurd idle
+  idle-next (at.Flip id) k e idle l = absurd idle
+  idle-next (at.Into «from» slot to) k e idle l = absurd idle
+  idle-next (at.Strengthen «from» slot to) k e idle l = absurd idle
+  idle-next at.End k e idle l = absurd idle
 
 -- ---- the slot that is looked at
 
-abbrev first_in : Option (ℕ × ℕ) → ℕ
+abbrev pub first_in : Option (ℕ × ℕ) → ℕ
 first_in None = 0
 first_in (Some p) = p.0
 
@@ -217,21 +204,43 @@ null-there h (at.Into i k to) id slot e is = absurd (cc)
 null-there h (at.Strengthen i k to) id slot e is = absurd (cc)
 null-there h at.End id slot e is = absurd (cc)
 
--- where the object's slot is null, it is such a look
-pub null-here : (cells : List Cell) (r : RoundAt) (id slot k : ℕ) → slot_at r ≡ Some (id, slot) → (pointer_at cells id k).target ≡ 0 → IsNullAt cells (at_slot r k)
-null-here cells (at.Look i s) id slot k is zero = let one : i ≡ id = ap first_in is in rw one zero
-null-here cells (at.Cut i s) id slot k is zero = let one : i ≡ id = ap first_in is in rw one zero
-null-here cells (at.Test i s) id slot k is zero = let one : i ≡ id = ap first_in is in rw one zero
-null-here cells (at.Out i s) id slot k is zero = let one : i ≡ id = ap first_in is in rw one zero
-null-here cells at.Queue id slot k is zero = absurd (cc)
-null-here cells (at.Copy i) id slot k is zero = absurd (cc)
-null-here cells at.Judge id slot k is zero = absurd (cc)
-null-here cells (at.Free i) id slot k is zero = absurd (cc)
-null-here cells (at.Seed i) id slot k is zero = absurd (cc)
-null-here cells (at.Flip i) id slot k is zero = absurd (cc)
-null-here cells (at.Into i s to) id slot k is zero = absurd (cc)
-null-here cells (at.Strengthen i s to) id slot k is zero = absurd (cc)
-null-here cells at.End id slot k is zero = absurd (cc)
+-- the object is live
+pub slot-live : {slots : ℕ} {v : TablesView} {c : Core} (h : Stands slots v c) (r : RoundAt) (id slot : ℕ) → asked v.round ≡ r → slot_at r ≡ Some (id, slot) → is_live c.cells id ≡ true
+slot-live {c} h (at.Look i k) id slot e is = subst (λ (n : ℕ). is_live c.cells n ≡ true) (ap first_in is) (there-at h (at.Look i k) e).0
+slot-live {c} h (at.Cut i k) id slot e is = subst (λ (n : ℕ). is_live c.cells n ≡ true) (ap first_in is) (there-at h (at.Cut i k) e).0
+slot-live {c} h (at.Test i k) id slot e is = subst (λ (n : ℕ). is_live c.cells n ≡ true) (ap first_in is) (there-at h (at.Test i k) e).0
+slot-live {c} h (at.Out i k) id slot e is = subst (λ (n : ℕ). is_live c.cells n ≡ true) (ap first_in is) (there-at h (at.Out i k) e).0
+slot-live h at.Queue id slot e is = absurd (cc)
+slot-live h (at.Copy i) id slot e is = absurd (cc)
+slot-live h at.Judge id slot e is = absurd (cc)
+slot-live h (at.Free i) id slot e is = absurd (cc)
+slot-live h (at.Seed i) id slot e is = absurd (cc)
+slot-live h (at.Flip i) id slot e is = absurd (cc)
+slot-live h (at.Into i k to) id slot e is = absurd (cc)
+slot-live h (at.Strengthen i k to) id slot e is = absurd (cc)
+slot-live h at.End id slot e is = absurd (cc)
+
+-- and where all pages are held, so are those of each of its slots
+pub slot-pages : {slots : ℕ} {v : TablesView} {c : Core} (h : Stands slots v c) (held : List (HeldFrame slots)) (id slot : ℕ) → is_live c.cells id ≡ true → HoldsAll v.ids held → HoldsPagesOf held (object_and_targets c.cells id slot 0)
+slot-pages {v} {c} h held id slot live all = all-objects v.ids (object_and_targets c.cells id slot 0) held (few-slot h id slot live).within all
+
+-- where the object's slot is null, there is nothing to do at it
+pub null-idle : {slots : ℕ} {v : TablesView} {c : Core} (h : Stands slots v c) (r : RoundAt) (id slot k : ℕ) → asked v.round ≡ r → slot_at r ≡ Some (id, slot) → (pointer_at c.cells id k).target ≡ 0 → IsIdleAt c.cells v.round (at_slot r k)
+null-idle {c} h (at.Look i s) id slot k e is zero = let one : i ≡ id = ap first_in is in rw one (null-weak c.cells id k zero)
+null-idle h (at.Cut i s) id slot k e is zero = let one : i ≡ id = ap first_in is in rw one zero
+null-idle {c} h (at.Test i s) id slot k e is zero = let one : i ≡ id = ap first_in is in rw one (null-weak c.cells id k zero)
+null-idle {v} {c} h (at.Out i s) id slot k e is zero =
+    let one : i ≡ id = ap first_in is in
+    ap (λ (n : ℕ). is_white_in c.cells v.round (pointer_at c.cells n k).target) one ∙ (ap (is_white_in c.cells v.round) zero ∙ null-white h (green-of v.round (at.Out i s) tt e))
+null-idle h at.Queue id slot k e is zero = absurd (cc)
+null-idle h (at.Copy i) id slot k e is zero = absurd (cc)
+null-idle h at.Judge id slot k e is zero = absurd (cc)
+null-idle h (at.Free i) id slot k e is zero = absurd (cc)
+null-idle h (at.Seed i) id slot k e is zero = absurd (cc)
+null-idle h (at.Flip i) id slot k e is zero = absurd (cc)
+null-idle h (at.Into i s to) id slot k e is zero = absurd (cc)
+null-idle h (at.Strengthen i s to) id slot k e is zero = absurd (cc)
+null-idle h at.End id slot k e is zero = absurd (cc)
 
 pub same-slot : (r : RoundAt) (id slot : ℕ) → slot_at r ≡ Some (id, slot) → at_slot r slot ≡ r
 same-slot (at.Look i s) id slot is = let other : s ≡ slot = ap second_in is in rw other refl

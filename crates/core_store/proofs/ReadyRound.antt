@@ -163,7 +163,8 @@ module _ {slots : ℕ} {v : TablesView} {c : Core} (h : Stands slots v c) where
   pub asked-work : IfSome (work_at (asked v.round)) (IsWork slots)
   asked-work = work-on (asked v.round) asked-there
 
-  few-slot : (id slot : ℕ) → is_live c.cells id ≡ true → AreFew v.ids (objects_at c.cells (at.Look id slot))
+  -- those of any slot of a live object are three at most
+  pub few-slot : (id slot : ℕ) → is_live c.cells id ≡ true → AreFew v.ids (objects_at c.cells (at.Look id slot))
   few-slot id slot l =
       let old = (pointer_at c.cells id slot).target in
       few-change v.ids c.cells id slot 0 (one-live h id (live-id h id l)) (λ n. one-live h old (live-id h old (h.sound.consistent.exact.closed id slot l n))) (λ n. absurd (n refl))

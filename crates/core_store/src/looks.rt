@@ -3,7 +3,7 @@ ghost use Rattle.std.specs.Prelude.{◌≡◌, ◌≢◌, ◌<◌, ◌≤◌, �
 ghost use Rattle.cell_page.specs.Format.{IsSlotCount, page_of_id};
 ghost use Rattle.store_model.specs.Core.{Core};
 ghost use Rattle.core_store.specs.RoundView.{asked, is_event, IsLookAt, Passes, looked_past, looked_to};
-ghost use Rattle.core_store.specs.Frames.{Agree, HoldsAll, IsNext, pages_held, is_held};
+ghost use Rattle.core_store.specs.Frames.{Agree, IsNext, pages_held, is_held};
 ghost use Rattle.core_store.specs.Logged.{want_of};
 ghost use Rattle.core_store.specs.Work.{IsWork, HasSmallTargets};
 ghost use Rattle.core_store.specs.Views.{view_of};
@@ -44,7 +44,7 @@ fn work_at(at: RoundAt) -> Option<Work>
 }
 
 /// The slot that is looked at, with its object, where there is nothing to do at a null one.
-fn slot_at(at: RoundAt) -> Option<(u32, u8)>
+pub(crate) fn slot_at(at: RoundAt) -> Option<(u32, u8)>
     ensures { result ≡ slot_at at }
 {
     match at {
@@ -65,7 +65,7 @@ fn slot_at(at: RoundAt) -> Option<(u32, u8)>
 }
 
 /// The first of the slots from this one on that is not null, or the number of slots.
-fn next_pointer<const SLOTS: usize>(slots: &[u32; SLOTS], from: usize) -> usize
+pub(crate) fn next_pointer<const SLOTS: usize>(slots: &[u32; SLOTS], from: usize) -> usize
     requires { from ≤ SLOTS }
     ensures behind { from ≤ result }
     ensures within { result ≤ SLOTS }
@@ -82,7 +82,7 @@ fn next_pointer<const SLOTS: usize>(slots: &[u32; SLOTS], from: usize) -> usize
 
 /// Whether there is something to do, and not only to look at.
 #[inline(always)]
-fn is_event<const SLOTS: usize>(held: &Three<SLOTS>, at: RoundAt) -> bool
+pub(crate) fn is_event<const SLOTS: usize>(held: &Three<SLOTS>, at: RoundAt) -> bool
     requires size { IsSlotCount SLOTS }
     requires small { IfSome (work_at at) (IsWork SLOTS) }
     requires pages { IsLookAt at → (cells : List StoredCell) × Agree cells held.now × HasSmallTargets cells × HoldsPagesOf held.now (objects_at cells at) }
@@ -137,26 +137,6 @@ impl<const SLOTS: usize> Tables<SLOTS> {
         }
     }
 
-    /// Looks at what the held pages show, and goes on where there is nothing to do, up to the next event, and tells what that
-    /// works at. All pages are held.
-    pub(crate) fn look_on(&mut self, held: &Three<SLOTS>) -> RoundAt
-        requires standing { IsStanding (view_of self.old) held.now }
-        requires all { HoldsAll self.old.ids held.now }
-        ensures at { result ≡ asked (view_of self.new).round }
-        ensures passes { (c : Core) → Stands SLOTS (view_of self.old) c → Agree c.cells held.now → Passes SLOTS c.cells (view_of self.old).round (view_of self.new).round }
-        ensures stands { (c : Core) → Stands SLOTS (view_of self.old) c → Agree c.cells held.now → Stands SLOTS (view_of self.new) c }
-        ensures event { (c : Core) → Stands SLOTS (view_of self.old) c → Agree c.cells held.now → is_event c.cells (asked (view_of self.new).round) ≡ true }
-        ensures same { view_of self.new ≡ record (view_of self.old) { round = (view_of self.new).round } }
-    {
-        'looks: loop {
-            let at = self.next_look(held);
-            if is_event(held, at) {
-                return at;
-            }
-            self.look_past(held, at);
-        }
-    }
-
     /// What is looked at or done next, behind the slots that the held pages show to be null.
     #[inline(always)]
     fn next_look(&mut self, held: &Three<SLOTS>) -> RoundAt
@@ -200,7 +180,7 @@ impl<const SLOTS: usize> Tables<SLOTS> {
     }
 
     /// Goes on to this slot of the object that is looked at, or behind the object where it has no such slot.
-    fn look_to(&mut self, at: RoundAt, slot: u8)
+    pub(crate) fn look_to(&mut self, at: RoundAt, slot: u8)
         requires at { at ≡ asked (view_of self.old).round }
         requires look { (id : ℕ) × (k : ℕ) × (slot_at at ≡ Some (id, k)) }
         requires within { slot ≤ SLOTS }
@@ -224,7 +204,7 @@ impl<const SLOTS: usize> Tables<SLOTS> {
 
     /// Goes on from a look at which there was nothing to do.
     #[inline(always)]
-    fn look_past(&mut self, held: &Three<SLOTS>, at: RoundAt)
+    pub(crate) fn look_past(&mut self, held: &Three<SLOTS>, at: RoundAt)
         requires at { at ≡ asked (view_of self.old).round }
         requires ready { CanPass (view_of self.old) held.now }
         ensures passes { (c : Core) → Stands SLOTS (view_of self.old) c → Agree c.cells held.now → (view_of self.new).round ≡ looked_past SLOTS c.cells (view_of self.old).round }

@@ -1,6 +1,6 @@
 //! The change of a slot, with the strengths of what it held and holds and the counts of its targets.
 
-ghost use Rattle.std.specs.Prelude.{◌≡◌, ◌≢◌, ℕ, ◌<◌, ◌==◌, List, [], ◌∷◌, ◌&&◌, true, false, not, length, Some};
+ghost use Rattle.std.specs.Prelude.{◌≡◌, ◌≢◌, ℕ, ◌<◌, ◌≤◌, ◌==◌, List, [], ◌∷◌, ◌&&◌, true, false, not, length, Some};
 ghost use Rattle.cell_model.specs.Cells.{Cell as StoredCell, same, cell_at, pointer_at, is_live, edit, relink, gains, loses, relinked, other_strength, pays};
 ghost use Rattle.cell_page.specs.Format.{IsSlotCount, IsCell};
 ghost use Rattle.cell_page.specs.Stored.{cell_of};
@@ -332,6 +332,24 @@ pub(crate) fn is_strong<const SLOTS: usize>(held: &Three<SLOTS>, id: u32, slot: 
     let cell = held.cell(id);
     let target = cell.slots[slot as usize];
     target != 0 && held.cell(target).bit == cell.pointer_bit(slot)
+}
+
+/// The first slot of the object from this one on that holds a strong pointer, or the number of slots.
+pub(crate) fn first_strong<const SLOTS: usize>(held: &Three<SLOTS>, id: u32, from: u8) -> u8
+    requires size { IsSlotCount SLOTS }
+    requires work { IsWork SLOTS (record { id = id; change = None }) }
+    requires within { from ≤ SLOTS }
+    requires pages { (cells : List StoredCell) × Agree cells held.now × HasSmallTargets cells × ((slot : ℕ) → slot < SLOTS → HoldsPagesOf held.now (object_and_targets cells id slot 0)) }
+    ensures behind { from ≤ result }
+    ensures within { result ≤ SLOTS }
+    ensures weak { (cells : List StoredCell) → Agree cells held.now → (slot : ℕ) → from ≤ slot → slot < result → is_counted_strong cells (pointer_at cells id slot) ≡ false }
+{
+    for place in from as usize..SLOTS {
+        if is_strong(held, id, place as u8) {
+            return place as u8;
+        }
+    }
+    SLOTS as u8
 }
 
 /// Whether the slot isn't null.
