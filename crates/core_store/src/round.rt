@@ -246,6 +246,7 @@ impl<const SLOTS: usize> Round<SLOTS> {
     }
 
     /// Goes on from a slot whose pointer was made weak. An object may join the round by this.
+    #[inline(always)]
     pub(crate) fn weakened(&mut self, joins: Option<u32>)
         requires look { (id : ℕ) × (slot : ℕ) × (asked self.old.view ≡ RoundAt.Look id slot) }
         requires joins { IfSome joins (λ id. (1 ≤ id) × (id ≤ self.old.limit) × (has (ids_in self.old.view) id ≡ false)) }
@@ -323,6 +324,7 @@ impl<const SLOTS: usize> Round<SLOTS> {
     }
 
     /// Takes the answer to what the green walk asked for.
+    #[inline(always)]
     pub(crate) fn found(&mut self, what: Found)
         requires answer { IsGreenAnswer self.old.view what }
         ensures found { (w : Walk) (s : Sweep) (slot : ℕ) (g : Greening) → self.old.view ≡ Sweeping w s slot g → self.new ≡ record self.old { view = Sweeping w s slot (found_by_green g what) } }
@@ -332,6 +334,7 @@ impl<const SLOTS: usize> Round<SLOTS> {
     }
 
     /// A test of an object begins at what the green walk asked for: whether a strong pointer leads out of it.
+    #[inline(always)]
     pub(crate) fn begin_test(&mut self, id: u32)
         requires testable { IsGreenTestable self.old.view id }
         ensures begun { (w : Walk) (s : Sweep) (slot : ℕ) (g : Greening) → self.old.view ≡ Sweeping w s slot g → self.new ≡ record self.old { view = Sweeping w s slot (testing g id) } }

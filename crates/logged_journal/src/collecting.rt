@@ -64,6 +64,7 @@ impl<const SLOTS: usize, D: Disk> LoggedJournal<SLOTS, D> {
     }
 
     /// The collector's next event, which works at this place, and for whose record there is room in the log.
+    #[inline(always)]
     fn log_step(&mut self, held: &mut Three<SLOTS>, at: RoundAt) -> Collect
         requires agree { Agree (cells_of self.old.journal) held.old }
         requires ready { IsReadyForCollector self.old.journal held.old }

@@ -49,6 +49,7 @@ impl<const SLOTS: usize> Round<SLOTS> {
 
     /// The walk of green objects goes on to this slot of the object, or behind the object where it has no such slot. That the
     /// slots gone over gave nothing to do is for the caller to know.
+    #[inline(always)]
     pub(crate) fn walk_to(&mut self, slot: u8)
         requires at { (id : ℕ) × (at : ℕ) × (asked self.old.view ≡ RoundAt.Out id at) }
         requires within { slot ≤ SLOTS }
