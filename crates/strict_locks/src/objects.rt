@@ -51,6 +51,9 @@ pub(crate) fn least_holder(locks: &IndexMap<u32, ObjectLock>, id: u32) -> Option
     ensures least { IsLeastOrNone (Holds (holders_of locks.now.entries id)) result }
     ensures exclusive { IsExclusive (holders_of locks.now.entries id) }
 {
+    if locks.is_empty() {
+        return None;
+    }
     locks.get(&id)?.least_holder()
 }
 
@@ -149,13 +152,14 @@ fn give_back(locks: &mut IndexMap<u32, ObjectLock>, pass: u8, id: u32)
     }
 }
 
-/// Gives all of the client's locks back. The list names each object that the client holds.
+/// Gives all of the client's locks back. The list names each object that the client holds. The last one is given back first, as its
+/// entry most often is the last one too, and then no other entry is moved into its place.
 pub(crate) fn give_back_all(locks: &mut IndexMap<u32, ObjectLock>, pass: u8, ids: &[u32])
     requires { NamesHeld locks.old.entries pass ids.now }
     ensures drops { DropsAll locks.old.entries locks.new.entries pass }
     ensures held { AreHeld locks.old.entries → AreHeld locks.new.entries }
 {
-    for id in ids {
+    for id in ids.iter().rev() {
         give_back(locks, pass, *id);
     }
 }
