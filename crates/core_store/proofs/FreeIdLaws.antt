@@ -9,7 +9,7 @@ use Rattle.std.proofs.lemmas.Bool.Decides.{nat_tests}
 use Rattle.std.proofs.lemmas.List.{get_or-set_same, get_or-set_other, length-set}
 use Rattle.std.proofs.lemmas.Map.Views.{any-filter_same}
 use Rattle.plain_laws.proofs.Ids.{at_eq}
-use Rattle.core_store.specs.FreeIds.{free_in, IsFreeInside, IsLeastOf, Frees, Takes}
+use Rattle.core_store.specs.FreeIds.{free_in, IsFreeInside, IsNextFree, IsLeastOf, Frees, Takes}
 
 -- ---- which ids are free
 
@@ -69,17 +69,16 @@ free-marked row limit k e = by (get_or row k false) refl (sym (free-at row limit
 
 -- ---- the least one
 
-module _ (row : List Bool) (limit id : ℕ) (none : (k : ℕ) → 1 ≤ k → k < id → get_or row k false ≡ false) where
-  -- the first one that is marked
-  pub least-marked : IsMarked row limit id → IsLeastOf (free_in row limit) id
-  least-marked m = record {
-    among = sym (free-is row limit id m.low m.high) ∙ m.mark;
-    least = λ k e. let f = free-marked row limit k e in ⊎_elim (λ (l : k < id). absurd (let no = none k f.low l in let yes = f.mark in cc)) (λ l. l) (cases_lt k id);
-  }
+-- the first one that is marked
+pub least-marked : (row : List Bool) (limit id : ℕ) → ((k : ℕ) → 1 ≤ k → k < id → get_or row k false ≡ false) → IsMarked row limit id → IsLeastOf (free_in row limit) id
+least-marked row limit id none m = record {
+  among = sym (free-is row limit id m.low m.high) ∙ m.mark;
+  least = λ k e. let f = free-marked row limit k e in ⊎_elim (λ (l : k < id). absurd (let no = none k f.low l in let yes = f.mark in cc)) (λ l. l) (cases_lt k id);
+}
 
-  -- none is marked behind it either
-  pub none-next : get_or row id false ≡ false → (k : ℕ) → 1 ≤ k → k < id + 1 → get_or row k false ≡ false
-  none-next e k low l = ⊎_elim (λ (is : k ≡ id). ap (λ i. get_or row i false) is ∙ e) (λ n. none k low (omega (arith, l, n))) (cases_eq k id)
+-- none is marked behind it either
+pub none-next : (row : List Bool) (from id : ℕ) → ((k : ℕ) → from ≤ k → k < id → get_or row k false ≡ false) → get_or row id false ≡ false → (k : ℕ) → from ≤ k → k < id + 1 → get_or row k false ≡ false
+none-next row from id none e k low l = ⊎_elim (λ (is : k ≡ id). ap (λ i. get_or row i false) is ∙ e) (λ n. none k low (omega (arith, l, n))) (cases_eq k id)
 
 -- where none is marked, none is free
 nothing-passes : (f : ℕ → Bool) (n a : ℕ) → ((k : ℕ) → a ≤ k → k < a + n → f k ≡ false) → filter f (range_with_len a n) ≡ []
@@ -115,24 +114,15 @@ module _ (row : List Bool) (first limit id : ℕ) (i : IsFreeInside row first li
       by true e = let is = same id k e in ap (λ i. get_or (set row id false) i false && (nat_lt 0 i && nat_le i limit)) is ∙ ap (λ b. b && (nat_lt 0 id && nat_le id limit)) (marked false)
       by false e = ap (λ b. b && (nat_lt 0 k && nat_le k limit)) (others false k e) ∙ sym (free-at row limit k)
 
-  -- the id that is free now may be the first one
-  pub inside-freed : (least : ℕ) → 1 ≤ least → least ≤ first → least ≤ id → IsFreeInside (set row id true) least limit
-  inside-freed least some most here = record {
-    length = length-set row id true ∙ i.length;
-    few = i.few;
-    above = some;
-    within = let w = i.within in omega (arith, w, most);
-    stored = λ k a b. others true k (ne_eqb k id (λ e. omega (arith, e, b, here))) ∙ i.stored k a (omega (arith, b, most));
-  }
-
-  -- the least one is taken, and so is all before it
-  pub inside-taken : IsLeastOf (free_in row limit) id → IsFreeInside (set row id false) (id + 1) limit
-  inside-taken l = record {
+  -- the least one is taken, and the next one that is free is the first one
+  pub inside-taken : IsLeastOf (free_in row limit) id → (next : ℕ) → IsNextFree (set row id false) (id + 1) limit next → IsFreeInside (set row id false) next limit
+  inside-taken l next n = record {
     length = length-set row id false ∙ i.length;
     few = i.few;
-    above = omega arith;
-    within = omega (arith, high);
-    stored = λ k a b. ⊎_elim (λ (is : k ≡ id). ap (λ j. get_or (set row id false) j false) is ∙ marked false) (λ n. others false k (ne_eqb k id n) ∙ before k a (omega (arith, b, n))) (cases_eq k id);
+    above = let f = n.above in omega (arith, f);
+    within = n.within;
+    stored = λ k a b. ⊎_elim (λ (is : k < id + 1). until k a is) (λ (is : id + 1 ≤ k). n.stored k is b) (cases_lt k (id + 1));
+    found = n.found;
   }
     where
       before : (k : ℕ) → 1 ≤ k → k < id → get_or row k false ≡ false
@@ -141,3 +131,6 @@ module _ (row : List Bool) (first limit id : ℕ) (i : IsFreeInside row first li
           by : (b : Bool) → (b ≡ true → id ≤ k) → b ≡ false
           by true f = absurd (let n = f refl in omega (arith, n, b))
           by false f = refl
+
+      until : (k : ℕ) → 1 ≤ k → k < id + 1 → get_or (set row id false) k false ≡ false
+      until k a b = ⊎_elim (λ (is : k ≡ id). ap (λ j. get_or (set row id false) j false) is ∙ marked false) (λ n. others false k (ne_eqb k id n) ∙ before k a (omega (arith, b, n))) (cases_eq k id)

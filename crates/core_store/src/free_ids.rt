@@ -5,7 +5,7 @@ ghost use Rattle.std.specs.Ordering.{nat_cmp};
 ghost use Rattle.std.specs.BTreeMap.{is_at};
 ghost use Rattle.cell_model.specs.Cells.{is_live};
 ghost use Rattle.core_store.specs.Opening.{store_of};
-ghost use Rattle.core_store.specs.FreeIds.{AreFreeIn, IsLeastOf, Frees, Takes, taken};
+ghost use Rattle.core_store.specs.FreeIds.{AreFreeIn, IsLeastOf, Frees, Takes, IsNextFree, taken};
 
 use cell_page::Cell;
 use plain_model::Memory;
@@ -14,13 +14,13 @@ use std::marker::Model;
 
 /// The ids of a store that aren't stored, of all from 1 to a limit.
 ///
-/// A call costs the same however many there are, but for `stored`, and for `least`, which looks on from where it was found last
-/// or an id was freed since.
+/// A call costs the same however many there are, but for `stored`, and for `remove`, which looks for the least one behind the one
+/// that it takes.
 #[derive(Debug, Drop)]
 pub(crate) struct FreeIds {
     /// For each id, at its index, whether it is free.
     row: Vec<bool>,
-    /// No id below this one is free.
+    /// The least free id, or the one behind the limit where none is free.
     first: u32,
     /// The greatest id of the store.
     limit: u32,
@@ -49,6 +49,21 @@ fn mark_live<const SLOTS: usize>(row: &mut Vec<bool>, cells: &[Cell<SLOTS>])
     }
 }
 
+/// The least id from this one on that the row marks as free, or the one behind the limit where it marks none.
+fn next_free(row: &Vec<bool>, from: u32, limit: u32) -> u32
+    requires length { length row.now.items ≡ limit + 1 }
+    requires few { limit ≤ 8192 }
+    requires within { from ≤ limit + 1 }
+    ensures { IsNextFree row.now.items from limit result }
+{
+    for id in from..limit + 1 {
+        if row[id as usize] {
+            return id;
+        }
+    }
+    limit + 1
+}
+
 impl FreeIds {
     /// The free ids of a store with these cells, which stand by their ids from 1 on: those whose cells aren't live.
     pub(crate) fn over<const SLOTS: usize>(
@@ -61,11 +76,9 @@ impl FreeIds {
     {
         let mut row = vec![in alloc; true; cells.len() + 1]?;
         mark_live(&mut row, cells);
-        Ok(FreeIds {
-            row,
-            first: 1,
-            limit: cells.len() as u32,
-        })
+        let limit = cells.len() as u32;
+        let first = next_free(&row, 1, limit);
+        Ok(FreeIds { row, first, limit })
     }
 
     /// Whether the id is free.
@@ -79,12 +92,11 @@ impl FreeIds {
     pub(crate) fn least(&self) -> Option<u32>
         ensures { MatchOption result (self.now.ids ≡ []) (IsLeastOf self.now.ids) }
     {
-        for id in self.first..self.limit + 1 {
-            if self.row[id as usize] {
-                return Some(id);
-            }
+        if self.first <= self.limit {
+            Some(self.first)
+        } else {
+            None
         }
-        None
     }
 
     /// The least free id is stored from now on.
@@ -94,7 +106,7 @@ impl FreeIds {
         ensures limit { self.new.limit ≡ self.old.limit }
     {
         self.row[id as usize] = false;
-        self.first = id + 1;
+        self.first = next_free(&self.row, id + 1, self.limit);
     }
 
     /// The stored id is free from now on.

@@ -1,6 +1,0 @@
-use Rattle.std.proofs.Common.{◌≡◌, ℕ, ◌<◌, ◌≤◌, get_or, false}
-use Rattle.core_store.proofs.free_ids.FreeIds.least.Given as goal
-
--- none so far is marked
-abbrev pub invariant-loop-id : goal.invariant-loop-id
-invariant-loop-id l = (k : ℕ) → 1 ≤ k → k < l.id → get_or l.self-inside.row.items k false ≡ false
