@@ -9,6 +9,10 @@ use std::alloc::AllocError;
 /// How many bytes say the length of a batch.
 const LENGTH: usize = 4;
 
+/// For how many bytes room is asked for at the first ones. The allocator maps so much by itself, and maps it anew, without a copy,
+/// where it grows. It is only address space until it is used.
+const FIRST_ROOM: usize = 524_288;
+
 /// Appends the bytes, for which there is room.
 fn extend_into_room(frame: &mut Vec<u8>, bytes: &[u8])
     requires { vec_len frame.old + length bytes.now ≤ vec_capacity frame.old }
@@ -19,7 +23,8 @@ fn extend_into_room(frame: &mut Vec<u8>, bytes: &[u8])
     let _ = frame.extend_from_slice(bytes);
 }
 
-/// Takes room for so many more bytes and for a closed commit byte behind them.
+/// Takes room for so many more bytes and for a closed commit byte behind them. At the first ones it asks for more, and goes on with
+/// less where there isn't so much.
 pub(crate) fn reserve(frame: &mut Vec<u8>, bytes: usize) -> Result<(), AllocError>
     ensures items { frame.new.items ≡ frame.old.items }
     ensures len { vec_len frame.new ≡ vec_len frame.old }
@@ -29,6 +34,9 @@ pub(crate) fn reserve(frame: &mut Vec<u8>, bytes: usize) -> Result<(), AllocErro
 {
     let more = bytes.checked_add(LENGTH + 1).ok_or(AllocError)?;
     let more = more - frame.len().min(LENGTH);
+    if frame.capacity() == 0 {
+        let _ = frame.reserve(FIRST_ROOM);
+    }
     frame.reserve(more)
 }
 
