@@ -59,7 +59,7 @@ pub record IsKept {D : Type 0} (may_leave : D → Area → List ℕ → Type 0) 
 abbrev pub IsCounted : {D : Type 0} → (D → ℕ) → LoggedView D → Type 0
 IsCounted faults v = (v.opened ≤ faults v.disk) × IfSome v.failed (λ f. Rose v.opened f.faults × (f.faults ≤ faults v.disk))
 
--- and the buffer into which a record is spelled has room for the longest one, an image
+-- and the buffer into which an image, or what a log begins with, is spelled has room for an image, which is longer
 pub record IsLoggedInside {D : Type 0} (may_leave : D → Area → List ℕ → Type 0) (faults : D → ℕ) (slots : ℕ) (v : LoggedView D) (capacity : ℕ) : Type 0 where
   pub size : IsSlotCount slots
   pub own : v.journal.history.slots ≡ slots

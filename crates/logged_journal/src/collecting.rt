@@ -122,8 +122,10 @@ impl<const SLOTS: usize, D: Disk> LoggedJournal<SLOTS, D> {
         self.collect_at(held, at)
     }
 
-    /// The same, where the disk failed no call before and it is known what the next event works at: nothing where it would make
-    /// none.
+    /// Makes the collector's next event, which works at this place, where the disk failed no call before. `at` is nothing exactly
+    /// where no event would be made: then it is told that the history is full, or that there is nothing to do.
+    ///
+    /// [`CollectRefusal::LogFull`] is the only refusal: the event's record would go past the log's limit.
     #[inline(always)]
     pub fn collect_at(
         &mut self,
