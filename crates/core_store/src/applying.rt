@@ -20,6 +20,7 @@ use crate::note::Note;
 use crate::plan::room_needed;
 use crate::three::Three;
 use crate::want::{Want, Work};
+use log_record::CellRecord;
 use plain_model::{Call, Entry, Reply};
 
 impl<const SLOTS: usize> Journal<SLOTS> {

@@ -11,7 +11,7 @@ use std::marker::Model;
 
 /// What a slot of an object held when the object was copied.
 #[derive(Clone, Copy, PartialEq, Eq, Debug)]
-pub(crate) struct CopiedSlot {
+pub struct CopiedSlot {
     pub(crate) id: u32,
     pub(crate) slot: u8,
     pub(crate) target: u32,

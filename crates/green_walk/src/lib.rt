@@ -21,6 +21,7 @@ mod seeds;
 mod sweep;
 mod verdict;
 
+pub use copied_slots::CopiedSlot;
 pub use green::Green;
 pub use green_at::{GreenAt, Test};
 pub use laws::{
