@@ -3,14 +3,16 @@
 
     bench/bench.py [--lines N] [--beside COMMAND]
 
-N is the length of the shorter script of each pair, 30,000 without it, at most 32,768. The time of a run is the least of
-five. COMMAND, a program that takes the same words and scripts, is timed on the longer script for comparison.
+Each run has a fresh store of one page in a folder of its own, in memory where there is such a place. N is the length of the
+shorter script of each pair, 30,000 without it, at most 32,768. The time of a run is the least of five. COMMAND, a program that
+takes the same words and scripts, is timed on the longer script for comparison.
 """
 import argparse
 import os
 import random
 import subprocess
 import sys
+import tempfile
 import time
 
 PROGRAM = os.path.join(os.path.dirname(os.path.abspath(__file__)), "..", "brahma")
@@ -48,9 +50,11 @@ def seconds(command, script):
     text = ("\n".join(script) + "\n").encode()
     least = None
     for _ in range(RUNS):
-        start = time.perf_counter()
-        done = subprocess.run(command, input=text, stdout=subprocess.DEVNULL)
-        taken = time.perf_counter() - start
+        with tempfile.TemporaryDirectory(dir="/dev/shm" if os.path.isdir("/dev/shm") else None) as store:
+            subprocess.run(command + ["init", "1"], cwd=store, stdout=subprocess.DEVNULL, check=True)
+            start = time.perf_counter()
+            done = subprocess.run(command + ["replay"], cwd=store, input=text, stdout=subprocess.DEVNULL)
+            taken = time.perf_counter() - start
         if done.returncode != 0:
             sys.exit("status %d of %s" % (done.returncode, " ".join(command)))
         least = taken if least is None else min(least, taken)
@@ -66,12 +70,12 @@ def main():
     scripts += [("63 readers, one writer in vain", idle_readers),
                 ("one transaction, commit", lambda lines: one_transaction(lines, "1 commit")),
                 ("one transaction, abort", lambda lines: one_transaction(lines, "1 abort"))]
-    program = [PROGRAM, "replay"]
+    program = [os.path.abspath(PROGRAM)]
     seconds(program, ["1 begin"])
     print("%-32s %9s %9s %7s %9s" % ("script", "%d" % options.lines, "%d" % (2 * options.lines), "ratio", "beside"))
     for name, make in scripts:
         once, twice = seconds(program, make(options.lines)), seconds(program, make(2 * options.lines))
-        beside = "%9.3f" % seconds(options.beside.split() + ["replay"], make(2 * options.lines)) if options.beside else ""
+        beside = "%9.3f" % seconds(options.beside.split(), make(2 * options.lines)) if options.beside else ""
         print("%-32s %9.3f %9.3f %7.2f %9s" % (name, once, twice, twice / once, beside))
 
 

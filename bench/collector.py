@@ -3,10 +3,10 @@
 
     bench/collector.py PROGRAM [--runs N] [--sizes N,N,..] [--shapes NAME,NAME,..]
 
-PROGRAM replays scripts as `brahma replay` does, on a store of 8,192 ids: that is this program where `PAGES` in
-crates/brahma_shell/src/store.rt is 1024. The time of a heap is that of its script with `gc all` behind it, less that
-with `gc step`: user and system time, each the least of N runs. Behind the times of a shape stand the exponents of their
-growth: 1 is growth in proportion.
+PROGRAM makes stores and replays scripts as `brahma init` and `brahma replay` do; each run has a fresh store of 8,192 ids in a
+folder of its own, in memory where there is such a place. The time of a heap is that of its script with `gc all` behind it,
+less that with `gc step`: user and system time, each the least of N runs. Behind the times of a shape stand the exponents of
+their growth: 1 is growth in proportion.
 """
 import argparse
 import math
@@ -90,15 +90,21 @@ def undone_cuts(objects):
 SHAPES = [live_ring, live_fan, dead_rings, two_object_cycles, queued_cycles, undone_cuts]
 
 
-def seconds(program, path):
-    """The user and system time of one run."""
-    with open(path) as script:
+def replay(program, path, folder, output):
+    """A script is replayed on a fresh store."""
+    with tempfile.TemporaryDirectory(dir=folder) as store, open(path) as script:
+        subprocess.run([program, "init", "1024"], cwd=store, stdout=subprocess.DEVNULL, check=True)
         before = resource.getrusage(resource.RUSAGE_CHILDREN)
-        done = subprocess.run([program, "replay"], stdin=script, stdout=subprocess.DEVNULL)
+        done = subprocess.run([program, "replay"], cwd=store, stdin=script, stdout=output)
         after = resource.getrusage(resource.RUSAGE_CHILDREN)
     if done.returncode != 0:
         sys.exit("status %d of %s" % (done.returncode, program))
-    return after.ru_utime - before.ru_utime + after.ru_stime - before.ru_stime
+    return done.stdout, after.ru_utime - before.ru_utime + after.ru_stime - before.ru_stime
+
+
+def seconds(program, path, folder):
+    """The user and system time of one run."""
+    return replay(program, path, folder, subprocess.DEVNULL)[1]
 
 
 def collection(program, folder, script, runs):
@@ -108,10 +114,9 @@ def collection(program, folder, script, runs):
         paths.append(os.path.join(folder, last.replace(" ", "-")))
         with open(paths[-1], "w") as file:
             file.write("\n".join(script + [last]) + "\n")
-    with open(paths[0]) as file:
-        if b": full\n" in subprocess.run([program, "replay"], stdin=file, capture_output=True).stdout:
-            sys.exit("the store has too few ids")
-    times = [[seconds(program, path) for path in paths] for _ in range(runs)]
+    if b": full\n" in replay(program, paths[0], folder, subprocess.PIPE)[0]:
+        sys.exit("the store has too few ids")
+    times = [[seconds(program, path, folder) for path in paths] for _ in range(runs)]
     return min(whole for whole, _ in times) - min(rest for _, rest in times)
 
 
@@ -124,11 +129,12 @@ def main():
     options = parser.parse_args()
     sizes = [int(size) for size in options.sizes.split(",")]
     print("%-18s" % "shape", *("%8d" % size for size in sizes), " exponents (times in milliseconds)")
-    with tempfile.TemporaryDirectory() as folder:
+    program = os.path.abspath(options.program)
+    with tempfile.TemporaryDirectory(dir="/dev/shm" if os.path.isdir("/dev/shm") else None) as folder:
         for shape in SHAPES:
             if shape.__name__ not in options.shapes.split(","):
                 continue
-            times = [collection(options.program, folder, shape(size), options.runs) for size in sizes]
+            times = [collection(program, folder, shape(size), options.runs) for size in sizes]
             pairs = zip(sizes, times, sizes[1:], times[1:])
             growth = [math.log(later / time, 2) / math.log(larger / size, 2) for size, time, larger, later in pairs]
             print("%-18s" % shape.__name__, *("%8.2f" % (1000 * time) for time in times), "",
