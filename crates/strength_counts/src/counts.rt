@@ -38,6 +38,9 @@ pub fn gain<const SLOTS: usize>(cell: &mut Cell<SLOTS>, bit: bool)
     ensures model { cell_of cell.new ≡ gains bit (cell_of cell.old) }
     ensures id { cell.new.id ≡ cell.old.id }
 
+    // All but the counts stays, in a free cell and in one that breaks the rules as well, the pointer bits of no slot too.
+    ensures others { cell.new ≡ record cell.old { strong = cell.new.strong; weak = cell.new.weak } }
+
     // An object goes on to obey the rules.
     ensures rules { (id : ℕ) → IsCell id cell.old → cell.old.live ≡ true → IsCell id cell.new }
 {
@@ -54,6 +57,7 @@ pub fn lose<const SLOTS: usize>(cell: &mut Cell<SLOTS>, bit: bool) -> bool
     ensures strong { result ≡ same cell.old.bit bit }
     ensures model { cell_of cell.new ≡ loses bit (cell_of cell.old) }
     ensures id { cell.new.id ≡ cell.old.id }
+    ensures others { cell.new ≡ record cell.old { strong = cell.new.strong; weak = cell.new.weak } }
     ensures rules { (id : ℕ) → IsCell id cell.old → cell.old.live ≡ true → IsCell id cell.new }
 {
     let strong = same(cell.bit, bit);
