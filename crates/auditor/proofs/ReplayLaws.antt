@@ -32,7 +32,7 @@ module _ (slots : ℕ) (before after : List Cell) (pass id place «from» : ℕ)
       let low = small stored to bit false h.1 (omega (arith, long, few)) in
       subst (λ (cs : List Cell). SameButCounts cs (after_record slots stored (UndoRecord pass id place «from» strong to bit))) (sym (slot (eqb-false place 255 y) low)) (relinked-same before stored id place (record { target = to; bit = bit }) e)
 
-  pub undo-replays : Replays slots before (Undo pass id place «from» strong to bit) after
+  pub undo-replays : Replays slots before (Undo pass place strong bit id «from» to) after
   undo-replays stored e fits = by stored e (place == 255) refl fits
 
 -- ---- one note after another

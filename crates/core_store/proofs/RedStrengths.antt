@@ -115,10 +115,10 @@ module _ (slots ids : ℕ) (cells : List Cell) (k : AreConsistent slots ids cell
       (relinked-which cells id at p x slot (live-there cells id k.exact.none f.0.live) (live-within cells id f.0.live) f.0.within)
   client-strong (logs.Pay pass id old_value new_value) f c x slot s = inl (sym (counted-same cells (edit cells id (pays new_value)) (links-paid cells id new_value) x slot) ∙ s)
   client-strong (logs.Commit pass) f c x slot s = inl s
-  client-strong (logs.Undo pass id place «from» from_strong to to_bit) f c x slot s = by (place == payload_place) f s
+  client-strong (logs.Undo pass place from_strong to_bit id «from» to) f c x slot s = by (place == payload_place) f s
     where
       by : (b : Bool) → Fits cells (if b then UndoPay pass id «from» to else Undo pass id place «from» from_strong to to_bit)
-          → IsStrong (after_record slots cells (if b then UndoPay pass id «from» to else Undo pass id place «from» from_strong to to_bit)) x slot → IsStrong cells x slot ⊎ Writes (logs.Undo pass id place «from» from_strong to to_bit) x slot
+          → IsStrong (after_record slots cells (if b then UndoPay pass id «from» to else Undo pass id place «from» from_strong to to_bit)) x slot → IsStrong cells x slot ⊎ Writes (logs.Undo pass place from_strong to_bit id «from» to) x slot
       by true f s = inl (sym (counted-same cells (edit cells id (pays to)) (links-paid cells id to) x slot) ∙ s)
       by false f s =
           let p : Pointer = record { target = to; bit = to_bit } in

@@ -23,7 +23,7 @@ use Rattle.core_store.proofs.SlotStart.{small-ids}
 
 -- the cells after the record of an undo whose place is a slot
 after-slot : (slots : ℕ) (cells : List Cell) (pass id slot old : ℕ) (strong : Bool) (target : ℕ) (bit : Bool) → slot ≢ payload_place
-    → after_cell_record slots cells (Undo pass id slot old strong target bit) ≡ relinked cells id slot (record { target = target; bit = bit })
+    → after_cell_record slots cells (Undo pass slot strong bit id old target) ≡ relinked cells id slot (record { target = target; bit = bit })
 after-slot slots cells pass id slot old strong target bit n =
     ap (λ (b : Bool). after_record slots cells (cond b (UndoPayRecord pass id old target) (UndoRecord pass id slot old strong target bit))) (ne_eqb slot payload_place n)
 
@@ -37,10 +37,10 @@ module _ (slots ids : ℕ) (cells : List Cell) (pass : ℕ) (w : Write) (slot : 
   -- the slot changed so, and this is the record of that
   pub restores-slot : {held new : List (HeldFrame slots)} {zeros marks : List Bool} (result : SlotChange) (old : ℕ) → old ≡ result.old_target → IsSlotCount slots → CanRestore slots ids cells w
       → (result ≡ restored_change cells w.id slot w.value) × IsChanged cells (after_change cells w.id slot w.value result) held new zeros marks
-      → (let undo = Undo pass w.id slot old result.old_strong w.value result.new_bit in (undo ≡ logged_by_undo cells pass w) × IsChanged cells (after_cell_record slots cells undo) held new zeros marks)
+      → (let undo = Undo pass slot result.old_strong result.new_bit w.id old w.value in (undo ≡ logged_by_undo cells pass w) × IsChanged cells (after_cell_record slots cells undo) held new zeros marks)
   restores-slot {held} {new} {zeros} {marks} result old same_old count can changed =
       let n = slot-place slots slot count (can-change can).within in (
-        ap (λ (t : ℕ). Undo pass w.id slot t result.old_strong w.value result.new_bit) same_old ∙ ap (λ (c : SlotChange). undo_record pass w.id slot w.value c) changed.0 ∙ sym logged-slot,
+        ap (λ (t : ℕ). Undo pass slot result.old_strong result.new_bit w.id t w.value) same_old ∙ ap (λ (c : SlotChange). undo_record pass w.id slot w.value c) changed.0 ∙ sym logged-slot,
         subst (λ (cs : List Cell). IsChanged cells cs held new zeros marks) (sym (after-slot slots cells pass w.id slot old result.old_strong w.value result.new_bit n)) changed.1,
       )
 
@@ -66,15 +66,15 @@ module _ (w : Write) (is : (w.place ≡ Payload) ⊎ (w.place ≡ Whole)) where
   can-live : (slots ids : ℕ) (cells : List Cell) → CanRestore slots ids cells w → is_live cells w.id ≡ true
   can-live slots ids cells = by-place (λ p. CanRestore slots ids cells (record w { place = p }) → is_live cells w.id ≡ true) (λ l. l) (λ l. l)
 
-  logged-payload : (cells : List Cell) (pass : ℕ) → logged_by_undo cells pass w ≡ Undo pass w.id payload_place (cell_at cells w.id).payload false w.value false
-  logged-payload cells pass = by-place (λ p. logged_by_undo cells pass (record w { place = p }) ≡ Undo pass w.id payload_place (cell_at cells w.id).payload false w.value false) refl refl
+  logged-payload : (cells : List Cell) (pass : ℕ) → logged_by_undo cells pass w ≡ Undo pass payload_place false false w.id (cell_at cells w.id).payload w.value
+  logged-payload cells pass = by-place (λ p. logged_by_undo cells pass (record w { place = p }) ≡ Undo pass payload_place false false w.id (cell_at cells w.id).payload w.value) refl refl
 
   -- the payload was set, and this is the record of that
   pub restores-payload : {slots : ℕ} (held new : List (HeldFrame slots)) (zeros : List Bool) (ids : ℕ) (cells : List Cell) (pass old : ℕ) → IsReadyToRestore held zeros w → CanRestore slots ids cells w → old ≡ (cell_at cells w.id).payload
       → (is_live cells w.id ≡ true → Agree (edit cells w.id (pays w.value)) new)
-      → (let undo = Undo pass w.id payload_place old false w.value false in (undo ≡ logged_by_undo cells pass w) × IsChanged cells (after_cell_record slots cells undo) held new zeros zeros)
+      → (let undo = Undo pass payload_place false false w.id old w.value in (undo ≡ logged_by_undo cells pass w) × IsChanged cells (after_cell_record slots cells undo) held new zeros zeros)
   restores-payload {slots} held new zeros ids cells pass old r can same_old agree = (
-    ap (λ (t : ℕ). Undo pass w.id payload_place t false w.value false) same_old ∙ sym (logged-payload cells pass),
+    ap (λ (t : ℕ). Undo pass payload_place false false w.id t w.value) same_old ∙ sym (logged-payload cells pass),
     record {
       agree = agree (can-live slots ids cells can);
       elsewhere = elsewhere-edit cells held w.id (pays w.value) (ready-edit held zeros r).page;

@@ -37,7 +37,7 @@ IsOfClient (logs.Make pass id) = IsPass pass
 IsOfClient (logs.Store pass id slot old_target old_strong new_target new_bit new_strong) = IsPass pass × IsOfTarget old_target old_strong × IsOfTarget new_target new_strong
 IsOfClient (logs.Pay pass id old_value new_value) = IsPass pass
 IsOfClient (logs.Commit pass) = IsPass pass
-IsOfClient (logs.Undo pass id place «from» from_strong to to_bit) =
+IsOfClient (logs.Undo pass place from_strong to_bit id «from» to) =
     IsPass pass × (place ≡ payload_place → (from_strong ≡ false) × (to_bit ≡ false)) × (place ≢ payload_place → IsOfTarget «from» from_strong)
 IsOfClient (logs.AbortEnd pass) = IsPass pass
 IsOfClient _ = Unit {0}
@@ -80,9 +80,9 @@ module _ (slots ids : ℕ) (cells : List Cell) (k : AreConsistent slots ids cell
   )
   spelled (logs.Pay pass id old_value new_value) f c = ((c, some-id id f.0), at-most id f.0)
   spelled (logs.Commit pass) f c = (c, tt)
-  spelled (logs.Undo pass id place «from» from_strong to to_bit) f c = by (place == payload_place) refl
+  spelled (logs.Undo pass place from_strong to_bit id «from» to) f c = by (place == payload_place) refl
     where
-      by : (b : Bool) → (place == payload_place) ≡ b → IsSpelledIn slots ids (logs.Undo pass id place «from» from_strong to to_bit)
+      by : (b : Bool) → (place == payload_place) ≡ b → IsSpelledIn slots ids (logs.Undo pass place from_strong to_bit id «from» to)
       by true e =
           let is : place ≡ payload_place = eqb-true place payload_place e in
           let fits : Fits cells (UndoPay pass id «from» to) = subst (λ (b : Bool). Fits cells (if b then UndoPay pass id «from» to else Undo pass id place «from» from_strong to to_bit)) e f in (

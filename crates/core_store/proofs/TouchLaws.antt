@@ -184,11 +184,11 @@ round-touched slots v c h xs = round_of-touched slots v.ids v.round xs h.in_step
 -- ---- the tables after the undo of a slot
 
 -- the objects that the record of the undo of a slot concerns
-touched-undo : (v : RoundView) (pass id slot «from» : ℕ) (strong : Bool) (to : ℕ) (bit : Bool) → slot ≢ payload_place → touched_in (touched_in (touched_in v id) «from») to ≡ touched_by_record v (Some (Undo pass id slot «from» strong to bit))
+touched-undo : (v : RoundView) (pass id slot «from» : ℕ) (strong : Bool) (to : ℕ) (bit : Bool) → slot ≢ payload_place → touched_in (touched_in (touched_in v id) «from») to ≡ touched_by_record v (Some (Undo pass slot strong bit id «from» to))
 touched-undo v pass id slot «from» strong to bit n = ap (λ (b : Bool). fold touched_in v (if b then [] else id ∷ «from» ∷ to ∷ [])) (sym (ne_eqb slot payload_place n))
 
 pub view-touched : (w v : TablesView) (zeros : List Bool) (pass id slot old «from» : ℕ) (strong : Bool) (to : ℕ) (bit : Bool) → w ≡ record v { zeros = zeros; round = touched_in (touched_in (touched_in v.round id) old) to } → «from» ≡ old → slot ≢ payload_place
-    → w ≡ record v { zeros = w.zeros; round = touched_by_record v.round (Some (Undo pass id slot «from» strong to bit)) }
+    → w ≡ record v { zeros = w.zeros; round = touched_by_record v.round (Some (Undo pass slot strong bit id «from» to)) }
 view-touched w v zeros pass id slot old «from» strong to bit is same n =
     is ∙ (ap (λ (z : List Bool). let y : TablesView = record v { zeros = z; round = touched_in (touched_in (touched_in v.round id) old) to } in y) (sym (ap (λ (y : TablesView). y.zeros) is))
     ∙ ap (λ (r : RoundView). let y : TablesView = record v { zeros = w.zeros; round = r } in y) (ap (λ (x : ℕ). touched_in (touched_in (touched_in v.round id) x) to) (sym same) ∙ touched-undo v.round pass id slot «from» strong to bit n))

@@ -38,7 +38,7 @@ store_record pass id slot target c = Store pass id slot c.old_target c.old_stron
 
 -- the record of the undo of a slot
 abbrev pub undo_record : ℕ → ℕ → ℕ → ℕ → SlotChange → CellRecord
-undo_record pass id slot target c = Undo pass id slot c.old_target c.old_strong target c.new_bit
+undo_record pass id slot target c = Undo pass slot c.old_strong c.new_bit id c.old_target target
 
 -- the cells after the slot changed so
 abbrev pub after_change : List Cell → ℕ → ℕ → ℕ → SlotChange → List Cell

@@ -42,7 +42,7 @@ logged_by_undo cells pass w = by w.place
   where
     by : Place → CellRecord
     by (Slot slot) = undo_record pass w.id slot w.value (restored_change cells w.id slot w.value)
-    by other = logs.Undo pass w.id payload_place (cell_at cells w.id).payload false w.value false
+    by other = logs.Undo pass payload_place false false w.id (cell_at cells w.id).payload w.value
 
 -- the cells after what was logged, if anything was
 abbrev pub after_logged : ℕ → List Cell → Option CellRecord → List Cell

@@ -15,7 +15,7 @@ abbrev pub IsOfIds : ℕ → CellRecord → Type 0
 IsOfIds ids (Make pass id) = id ≤ ids
 IsOfIds ids (Store pass id slot old_target old_strong new_target new_bit new_strong) = (id ≤ ids) × (old_target ≤ ids) × (new_target ≤ ids)
 IsOfIds ids (Pay pass id old_value new_value) = id ≤ ids
-IsOfIds ids (Undo pass id place «from» from_strong to to_bit) = (id ≤ ids) × (place ≢ payload_place → («from» ≤ ids) × (to ≤ ids))
+IsOfIds ids (Undo pass place from_strong to_bit id «from» to) = (id ≤ ids) × (place ≢ payload_place → («from» ≤ ids) × (to ≤ ids))
 IsOfIds ids (Weaken id slot target) = (id ≤ ids) × (target ≤ ids)
 IsOfIds ids (Strengthen id slot target) = (id ≤ ids) × (target ≤ ids)
 IsOfIds ids (Flip id) = id ≤ ids

@@ -17,7 +17,7 @@ touch r id = if is_window r && has r.list id then record r { touched = filter (�
 -- the objects whose slots or counts a change of a slot concerns: its own, what the slot held, and what it holds, each 0 for null
 abbrev pub objects_touched : Option CellRecord → List ℕ
 objects_touched (Some (logs.Store pass id slot old_target old_strong new_target new_bit new_strong)) = id ∷ old_target ∷ new_target ∷ []
-objects_touched (Some (logs.Undo pass id place «from» from_strong to to_bit)) = if place == payload_place then [] else id ∷ «from» ∷ to ∷ []
+objects_touched (Some (logs.Undo pass place from_strong to_bit id «from» to)) = if place == payload_place then [] else id ∷ «from» ∷ to ∷ []
 objects_touched _ = []
 
 -- the open round, if one is, after changes of these objects

@@ -8,7 +8,7 @@ use plain_model::Memory;
 use std::alloc::Global;
 
 /// For how many notes room is asked for at the opening, so that the first ones need not be moved as they grow more.
-const FIRST_ROOM: usize = 4_096;
+const FIRST_ROOM: usize = 8_192;
 
 /// What happened since the opening, how far that may grow, and which answers were given.
 #[derive(Debug, Drop)]

@@ -87,7 +87,7 @@ placed_after slots ids us (Store pass id slot old_target old_strong new_target n
 placed_after slots ids us (Pay pass id old_value new_value) s w h =
     noted slots ids us pass (record { id = id; place = Payload; old = old_value; new = new_value }) (record { above = s.1; within = w; place = tt }) h
 placed_after slots ids us (Commit pass) s w h = removed slots ids us pass h
-placed_after slots ids us (Undo pass id place «from» from_strong to to_bit) s w h = by (place == payload_place)
+placed_after slots ids us (Undo pass place from_strong to_bit id «from» to) s w h = by (place == payload_place)
   where
     by : (b : Bool) → AreStoreEntries slots ids (unended_after us (if b then UndoPayRecord pass id «from» to else UndoRecord pass id place «from» from_strong to to_bit))
     by true = undone slots ids us pass h

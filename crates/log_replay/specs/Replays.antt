@@ -45,7 +45,7 @@ abbrev pub IsWithin : ℕ → CellRecord → Type 0
 IsWithin ids (Make pass id) = id ≤ ids
 IsWithin ids (Store pass id slot old_target old_strong new_target new_bit new_strong) = (id ≤ ids) × (old_target ≤ ids) × (new_target ≤ ids)
 IsWithin ids (Pay pass id old_value new_value) = id ≤ ids
-IsWithin ids (Undo pass id place «from» from_strong to to_bit) = (id ≤ ids) × (place ≢ payload_place → («from» ≤ ids) × (to ≤ ids))
+IsWithin ids (Undo pass place from_strong to_bit id «from» to) = (id ≤ ids) × (place ≢ payload_place → («from» ≤ ids) × (to ≤ ids))
 IsWithin ids (Weaken id slot target) = (id ≤ ids) × (target ≤ ids)
 IsWithin ids (Strengthen id slot target) = (id ≤ ids) × (target ≤ ids)
 IsWithin ids (Flip id) = id ≤ ids

@@ -92,7 +92,7 @@ places_after slots us (MakeRecord pass id) rules h = h
 places_after slots us (StoreRecord pass id slot old old_strong new bit strong) rules h = one_more slots us pass (record { id = id; place = Slot slot; old = old; new = new }) rules.2 h
 places_after slots us (PayRecord pass id old new) rules h = one_more slots us pass (record { id = id; place = Payload; old = old; new = new }) tt h
 places_after slots us (CommitRecord pass) rules h = removed slots us pass h
-places_after slots us (UndoRecord pass id place old old_strong new bit) rules h = by (place == payload_place)
+places_after slots us (UndoRecord pass place old_strong bit id old new) rules h = by (place == payload_place)
   where
     by : (b : Bool) → HavePlaces slots (unended_after us (if b then UndoPay pass id old new else Undo pass id place old old_strong new bit))
     by true = one_less slots us pass h

@@ -50,7 +50,7 @@ bytes-sized (Make pass id) some = absurd (omega (arith, some))
 bytes-sized (Store pass id slot old_target old_strong new_target new_bit new_strong) some = absurd (omega (arith, some))
 bytes-sized (Pay pass id old_value new_value) some = absurd (omega (arith, some))
 bytes-sized (Commit pass) some = absurd (omega (arith, some))
-bytes-sized (Undo pass id place «from» from_strong to to_bit) some = sym (place-sized (place == payload_place) pass id place «from» to from_strong to_bit)
+bytes-sized (Undo pass place from_strong to_bit id «from» to) some = sym (place-sized (place == payload_place) pass id place «from» to from_strong to_bit)
 bytes-sized (AbortEnd pass) some = refl
 bytes-sized (Weaken id slot target) some = absurd (omega (arith, some))
 bytes-sized (Strengthen id slot target) some = absurd (omega (arith, some))

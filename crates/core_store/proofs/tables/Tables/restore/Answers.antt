@@ -16,7 +16,7 @@ overflow_cast-target g c =
 pub returns-in-Slot-clause-restores : goal.returns-in-Slot-clause-restores
 returns-in-Slot-clause-restores g c ids cells agree can =
     let slot = c.in-Slot.slot in
-    let undo = logs.Undo c.args.pass c.args.replaced.id slot c.into.result c.restore-change.result.old_strong c.args.replaced.value c.restore-change.result.new_bit in
+    let undo = logs.Undo c.args.pass slot c.restore-change.result.old_strong c.restore-change.result.new_bit c.args.replaced.id c.into.result c.args.replaced.value in
     subst (λ (marks : List Bool). (undo ≡ logged_by_undo cells c.args.pass c.args.replaced) × IsChanged cells (after_cell_record g.row.SLOTS cells undo) c.args.held.now c.restore-change.new.held c.args.self.now.zeros.items marks)
     (marks-touched (view_of c.touch.new.self) (view_of c.args.self.now) c.restore-change.new.zeros.items _ c.touch.ensures.touched)
     (restores-slot g.row.SLOTS ids cells c.args.pass c.args.replaced slot c.in-Slot.is c.restore-change.result c.into.result c.into.ensures c.requires.size can
