@@ -93,7 +93,11 @@ none-free row limit none = nothing-passes (λ id. get_or row id false) limit 1 (
 
 -- ---- a mark that is changed
 
-module _ (row : List Bool) (first limit id : ℕ) (i : IsFreeInside row first limit) (low : 1 ≤ id) (high : id ≤ limit) where
+-- behind the last one none is marked
+pub up-to-last : (row : List Bool) (first last limit id : ℕ) → IsFreeInside row first last limit → get_or row id false ≡ true → id ≤ last
+up-to-last row first last limit id i mark = ⊎_elim (λ (l : last < id). absurd (let none = i.beyond id l in cc)) (λ l. l) (cases_lt last id)
+
+module _ (row : List Bool) (first last limit id : ℕ) (i : IsFreeInside row first last limit) (low : 1 ≤ id) (high : id ≤ limit) where
   marked : (b : Bool) → get_or (set row id b) id false ≡ b
   marked b = get_or-set_same row id b false (let l = i.length in omega (arith, l, high))
 
@@ -114,16 +118,13 @@ module _ (row : List Bool) (first limit id : ℕ) (i : IsFreeInside row first li
       by true e = let is = same id k e in ap (λ i. get_or (set row id false) i false && (nat_lt 0 i && nat_le i limit)) is ∙ ap (λ b. b && (nat_lt 0 id && nat_le id limit)) (marked false)
       by false e = ap (λ b. b && (nat_lt 0 k && nat_le k limit)) (others false k e) ∙ sym (free-at row limit k)
 
-  -- the least one is taken, and the next one that is free is the first one
-  pub inside-taken : IsLeastOf (free_in row limit) id → (next : ℕ) → IsNextFree (set row id false) (id + 1) limit next → IsFreeInside (set row id false) next limit
-  inside-taken l next n = record {
-    length = length-set row id false ∙ i.length;
-    few = i.few;
-    above = let f = n.above in omega (arith, f);
-    within = n.within;
-    stored = λ k a b. ⊎_elim (λ (is : k < id + 1). until k a is) (λ (is : id + 1 ≤ k). n.stored k is b) (cases_lt k (id + 1));
-    found = n.found;
-  }
+  -- behind the last one none is marked when one is taken
+  past : (k : ℕ) → last < k → get_or (set row id false) k false ≡ false
+  past k b = ⊎_elim (λ (is : k ≡ id). ap (λ j. get_or (set row id false) j false) is ∙ marked false) (λ n. others false k (ne_eqb k id n) ∙ i.beyond k b) (cases_eq k id)
+
+  -- nor is one before the next one that is free
+  passed : IsLeastOf (free_in row limit) id → (next : ℕ) → IsNextFree (set row id false) (id + 1) last next → (k : ℕ) → 1 ≤ k → k < next → get_or (set row id false) k false ≡ false
+  passed l next n k a b = ⊎_elim (λ (is : k < id + 1). until k a is) (λ (is : id + 1 ≤ k). n.stored k is b) (cases_lt k (id + 1))
     where
       before : (k : ℕ) → 1 ≤ k → k < id → get_or row k false ≡ false
       before k a b = by (get_or row k false) (λ e. l.least k (sym (free-is row limit k a (omega (arith, b, high))) ∙ e))
@@ -134,3 +135,32 @@ module _ (row : List Bool) (first limit id : ℕ) (i : IsFreeInside row first li
 
       until : (k : ℕ) → 1 ≤ k → k < id + 1 → get_or (set row id false) k false ≡ false
       until k a b = ⊎_elim (λ (is : k ≡ id). ap (λ j. get_or (set row id false) j false) is ∙ marked false) (λ n. others false k (ne_eqb k id n) ∙ before k a (omega (arith, b, n))) (cases_eq k id)
+
+  -- the least one is taken, and the next one that is free is the first one
+  pub inside-taken : IsLeastOf (free_in row limit) id → (next : ℕ) → IsNextFree (set row id false) (id + 1) last next → next ≤ last → IsFreeInside (set row id false) next last limit
+  inside-taken l next n is = record {
+    length = length-set row id false ∙ i.length;
+    few = i.few;
+    above = let f = n.above in omega (arith, f);
+    within = let r = i.reach in omega (arith, is, r);
+    stored = passed l next n;
+    found = λ _. n.found is;
+    reach = i.reach;
+    beyond = past;
+  }
+
+  -- the only one is taken
+  pub inside-emptied : IsLeastOf (free_in row limit) id → (next : ℕ) → IsNextFree (set row id false) (id + 1) last next → last < next → IsFreeInside (set row id false) (limit + 1) 0 limit
+  inside-emptied l next n is = record {
+    length = length-set row id false ∙ i.length;
+    few = i.few;
+    above = omega arith;
+    within = omega arith;
+    stored = λ k a _. none k a;
+    found = λ f. absurd (omega (arith, f));
+    reach = omega arith;
+    beyond = λ k a. none k (omega (arith, a));
+  }
+    where
+      none : (k : ℕ) → 1 ≤ k → get_or (set row id false) k false ≡ false
+      none k a = ⊎_elim (λ (b : k < next). passed l next n k a b) (λ (b : next ≤ k). past k (omega (arith, b, is))) (cases_lt k next)

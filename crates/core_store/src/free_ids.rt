@@ -15,13 +15,16 @@ use std::marker::Model;
 /// The ids of a store that aren't stored, of all from 1 to a limit.
 ///
 /// A call costs the same however many there are, but for `stored`, and for `remove`, which looks for the least one behind the one
-/// that it takes.
+/// that it takes, up to `last`.
 #[derive(Debug, Drop)]
 pub(crate) struct FreeIds {
     /// For each id, at its index, whether it is free.
     row: Vec<bool>,
     /// The least free id, or the one behind the limit where none is free.
     first: u32,
+    /// No id above this one is free. It is the greatest of the store at first; once none was free, the greatest that was freed since
+    /// then, or 0.
+    last: u32,
     /// The greatest id of the store.
     limit: u32,
 }
@@ -33,7 +36,7 @@ impl Model for FreeIds {
 
     ghost view = { λ a. record { ids = free_in a.row.items a.limit; limit = a.limit } };
 
-    ghost invariant = { λ a. IsFreeInside a.row.items a.first a.limit };
+    ghost invariant = { λ a. IsFreeInside a.row.items a.first a.last a.limit };
 }
 
 /// Marks the id of each live cell as stored, where the cells stand by their ids from 1 on.
@@ -49,19 +52,19 @@ fn mark_live<const SLOTS: usize>(row: &mut Vec<bool>, cells: &[Cell<SLOTS>])
     }
 }
 
-/// The least id from this one on that the row marks as free, or the one behind the limit where it marks none.
-fn next_free(row: &Vec<bool>, from: u32, limit: u32) -> u32
-    requires length { length row.now.items ≡ limit + 1 }
-    requires few { limit ≤ 8192 }
-    requires within { from ≤ limit + 1 }
-    ensures { IsNextFree row.now.items from limit result }
+/// The least id from this one on that the row marks as free, or the one behind the last where it marks none up to that.
+fn next_free(row: &Vec<bool>, from: u32, last: u32) -> u32
+    requires length { last + 1 ≤ length row.now.items }
+    requires few { last ≤ 8192 }
+    requires within { from ≤ last + 1 }
+    ensures { IsNextFree row.now.items from last result }
 {
-    for id in from..limit + 1 {
+    for id in from..last + 1 {
         if row[id as usize] {
             return id;
         }
     }
-    limit + 1
+    last + 1
 }
 
 impl FreeIds {
@@ -78,7 +81,12 @@ impl FreeIds {
         mark_live(&mut row, cells);
         let limit = cells.len() as u32;
         let first = next_free(&row, 1, limit);
-        Ok(FreeIds { row, first, limit })
+        Ok(FreeIds {
+            row,
+            first,
+            last: limit,
+            limit,
+        })
     }
 
     /// Whether the id is free.
@@ -106,7 +114,13 @@ impl FreeIds {
         ensures limit { self.new.limit ≡ self.old.limit }
     {
         self.row[id as usize] = false;
-        self.first = next_free(&self.row, id + 1, self.limit);
+        let next = next_free(&self.row, id + 1, self.last);
+        if next <= self.last {
+            self.first = next;
+        } else {
+            self.first = self.limit + 1;
+            self.last = 0;
+        }
     }
 
     /// The stored id is free from now on.
@@ -118,6 +132,7 @@ impl FreeIds {
     {
         self.row[id as usize] = true;
         self.first = self.first.min(id);
+        self.last = self.last.max(id);
     }
 
     /// The ids that are stored, ascending.
