@@ -28,7 +28,7 @@ use Rattle.core_store.specs.Slots.{CanChange, IsReadyToChange, IsReadyToEdit}
 use Rattle.core_store.specs.Transactions.{Running, just_begun, loaded, writing}
 use Rattle.core_store.specs.Tables.{TablesView, changed_at}
 use Rattle.core_store.specs.Stands.{owns_in, shares_in, Stands, Answers}
-use Rattle.core_store.specs.Ready.{IsReady, IsNoted, Does}
+use Rattle.core_store.specs.Ready.{IsReady, OwnsToWrite, Does}
 use Rattle.core_store.proofs.BeginLaws.{answers-begin}
 use Rattle.core_store.proofs.MakeLaws.{answers-make}
 use Rattle.core_store.proofs.MapLaws.{PutsAt}
@@ -165,7 +165,7 @@ module _ {slots : ℕ} (v : TablesView) (held : List (HeldFrame slots)) (pass : 
           contradict (is_stored r.standing.core.moment.state.stored id) ((h.sound.state.transactions q u e).held_stored id f) g.unstored
 
 -- the tables after a client owns an object, and has noted what its write replaced
-pub noted-view : (v w : TablesView) (pass id : ℕ) (x : Write) → IsNoted v w pass id x → w ≡ record v { locks = w.locks; transactions = changed_at pass (writing x) v.transactions; owed = w.owed }
+pub noted-view : (v w : TablesView) (pass id : ℕ) (x : Write) → OwnsToWrite v w pass id x → w ≡ record v { locks = w.locks; transactions = changed_at pass (writing x) v.transactions; owed = w.owed }
 noted-view v w pass id x n = view-same v w n.ids n.free n.zeros n.transactions n.references n.queue n.round
   where
     view-same : (v w : TablesView) → w.ids ≡ v.ids → w.free ≡ v.free → w.zeros ≡ v.zeros → w.transactions ≡ changed_at pass (writing x) v.transactions → w.references ≡ v.references → w.queue ≡ v.queue → w.round ≡ v.round

@@ -64,7 +64,7 @@ abbrev pub DoesPlanned : {slots : ℕ} → TablesView → TablesView → List (H
 DoesPlanned {slots} v w held new pass planned outcome = (call : TransactionCall) → IsPlanned slots v pass call planned → DoesCall slots v w held new pass call outcome.reply outcome.logged
 
 -- the client owns the object, and has noted what its write replaced
-pub record IsNoted (v w : TablesView) (pass id : ℕ) (replaced : Write) : Type 0 where
+pub record OwnsToWrite (v w : TablesView) (pass id : ℕ) (replaced : Write) : Type 0 where
   pub ids : w.ids ≡ v.ids
   pub free : w.free ≡ v.free
   pub zeros : w.zeros ≡ v.zeros

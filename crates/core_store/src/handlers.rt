@@ -9,7 +9,7 @@ ghost use Rattle.core_store.specs.Transactions.{running_at};
 ghost use Rattle.core_store.specs.Frames.{pages_held};
 ghost use Rattle.core_store.specs.Views.{view_of};
 ghost use Rattle.core_store.specs.Stands.{Stands};
-ghost use Rattle.core_store.specs.Ready.{IsReady, IsNoted, Does, DoesPlanned};
+ghost use Rattle.core_store.specs.Ready.{IsReady, OwnsToWrite, Does, DoesPlanned};
 
 use crate::plan::Plan;
 use crate::tables::Tables;
@@ -93,7 +93,7 @@ impl<const SLOTS: usize> Tables<SLOTS> {
         requires nobody { Nobody (StandsInWayOfOwn (holders_of self.old.locks id) pass) }
         requires active { IsSome (running_at self.old.transactions.entries pass) }
         requires room { self.old.owed + 1 < 2 ^ 64 }
-        ensures ok { OnOk result (IsNoted (view_of self.old) (view_of self.new) pass id replaced) }
+        ensures ok { OnOk result (OwnsToWrite (view_of self.old) (view_of self.new) pass id replaced) }
         ensures references { self.new.references ≡ self.old.references }
         ensures err { OnErr result (view_of self.new ≡ view_of self.old) }
     {

@@ -93,6 +93,7 @@ impl<const SLOTS: usize> Tables<SLOTS> {
         ensures behind { from ≤ result }
         ensures within { result ≤ SLOTS }
         ensures idle { (c : Core) → Stands SLOTS (view_of self.now) c → (k : ℕ) → from ≤ k → k < result → is_white_in c.cells (view_of self.now).round (slice_index slots.now k) ≡ false }
+        ensures white { result < SLOTS → (c : Core) → Stands SLOTS (view_of self.now) c → is_white_in c.cells (view_of self.now).round (slice_index slots.now result) ≡ true }
     {
         for place in from..SLOTS {
             if self.is_to_test(slots[place]) {

@@ -343,6 +343,7 @@ pub(crate) fn first_strong<const SLOTS: usize>(held: &Three<SLOTS>, id: u32, fro
     ensures behind { from ≤ result }
     ensures within { result ≤ SLOTS }
     ensures weak { (cells : List StoredCell) → Agree cells held.now → (slot : ℕ) → from ≤ slot → slot < result → is_counted_strong cells (pointer_at cells id slot) ≡ false }
+    ensures strong { result < SLOTS → (cells : List StoredCell) → Agree cells held.now → is_counted_strong cells (pointer_at cells id result) ≡ true }
 {
     for place in from as usize..SLOTS {
         if is_strong(held, id, place as u8) {

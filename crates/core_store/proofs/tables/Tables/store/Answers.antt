@@ -7,7 +7,7 @@ use Rattle.core_store.specs.RoundView.{touched_by_record}
 use Rattle.core_store.specs.Slots.{IsReadyToChange, Changes}
 use Rattle.core_store.specs.declared.plan.Plan.TheVariants as plan
 use Rattle.core_store.specs.Tables.{TablesView}
-use Rattle.core_store.specs.Ready.{Does, IsNoted}
+use Rattle.core_store.specs.Ready.{Does, OwnsToWrite}
 use Rattle.core_store.specs.Views.{view_of}
 use Rattle.core_store.proofs.HandlerLaws.{small-store, ready-store, noted-view, slot-target}
 use Rattle.core_store.proofs.MapLaws.{on_err}
@@ -57,7 +57,7 @@ returns-clause-ok g c =
     let change = c.store-change.result in
     let logged = store_record c.args.pass c.args.id c.args.slot c.args.target change in
     let named = names_in c.note-2.new.references in
-    let noted : IsNoted vr w c.args.pass c.args.id _ = c.in_ok-own_to_write.ensures.ok in
+    let noted : OwnsToWrite vr w c.args.pass c.args.id _ = c.in_ok-own_to_write.ensures.ok in
     let is : view_of c.touch.new.self ≡ with_store v c.args.pass w.locks marks named c.args.id c.args.slot c.args.target c.into.result w.owed change =
     c.touch.ensures.touched ∙ ap (λ (y : TablesView). let z : TablesView = record y { zeros = marks; references = named; round = touched_by_record y.round (Some logged) } in z) (noted-view vr w c.args.pass c.args.id _ noted) in
     subst (λ (x : TablesView). Does v x held new c.args.pass (plan.Store c.args.id c.args.slot c.args.target) (record { reply = reply.Done; logged = Some logged })) (sym is)
