@@ -21,7 +21,9 @@ use Rattle.brahma_shell.specs.Ran.{Ran}
 abbrev pub AskStore : List (List ℕ) → Type 0
 AskStore words = (command_of words ≡ Some Replay) ⊎ ((command_of words ≡ Some Run) ⊎ ((command_of words ≡ Some Audit) ⊎ ((asked : Asked) × (command_of words ≡ Some (Gen asked)))))
 
--- a command can be done with what it finds: it makes a store; or it finds one that opens, whatever a power loss leaves, and a replay's lines are in the grammar, within the limits, and name no page but one of that store, or those of a run are a script of clients
+-- a command can be done with what it finds: it makes a store; or it finds one that opens, whatever a power loss leaves, and a
+-- replay's lines are in the grammar, within the limits, and name no page but one of that store, or those of a run are a script of
+-- clients
 abbrev pub CanBeDone : {D : Type 0} → (D → Area → List ℕ → Type 0) → D → Option (List ℕ) → Command → Type 0
 CanBeDone may_leave disk left (Init pages) = ⊤
 CanBeDone may_leave disk left Replay = (ids : ℕ) × AlwaysOpens may_leave ids disk × HasOnlyLines ids left
@@ -35,7 +37,8 @@ pub record Answered {S D : Type 0} (content : D → Area → Option (List ℕ)) 
   pub usage : (status ≡ 2) ↔ (command_of words ≡ None)
   pub statuses : IsStatus status
   pub goes_later : GoesLater before after
-  -- where the disk holds no store that opens, and none is made, the disk is only looked at: each image, at each moment and at the exit, is one from before
+  -- where the disk holds no store that opens, and none is made, the disk is only looked at: each image, at each moment and at the
+  -- exit, is one from before
   pub only_looks : ((pages : ℕ) → command_of words ≡ Some (Init pages) → ⊥) → OnlyLooksUnlessOpen content may_leave moment left_since 6 disk (disk_in ended)
   -- words without a reading: nothing is read, and the disk is asked for nothing
   pub unread : status ≡ 2 → (later ≡ script) × (ended ≡ Shut disk) × Ends before after [] (codes "usage\n")
@@ -50,9 +53,11 @@ pub record Answered {S D : Type 0} (content : D → Area → Option (List ℕ)) 
       ⊎ ((v : LoggedView D) × (ended ≡ Kept v) × Generated content may_leave asked disk before after status v))
   -- a store that was made opens, whatever a power loss leaves
   pub makes_open : (pages : ℕ) → command_of words ≡ Some (Init pages) → (status ≡ 6 → ⊥) → AlwaysOpens may_leave (8 * pages) (disk_in ended)
-  -- and on a disk that tells what it reads it goes on to open so, with as many ids, behind each command that makes none, at every status
+  -- and on a disk that tells what it reads it goes on to open so, with as many ids, behind each command that makes none, at every
+  -- status
   pub stays_open : Tell content → (ids : ℕ) → AlwaysOpens may_leave ids disk → ((pages : ℕ) → command_of words ≡ Some (Init pages) → ⊥) → AlwaysOpens may_leave ids (disk_in ended)
-  -- what can be done is done where no call of a stream or of the disk failed, unless memory is out, or the history or the log is full
+  -- what can be done is done where no call of a stream or of the disk failed, unless memory is out, or the history or the log is
+  -- full
   pub complete : Tell content → (command : Command) → command_of words ≡ Some command → CanBeDone may_leave disk before.left command
       → ¬ Rose before.read_faults after.read_faults → ¬ Rose before.write_faults after.write_faults → ¬ Rose before.disk_faults after.disk_faults → IsDoneOrFull status
   -- where what the disk reads doesn't open, the store isn't opened

@@ -28,7 +28,8 @@ pub record Reopens {D : Type 0} (content : D → Area → Option (List ℕ)) (ma
   pub same_ids : Tell content → new.journal.history.ids ≡ old.journal.history.ids
   pub safe : Tell content → IsCrashConsistent (end_of (history_of old)) (graph_of new.journal.opening)
 
--- it isn't opened again, or that can't be told, and the disk is handed back. Where the disk tells what it reads, each image of it still opens to a graph that a crash may leave
+-- it isn't opened again, or that can't be told, and the disk is handed back. Where the disk tells what it reads, each image of it
+-- still opens to a graph that a crash may leave
 pub record StaysShut {D : Type 0} (content : D → Area → Option (List ℕ)) (may_leave : D → Area → List ℕ → Type 0) (faults : D → ℕ) (old : LoggedView D) (before written : Option (List ℕ)) (first_faults faults_now status : ℕ) (disk : D) : Type 0 where
   pub refusal : OpenRefusal
   pub told : status ≡ status_of_refusal refusal

@@ -39,15 +39,18 @@ AreOfCollector notes = AllByRecursion (λ n. IsOfCollector n.entry) notes
 abbrev pub GivesStep : Point → List Note → Type 0
 GivesStep p notes = ((n : Note) × (notes ≡ n ∷ []) × IsOfCollector n.entry) ⊎ ((notes ≡ []) × MayRest p)
 
--- steps of the collector until it may rest, or until no round is open and it has taken as many objects out of its queue as the store has ids
+-- steps of the collector until it may rest, or until no round is open and it has taken as many objects out of its queue as the
+-- store has ids
 pub record GivesSteps (p : Point) (notes : List Note) : Type 0 where
   pub each : AreOfCollector notes
   pub ends : MayRest (after_notes p notes) ⊎ (((after_notes p notes).left ≡ 0) × (p.moment.state.ids ≤ count_by (λ n. is_pop n.act) notes))
-  -- where no transaction is active it may rest then, with an empty queue and no open round, and just the reachable objects are stored
+  -- where no transaction is active it may rest then, with an empty queue and no open round, and just the reachable objects are
+  -- stored
   pub rests : p.moment.state.active ≡ [] → MayRest (after_notes p notes)
   pub exact : p.moment.state.active ≡ [] → IsExactAt (after_notes p notes)
 
--- what a checkpoint enters at this moment: what no line tells, or, where some client has a transaction, that it was refused, since the least of these clients has one
+-- what a checkpoint enters at this moment: what no line tells, or, where some client has a transaction, that it was refused,
+-- since the least of these clients has one
 abbrev pub turn_entry : Moment → Entry
 turn_entry m = option_map_or entry.TurnBusy (least_active m.state) entry.Hidden
 

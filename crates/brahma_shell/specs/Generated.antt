@@ -42,7 +42,8 @@ abbrev pub GivesLines : Point → List Line → List Note → Type 0
 GivesLines p [] notes = notes ≡ []
 GivesLines p (l ∷ lines) notes = («first» rest : List Note) × (notes ≡ «first» ++ rest) × Gives p l «first» × GivesLines (after_notes p «first») lines rest
 
--- notes of the first of the lines, which is cut off: only `gc all` gives some before it is done. They are none where there is no line
+-- notes of the first of the lines, which is cut off: only `gc all` gives some before it is done. They are none where there is no
+-- line
 abbrev pub IsPartOf : List Line → List Note → Type 0
 IsPartOf [] part = part ≡ []
 IsPartOf (l ∷ lines) part = (part ≡ []) ⊎ ((l ≡ line.CollectAll) × AreOfCollector part)

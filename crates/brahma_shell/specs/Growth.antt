@@ -45,7 +45,8 @@ pub record GrowsByUpkeep (old new : JournalView) (e : Entry) : Type 0 where
   pub grows : Grows old new (note ∷ [])
   pub unmarked : new.marks ≡ old.marks
 
--- an event of the collector is noted with this entry. Either it took an object out of the queue while no round was open, or it left less of the round
+-- an event of the collector is noted with this entry. Either it took an object out of the queue while no round was open, or it
+-- left less of the round
 pub record GrowsByEvent (old new : JournalView) (popped : Bool) (left : ℕ) (e : Entry) : Type 0 where
   pub note : Note
   pub entry : note.entry ≡ e

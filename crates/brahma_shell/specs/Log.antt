@@ -6,7 +6,8 @@ use Rattle.plain_model.specs.Machine.{refusal_of}
 use Rattle.plain_model.specs.History.{end_of}
 use Rattle.logged_journal.specs.View.{LoggedView}
 
--- the journal goes on: the disk failed no commit and no upkeep, and no call was answered that the log is full. The disk's count of faults doesn't fall
+-- the journal goes on: the disk failed no commit and no upkeep, and no call was answered that the log is full. The disk's count
+-- of faults doesn't fall
 pub record StaysRunning {D : Type 0} (faults : D → ℕ) (old new : LoggedView D) : Type 0 where
   pub running : new.failed ≡ None
   pub log_full : new.log_full ≡ old.log_full

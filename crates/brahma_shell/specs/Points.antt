@@ -35,7 +35,8 @@ after_note p n = record { slots = p.slots; cells = after_logged p.slots p.cells 
 abbrev pub after_notes : Point → List Note → Point
 after_notes p notes = fold after_note p notes
 
--- the point before the first note of a history that starts from these cells: nobody names anything, what no strong pointer leads to is queued, and no round is open
+-- the point before the first note of a history that starts from these cells: nobody names anything, what no strong pointer leads
+-- to is queued, and no round is open
 abbrev pub start_with : History → List Cell → Point
 start_with h cells = record { slots = h.slots; cells = cells; moment = start_of h; refs = []; left = 0; opening = record { cells = cells; moment = start_of h; refs = []; queue = zeros_of cells; round = None }; notes = [] }
 
@@ -51,7 +52,8 @@ point_of j = after_notes (start_point j) j.notes
 abbrev pub entries_in : List Note → List Entry
 entries_in notes = map (λ n. n.entry) notes
 
--- the collector may rest: the notes up to here lead to an empty queue and to no open round. So no work is left, and each object but the root has a strong pointer or is named by a transaction
+-- the collector may rest: the notes up to here lead to an empty queue and to no open round. So no work is left, and each object
+-- but the root has a strong pointer or is named by a transaction
 pub record MayRest (p : Point) : Type 0 where
   pub core : Core
   pub led : AreLed p.slots p.opening p.notes core

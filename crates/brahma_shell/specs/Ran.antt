@@ -74,7 +74,8 @@ pub record Ran {D : Type 0} (content : D → Area → Option (List ℕ)) (may_le
   pub failed_disk : status ≡ 6 → Began before after v × IsSome v.failed × Rose before.disk_faults after.disk_faults × Ends before after (history_text v) (codes "refused: disk\n")
   pub memory : status ≡ 8 → (IsJustOpened v ⊎ Began before after v) × Ends before after (history_text v) (codes "refused: memory\n")
   pub limit : status ≡ 9 → Began before after v × EndsFull before after v
-  -- where the journal is marked as full the status says so, or that the sink or the disk failed; and where the disk failed a call, it is one of these two
+  -- where the journal is marked as full the status says so, or that the sink or the disk failed; and where the disk failed a
+  -- call, it is one of these two
   pub marked : (v.journal.marks.trace ≡ true) ⊎ (v.log_full ≡ true) → (status ≡ 9) ⊎ ((status ≡ 5) ⊎ (status ≡ 6))
   pub failed : IsSome v.failed → (status ≡ 5) ⊎ (status ≡ 6)
   -- a script of clients is done where neither a stream nor the disk failed, unless memory is out, or the history or the log full

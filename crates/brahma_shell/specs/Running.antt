@@ -51,7 +51,8 @@ pub record OnlyPeeks (old new : Known 6) : Type 0 where
   pub more : List (ℕ × ℕ × Frame 6)
   pub peeks : new.knowledge.peeks ≡ old.knowledge.peeks ++ more
 
--- the pass keeps a look at the frame in which the cell of this id stands: so the cell was, live or not, when the history had no entry that the pass doesn't keep
+-- the pass keeps a look at the frame in which the cell of this id stands: so the cell was, live or not, when the history had no
+-- entry that the pass doesn't keep
 pub record HasSeen (v : Known 6) (id : ℕ) (live : Bool) : Type 0 where
   pub before : List (ℕ × ℕ × Frame 6)
   pub behind : List (ℕ × ℕ × Frame 6)
@@ -70,7 +71,8 @@ HasSeenLive v (suc n) live = (before : List ℕ) × (is : Bool) × (live ≡ bef
 
 -- ---- the run
 
--- The clients ran. Where these ids are found to be stored, all was done, the collector had nothing left to do, and behind it the pass saw the cells of all ids, of which just these were live
+-- The clients ran. Where these ids are found to be stored, all was done, the collector had nothing left to do, and behind it the
+-- pass saw the cells of all ids, of which just these were live
 pub record HasRun (D : Type 0) (old new : Known 6) (scripts : List ClientScript) (ids : ℕ) (stored : Option (List ℕ)) : Type 0 where
   pub end : WorkEnd
   pub behind : Known 6

@@ -14,7 +14,8 @@ use Rattle.core_store.specs.Opening.{opened_history}
 use Rattle.logged_journal.specs.View.{LoggedView, failed_commit}
 use Rattle.brahma_shell.specs.Points.{Point, after_note, start_with, start_point}
 
--- an event of a run: something that a journal notes; or power was lost, and the store was opened again, with so many ids and to these cells
+-- an event of a run: something that a journal notes; or power was lost, and the store was opened again, with so many ids and to
+-- these cells
 pub data Event : Type 0 where
   Noted : Note → Event
   Reopened : ℕ → List Cell → Event
@@ -52,7 +53,8 @@ pub record Stretch : Type 0 where
 abbrev pub end_point : Stretch → Point
 end_point s = after_events s.start s.events
 
--- a run: what the store opened to at first, with so many ids; its events since; and the client whose commit the disk failed at the end, if it failed one
+-- a run: what the store opened to at first, with so many ids; its events since; and the client whose commit the disk failed at
+-- the end, if it failed one
 pub record Run : Type 0 where
   pub opening : List Cell
   pub ids : ℕ

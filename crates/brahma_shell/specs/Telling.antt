@@ -55,7 +55,8 @@ pub record TellsStored (stored : Option (List ℕ)) (before after : Shown) (stat
   pub memory : status ≡ 8 → EndsSo before after [] (codes "refused: memory\n")
   pub later : before.faults ≤ after.faults
 
--- A run of clients that left this journal, behind which these ids were found to be stored, was told with this status. What the journal tells comes before the ids.
+-- A run of clients that left this journal, behind which these ids were found to be stored, was told with this status. What the
+-- journal tells comes before the ids.
 pub record Tells {D : Type 0} (v : LoggedView D) (stored : Option (List ℕ)) (before after : Shown) (status : ℕ) : Type 0 where
   pub statuses : (status ≡ 0) ⊎ ((status ≡ 5) ⊎ ((status ≡ 6) ⊎ ((status ≡ 8) ⊎ (status ≡ 9))))
   pub done : status ≡ 0 → IsUnmarked v × (ids : List ℕ) × (stored ≡ Some ids) × Appends before.written after.written (ending_text v ids)

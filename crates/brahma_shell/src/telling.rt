@@ -81,7 +81,8 @@ fn print_failed<W: Sink>(out: &mut W, failed: Option<FailedCall>) -> Result<(), 
     }
 }
 
-/// Writes the lines of the journal's history, each as one piece. A commit that the disk failed has no note, and is the last entry.
+/// Writes the lines of the journal's history, each as one piece. A commit that the disk failed has no note, and is the last
+/// entry.
 pub(crate) fn print_history<W: Sink, D: Disk>(
     out: &mut W,
     logged: &LoggedJournal<SLOTS, D>,

@@ -69,7 +69,8 @@ pub record MayRun (slots : ℕ) (main : Station) (s : ClientScript) : Type 0 whe
   pub none : truth_of main.truths s.pass ≡ false
   pub in_range : AreInRange slots s.txns
 
--- the client's calls are those of its attempts, and it has no transaction; where the run ended early they are the beginning of such
+-- the client's calls are those of its attempts, and it has no transaction; where the run ended early they are the beginning of
+-- such
 pub record DoesScript {slots : ℕ} (new : Known slots) (kept : List (ℕ × Note)) (end : WorkEnd) (s : ClientScript) : Type 0 where
   pub begun : Begun (Attempts s.txns) (calls_of s.pass kept)
   pub finished : end ≡ Finished → Attempts s.txns (calls_of s.pass kept) × (truth_of new.station.truths s.pass ≡ false)
@@ -121,7 +122,8 @@ RoseBy (Limit reply.TraceFull) old new = Rose old.trace new.trace
 RoseBy (Limit r) old new = Rose old.log new.log
 RoseBy _ old new = Unit {0}
 
--- the end is the worst that befell anyone: where the disk refused, it is that of the disk, and where a limit did, that or a limit's
+-- the end is the worst that befell anyone: where the disk refused, it is that of the disk, and where a limit did, that or a
+-- limit's
 pub record TellsWorst (end : WorkEnd) (old new : Refused) : Type 0 where
   pub disk : new.disk ≢ old.disk → weight end ≡ 3
   pub trace : new.trace ≢ old.trace → 2 ≤ weight end

@@ -103,7 +103,8 @@ pub record Aborts {slots : ℕ} (old new : Known slots) (result : Result Reply W
   pub ok : IfOk result (λ r. r ≡ reply.Done)
   pub err : IfErr result (λ end. Makes old new AreNone)
 
--- The pass's client does these transactions, up to an end. It makes no call but those of its attempts, and the pass keeps them all.
+-- The pass's client does these transactions, up to an end. It makes no call but those of its attempts, and the pass keeps them
+-- all.
 pub record DoesTransactions {slots : ℕ} (old new : Known slots) (transactions : List (List Call)) (end : WorkEnd) : Type 0 where
   pub kept : List (ℕ × Note)
   pub keeps : KeepsAll old new kept

@@ -21,7 +21,8 @@ pub enum WorkEnd {
 pub type RunEnd = WorkEnd;
 
 impl WorkEnd {
-    /// The end of two that worked beside each other: that of the disk comes before that of a limit, and this before want of memory.
+    /// The end of two that worked beside each other: that of the disk comes before that of a limit, and this before want of
+    /// memory.
     pub(crate) fn with(self, other: WorkEnd) -> WorkEnd
         ensures one { (result ≡ self) ⊎ (result ≡ other) }
         ensures worst { (weight self ≤ weight result) × (weight other ≤ weight result) }

@@ -1,8 +1,8 @@
 //! Clients on threads of their own, each with a script of transactions.
 //!
-//! A client's worker makes the calls of its script, one after another. A call that finds a word held by another pass is made again. A
-//! call that finds another client in its way is made again too; at the eighth time the transaction is aborted and tried again, and
-//! at the fourth such abort it is given up. [`run_all`] runs a worker for each client, with the collector beside them.
+//! A client's worker makes the calls of its script, one after another. A call that finds a word held by another pass is made
+//! again. A call that finds another client in its way is made again too; at the eighth time the transaction is aborted and tried
+//! again, and at the fourth such abort it is given up. [`run_all`] runs a worker for each client, with the collector beside them.
 #![tactic(auto)]
 
 mod asking;

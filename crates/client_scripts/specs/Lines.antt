@@ -41,8 +41,8 @@ is_between (call ∷ c ∷ calls) = is_between (c ∷ calls)
 abbrev pub MayFollow : List Call → Call → Type 0
 MayFollow calls call = is_first call ≡ is_between calls
 
--- The line may come next behind these: it asks nothing, or it asks for a call of a client that may come next behind that client's. A
--- line that undoes one write, or that is the collector's, the cleaner's, the log's or the power's, may come nowhere.
+-- The line may come next behind these: it asks nothing, or it asks for a call of a client that may come next behind that
+-- client's. A line that undoes one write, or that is the collector's, the cleaner's, the log's or the power's, may come nowhere.
 abbrev pub MayCome : List Line → Line → Type 0
 MayCome lines line.Nothing = ⊤
 MayCome lines (line.Ask client call) = MayFollow (calls_asked client lines) call

@@ -57,7 +57,8 @@ pub record AreScripts (scripts : List ClientScript) : Type 0 where
   pub each : AllByRecursion IsScript scripts
   pub apart : AreApart scripts
 
--- the scripts are those of clients that are to make these calls: each client with a call has one, and its transactions are these calls
+-- the scripts are those of clients that are to make these calls: each client with a call has one, and its transactions are these
+-- calls
 pub record AreOfCalls (calls : ℕ → List Call) (scripts : List ClientScript) : Type 0 where
   pub each : AllByRecursion (λ s. calls s.pass ≡ all_calls s.txns) scripts
   pub nobody : (client : ℕ) → IsNobody client scripts → calls client ≡ []

@@ -1,7 +1,7 @@
 //! The scripts of clients, out of the lines of one text.
 //!
-//! A text for several clients at once has lines of clients alone. [`ClientScripts`] takes one line after another, refuses one that
-//! may not come next, and makes of each client's lines its transactions.
+//! A text for several clients at once has lines of clients alone. [`ClientScripts`] takes one line after another, refuses one
+//! that may not come next, and makes of each client's lines its transactions.
 #![tactic(auto)]
 
 mod adding;

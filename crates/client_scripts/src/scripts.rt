@@ -73,8 +73,8 @@ impl ClientScripts {
         }
     }
 
-    /// Takes the next line. It is taken exactly where it may come next behind the lines that were taken, unless memory is out. A line that
-    /// is refused leaves the scripts as they were.
+    /// Takes the next line. It is taken exactly where it may come next behind the lines that were taken, unless memory is out. A
+    /// line that is refused leaves the scripts as they were.
     pub fn take(&mut self, line: Line) -> Result<(), LineRefusal>
         requires { IsLineInRange line }
         ensures taken { OnOk result ((lines : List ScriptLine) → AreOfLines lines self.old →

@@ -10,7 +10,8 @@ use Rattle.core_store.specs.declared.slots.SlotChange.{SlotChange}
 abbrev pub is_counted_strong : List Cell → Pointer → Bool
 is_counted_strong cells p = not (p.target == 0) && is_strong cells p
 
--- a new pointer from the object is strong where its target is another one that no strong pointer leads to, and whose slots are null
+-- a new pointer from the object is strong where its target is another one that no strong pointer leads to, and whose slots are
+-- null
 abbrev pub is_laid_strong : List Cell → ℕ → ℕ → Bool
 is_laid_strong cells id target = not (target == 0) && (not (id == target) && takes_strong (cell_at cells target))
 

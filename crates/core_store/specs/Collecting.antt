@@ -64,7 +64,8 @@ pub record CanPass {slots : ℕ} (v : TablesView) (held : List (HeldFrame slots)
   pub pages : HoldsPagesOf held (objects_at core.cells (asked v.round))
   pub none : is_event core.cells (asked v.round) ≡ false
 
--- the round goes on behind a look at which there was nothing to do, nothing else changes, and the tables stand for the journal as before
+-- the round goes on behind a look at which there was nothing to do, nothing else changes, and the tables stand for the journal as
+-- before
 pub record IsPassedBy (slots : ℕ) (c : Core) (v w : TablesView) : Type 0 where
   pub round : w.round ≡ looked_past slots c.cells v.round
   pub same : w ≡ record v { round = w.round }

@@ -1,4 +1,5 @@
--- What the events of the collector make of the queue and the open round, in the words of the cells, the references and the locks before them.
+-- What the events of the collector make of the queue and the open round, in the words of the cells, the references and the locks
+-- before them.
 use Rattle.std.specs.Prelude.{◌≡◌, ℕ, Bool, true, false, not, ◌&&◌, ◌==◌, if◌then◌else◌, List, [], ◌∷◌, ◌++◌, map, filter, Contains, Option, Some, None, ◌⊎◌}
 use Rattle.plain_model.specs.declared.calls.Entry.{Entry}
 use Rattle.plain_model.specs.declared.calls.Entry.TheVariants.{Delete, Hidden}
@@ -42,7 +43,8 @@ pub record Starts (c : Core) (id : ℕ) (queue : List ℕ) (round : Option Round
   pub loose : is_loose c id ≡ true
   pub opened : round ≡ Some (opened_round id)
 
--- a pointer out of an object of the round becomes weak before anything is copied; where this lets the target go, it leaves the queue and joins the round
+-- a pointer out of an object of the round becomes weak before anything is copied; where this lets the target go, it leaves the
+-- queue and joins the round
 pub record Weakens (slots : ℕ) (c : Core) (id slot target : ℕ) (queue : List ℕ) (round : Option Round) : Type 0 where
   pub of : Round
   pub there : c.round ≡ Some of
@@ -73,7 +75,8 @@ pub record Judges (c : Core) (queue : List ℕ) (round : Option Round) : Type 0 
   pub queue_is : queue ≡ c.queue
   pub round_is : round ≡ Some (with_verdict of condemned)
 
--- a pointer out of a condemned object is removed; where it was the last strong one to the target and no client names that, the target joins the queue
+-- a pointer out of a condemned object is removed; where it was the last strong one to the target and no client names that, the
+-- target joins the queue
 pub record Cuts (slots : ℕ) (c : Core) (id slot target : ℕ) (was_strong : Bool) (queue : List ℕ) (round : Option Round) : Type 0 where
   pub of : Round
   pub there : c.round ≡ Some of
@@ -93,7 +96,8 @@ pub record Frees (c : Core) (id : ℕ) (queue : List ℕ) (round : Option Round)
   pub queue_is : queue ≡ c.queue
   pub round_is : round ≡ Some (with_left of (without of.list id) left)
 
--- all condemned objects were freed, and the round closes; its other objects join the queue in order where no strong pointer leads to them and no client names them
+-- all condemned objects were freed, and the round closes; its other objects join the queue in order where no strong pointer leads
+-- to them and no client names them
 pub record Ends (c : Core) (queue : List ℕ) (round : Option Round) : Type 0 where
   pub of : Round
   pub there : c.round ≡ Some of

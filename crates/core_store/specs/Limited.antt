@@ -22,7 +22,8 @@ entries_counted j = length j.history.entries + entries_owed (end_of j.history)
 abbrev pub is_past_limit : JournalView → ℕ → Bool
 is_past_limit j needed = nat_lt j.limits.trace (entries_counted j + needed)
 
--- after some first entries the history was so full that a call could be refused for it: two entries more would have gone past the limit
+-- after some first entries the history was so full that a call could be refused for it: two entries more would have gone past the
+-- limit
 abbrev pub WasFull : JournalView → Type 0
 WasFull j = («first» rest : List Note) × (j.notes ≡ «first» ++ rest) × (j.limits.trace < length «first» + entries_owed (moment_after (start_of j.history) (map (λ n. n.entry) «first»)) + 2)
 

@@ -32,7 +32,8 @@ waits_in _ id = false
 abbrev pub is_white_in : List Cell → RoundView → ℕ → Bool
 is_white_in cells r id = waits_in r id && has_no_strong (cell_at cells id)
 
--- it is a look at such a slot, at which there is nothing to do: it holds no strong pointer, or in the sweep none, or at a green object none to an object that is to be tested
+-- it is a look at such a slot, at which there is nothing to do: it holds no strong pointer, or in the sweep none, or at a green
+-- object none to an object that is to be tested
 abbrev pub IsIdleAt : List Cell → RoundView → RoundAt → Type 0
 IsIdleAt cells r (at.Look id slot) = is_counted_strong cells (pointer_at cells id slot) ≡ false
 IsIdleAt cells r (at.Cut id slot) = (pointer_at cells id slot).target ≡ 0

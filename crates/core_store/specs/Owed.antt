@@ -24,7 +24,8 @@ entries_needed (call.Store r slot source) = 2
 entries_needed (call.SetPay r value) = 2
 entries_needed _ = 1
 
--- how many bytes of a log a call may take, and its transaction then owe: those of its record, and for `Begin` the end, for a write its undo
+-- how many bytes of a log a call may take, and its transaction then owe: those of its record, and for `Begin` the end, for a
+-- write its undo
 abbrev pub bytes_needed : TransactionCall → ℕ
 bytes_needed call.Begin = 9
 bytes_needed (call.Make into) = 6

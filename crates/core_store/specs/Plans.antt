@@ -52,7 +52,8 @@ entries_needed_by (plan.Store id slot target) = 2
 entries_needed_by (plan.Set id value) = 2
 entries_needed_by _ = 1
 
--- for how many entries there is to be room before what was planned is done, where so many are owed: the entry of a commit is one of these
+-- for how many entries there is to be room before what was planned is done, where so many are owed: the entry of a commit is one
+-- of these
 abbrev pub room_needed : Result Plan Reply → ℕ → ℕ
 room_needed (Ok plan.Commit) owed = owed
 room_needed _ owed = owed + 2

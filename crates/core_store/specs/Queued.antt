@@ -24,11 +24,13 @@ all_joined queue ids = fold joined queue ids
 abbrev pub each_once : List ℕ → List ℕ
 each_once ids = all_joined [] ids
 
--- the object is live and isn't the root, no strong pointer leads to it, the open round doesn't have it, and none of these references names it
+-- the object is live and isn't the root, no strong pointer leads to it, the open round doesn't have it, and none of these
+-- references names it
 abbrev pub is_to_queue : Core → List Ref → ℕ → Bool
 is_to_queue c refs id = is_live c.cells id && (not (id == root) && (has_no_strong (cell_at c.cells id) && (not (has (in_round c) id) && not (is_named refs id))))
 
--- the queue after the end of the client's transaction: what it named joins in order, where no other client names it and the collector has to look at it
+-- the queue after the end of the client's transaction: what it named joins in order, where no other client names it and the
+-- collector has to look at it
 abbrev pub queue_after_end : Core → ℕ → List ℕ
 queue_after_end c pass = all_joined c.queue (filter (is_to_queue c (references_left c.refs pass)) (each_once (named_by c.refs pass)))
 

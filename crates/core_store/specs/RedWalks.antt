@@ -11,7 +11,8 @@ use Rattle.core_store.specs.declared.note.Note.{Note}
 use Rattle.core_store.specs.Changes.{is_counted_strong, has_no_strong}
 use Rattle.core_store.specs.Logged.{after_logged}
 
--- whether a round is open of which nothing is copied yet, its objects in the order in which they joined, and the slots of them that a `Store` wrote since
+-- whether a round is open of which nothing is copied yet, its objects in the order in which they joined, and the slots of them
+-- that a `Store` wrote since
 pub record RedWalk : Type 0 where
   pub going : Bool
   pub list : List ℕ

@@ -15,7 +15,8 @@ named_by refs pass = map (λ r. r.target) (filter (λ r. r.pass == pass) refs)
 abbrev pub targets_of : List TempRef → List ℕ
 targets_of entries = map (λ e. e.target) entries
 
--- the references after what was logged: a made object, an old target and a new one are named by their client until its transaction ends
+-- the references after what was logged: a made object, an old target and a new one are named by their client until its
+-- transaction ends
 abbrev pub references_after : List Ref → Option CellRecord → List Ref
 references_after refs (Some (logs.Make pass id)) = refs ++ record { pass = pass; target = id; kind = Made } ∷ []
 references_after refs (Some (logs.Store pass id slot old_target old_strong new_target new_bit new_strong)) = refs ++ store_references pass old_target new_target

@@ -16,7 +16,8 @@ view_of_round stage.Closed w s slot g = Closed
 view_of_round stage.Walking w s slot g = Walking w
 view_of_round stage.Sweeping w s slot g = Sweeping w s slot g
 
--- there is room for the same ids everywhere, nothing leaves a round before its verdict, and what holds of every walk, sweep and green walk holds
+-- there is room for the same ids everywhere, nothing leaves a round before its verdict, and what holds of every walk, sweep and
+-- green walk holds
 pub record AreInStep (slots ids : ℕ) (at : Stage) (w : Walk) (locked : List Bool) (j : Judged) (s : Sweep) (slot : ℕ) (g : Greening) : Type 0 where
   pub walk_sound : IsWalk slots w
   pub sweep_sound : IsSweep s

@@ -31,7 +31,8 @@ pub data RoundView : Type 0 where
   Closed : RoundView
   -- before the verdict
   Walking : (walk : Walk) → RoundView
-  -- after it: the sweep, in which the object that is being emptied may have pointers from this slot on, and the green walk, which comes behind the sweep
+  -- after it: the sweep, in which the object that is being emptied may have pointers from this slot on, and the green walk, which
+  -- comes behind the sweep
   Sweeping : (walk : Walk) (swept : Sweep) (slot : ℕ) (greening : Greening) → RoundView
 
 -- the round as the laws of a store see it
@@ -91,7 +92,8 @@ asked Closed = Queue
 asked (Walking w) = asked_by_walk (next w)
 asked (Sweeping w s slot g) = asked_by_sweep slot g (next_of_sweep s)
 
--- there is something to do, and not only to look at: a strong pointer to make weak, a pointer to remove, or anything else that is no look
+-- there is something to do, and not only to look at: a strong pointer to make weak, a pointer to remove, or anything else that is
+-- no look
 abbrev pub is_event : List Cell → RoundAt → Bool
 is_event cells (Look id slot) = is_counted_strong cells (pointer_at cells id slot)
 is_event cells (Cut id slot) = not ((pointer_at cells id slot).target == 0)
@@ -138,7 +140,8 @@ next_slot slots w s slot g = to_slot slots w s (slot + 1) g
 abbrev pub is_white : List Cell → Greening → ℕ → Bool
 is_white cells g id = waits g id && has_no_strong (cell_at cells id)
 
--- the look at a seed: it is passed over where it is green, it becomes green where a strong pointer leads to it, and else it is tested
+-- the look at a seed: it is passed over where it is green, it becomes green where a strong pointer leads to it, and else it is
+-- tested
 abbrev pub seen_seed : List Cell → Greening → ℕ → Greening
 seen_seed cells g id = if is_white cells g id then testing g id else found_by_green g (if waits g id then Strong else Nothing)
 
@@ -217,7 +220,8 @@ pub data Proceeds (slots ids : ℕ) : RoundView → Act → Option CellRecord �
   strengthen : (w : Walk) (s : Sweep) (slot «from» k to : ℕ) (g : Greening) → asked (Sweeping w s slot g) ≡ Strengthen «from» k to → Proceeds slots ids (Sweeping w s slot g) act.Change (Some (logs.Strengthen «from» k to)) (Sweeping w s slot (found_by_green g (Made to)))
   end : (w : Walk) (s : Sweep) (slot : ℕ) (g : Greening) → asked (Sweeping w s slot g) ≡ End → Proceeds slots ids (Sweeping w s slot g) act.End None Closed
 
--- how much work is left: looks, copies, the verdict, cuts, deletions, the events of the green walk and the end, each of which lowers it; 0 where no round is open
+-- how much work is left: looks, copies, the verdict, cuts, deletions, the events of the green walk and the end, each of which
+-- lowers it; 0 where no round is open
 abbrev pub left_of : ℕ → RoundView → ℕ
 left_of slots Closed = 0
 left_of slots (Walking w) = work_left slots w + 1 + ((slots + 1) * w.limit + most_work slots w.limit + 1)

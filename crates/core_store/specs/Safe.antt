@@ -15,7 +15,8 @@ use Rattle.core_store.specs.JournalView.{JournalView, logged_in, cells_after_not
 abbrev pub IsSafe : JournalView → Type 0
 IsSafe j = IsRestartable (opening_of j) j.history.entries (logged_in j.notes) (core_of j)
 
--- a crash is safe that keeps the records of just these first notes: they were a safe journal's, and those after them promise nothing
+-- a crash is safe that keeps the records of just these first notes: they were a safe journal's, and those after them promise
+-- nothing
 pub record IsDurable (j : JournalView) («first» : List Note) : Type 0 where
   pub rest : List Note
   pub split : j.notes ≡ «first» ++ rest

@@ -24,7 +24,8 @@ pub record CanChange (slots ids : ℕ) (cells : List Cell) (id slot target : ℕ
   pub within : slot < slots
   pub target_live : target ≢ 0 → is_live cells target ≡ true
 
--- some store's cells are held, whose slot can change, with the pages of the object, of the old target and of the new one; and these are its marks
+-- some store's cells are held, whose slot can change, with the pages of the object, of the old target and of the new one; and
+-- these are its marks
 pub record IsReadyToChange {slots : ℕ} (held : List (HeldFrame slots)) (zeros : List Bool) (id slot target : ℕ) : Type 0 where
   pub ids : ℕ
   pub cells : List Cell
@@ -44,7 +45,8 @@ abbrev pub Changes : {slots : ℕ} → List (HeldFrame slots) → List (HeldFram
 Changes {slots} held new zeros marks id slot target change result =
     (ids : ℕ) (cells : List Cell) → Agree cells held → CanChange slots ids cells id slot target → (result ≡ change cells) × IsChanged cells (after_change cells id slot target result) held new zeros marks
 
--- some store's cells are held, whose slot holds a strong pointer, with the pages of the object and of its target; and these are its marks
+-- some store's cells are held, whose slot holds a strong pointer, with the pages of the object and of its target; and these are
+-- its marks
 pub record IsReadyToWeaken {slots : ℕ} (held : List (HeldFrame slots)) (zeros : List Bool) (id slot : ℕ) : Type 0 where
   pub ready : IsReadyToChange held zeros id slot 0
   pub strong : is_counted_strong ready.cells (pointer_at ready.cells id slot) ≡ true
@@ -59,7 +61,8 @@ WeakensSlot {slots} held new zeros marks id slot result =
 abbrev pub is_counted_weak : List Cell → Pointer → Bool
 is_counted_weak cells p = not (p.target == 0) && not (is_strong cells p)
 
--- some store's cells are held, whose slot holds a weak pointer, with the pages of the object and of its target; and these are its marks
+-- some store's cells are held, whose slot holds a weak pointer, with the pages of the object and of its target; and these are its
+-- marks
 pub record IsReadyToStrengthen {slots : ℕ} (held : List (HeldFrame slots)) (zeros : List Bool) (id slot : ℕ) : Type 0 where
   pub ready : IsReadyToChange held zeros id slot 0
   pub weak : is_counted_weak ready.cells (pointer_at ready.cells id slot) ≡ true

@@ -80,7 +80,8 @@ CanLay slots cells w = (is_live cells w.id ≡ true) × by w.place w.value
 abbrev pub most_ids : ℕ
 most_ids = 8192
 
--- in a sweep the slots that it has passed are null: all of the objects before its own that weren't freed, and the first ones of that
+-- in a sweep the slots that it has passed are null: all of the objects before its own that weren't freed, and the first ones of
+-- that
 abbrev pub IsEmptied : List Cell → RoundView → Type 0
 IsEmptied cells Closed = Unit {0}
 IsEmptied cells (Walking w) = Unit {0}
@@ -88,7 +89,8 @@ IsEmptied cells (Sweeping w s slot g) =
     ((place k : ℕ) → s.freed ≤ place → place < s.emptied → place < length s.list → (pointer_at cells (slice_index s.list place) k).target ≡ 0)
     × ((k : ℕ) → s.emptied < length s.list → k < slot → (pointer_at cells (slice_index s.list s.emptied) k).target ≡ 0)
 
--- a test of an object out of which no strong pointer was found to lead: none leads to it, the slots that were looked at hold none, and where it is at a slot of a green object, this names the tested one
+-- a test of an object out of which no strong pointer was found to lead: none leads to it, the slots that were looked at hold
+-- none, and where it is at a slot of a green object, this names the tested one
 pub record IsTestedIn (cells : List Cell) (g : Greening) (t : Test) : Type 0 where
   pub zero : has_no_strong (cell_at cells t.id) ≡ true
   pub none : (k : ℕ) → k < t.slot → is_counted_strong cells (pointer_at cells t.id k) ≡ false
@@ -105,7 +107,8 @@ pub record Stands (slots : ℕ) (v : TablesView) (c : Core) : Type 0 where
   pub few : v.ids ≤ most_ids
   pub slots_are : c.moment.state.slots ≡ slots
   pub counted : IsSlotCount slots
-  -- counts are exact, strong pointers form no cycle, each cell has what the committed graph with all writes not undone gives it, and whatever may be needed is spared
+  -- counts are exact, strong pointers form no cycle, each cell has what the committed graph with all writes not undone gives it,
+  -- and whatever may be needed is spared
   pub sound : IsSound c
   pub running : (pass : ℕ) → Matches slots c.moment.state.committed (running_at v.transactions pass) (transaction_of c.moment.state pass) (c.moment.undone pass)
   pub restorable : (pass : ℕ) (kept : Running) → running_at v.transactions pass ≡ Some kept → (w : Write) → Contains kept.replaced w → CanLay slots c.cells w

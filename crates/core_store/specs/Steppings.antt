@@ -35,7 +35,8 @@ left_told (Did popped left) = Some left
 left_told (Deleted id left) = Some left
 left_told _ = None
 
--- how many bytes the record of what the collector does next has: what makes a pointer weak or strong, removes one, flips or frees an object has one
+-- how many bytes the record of what the collector does next has: what makes a pointer weak or strong, removes one, flips or frees
+-- an object has one
 abbrev pub bytes_at : RoundAt → ℕ
 bytes_at (at.Look id slot) = 10
 bytes_at (at.Into «from» slot to) = 10
@@ -64,7 +65,8 @@ pub record IsReadyForCollector {slots : ℕ} (j : JournalView) (held : List (Hel
   pub pages : HasPages j.history.ids (pages_for_collector j) held
   pub event : is_past_limit j 1 ≡ false → is_event (cells_of j) (asked j.round) ≡ true
 
--- the collector made the event that came next: it is noted with its entry, the queue and the round are what it makes of them, and the answer tells of it
+-- the collector made the event that came next: it is noted with its entry, the queue and the round are what it makes of them, and
+-- the answer tells of it
 pub record MakesEvent (slots : ℕ) (old new : JournalView) (result : Collect) : Type 0 where
   pub event : Act
   pub logged : Option CellRecord

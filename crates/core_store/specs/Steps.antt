@@ -25,7 +25,8 @@ pub record AreNames (references : ℕ → List ℕ) (named : ℕ → Bool) : Typ
   pub yes : (id : ℕ) → named id ≡ true → (p : ℕ) × (has (references p) id ≡ true)
   pub no : (id p : ℕ) → named id ≡ false → has (references p) id ≡ false
 
--- by the marks, the free ids and the round: no strong pointer leads to the object, it isn't the root, it isn't free, and the open round doesn't have it; and it isn't named
+-- by the marks, the free ids and the round: no strong pointer leads to the object, it isn't the root, it isn't free, and the open
+-- round doesn't have it; and it isn't named
 abbrev pub is_queued : TablesView → (ℕ → Bool) → ℕ → Bool
 is_queued v named id = get_or v.zeros id false && (not (id == root) && (not (list_any (is_at (nat_cmp id)) v.free) && (not (has (ids_in v.round) id) && not (named id))))
 
@@ -55,7 +56,8 @@ pub record NamesNothing (v w : TablesView) (pass : ℕ) : Type 0 where
   pub others : (q : ℕ) → q ≢ pass → w.references q ≡ v.references q
   pub queue : (named : ℕ → Bool) → AreNames w.references named → w.queue ≡ all_joined v.queue (filter (is_queued v named) (each_once (v.references pass)))
 
--- the client's transaction is over: its locks are given back, it names nothing any more, and free ids, marks and the round are as before
+-- the client's transaction is over: its locks are given back, it names nothing any more, and free ids, marks and the round are as
+-- before
 pub record Ends (v w : TablesView) (pass : ℕ) : Type 0 where
   pub ids : w.ids ≡ v.ids
   pub free : w.free ≡ v.free

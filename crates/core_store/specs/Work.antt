@@ -42,7 +42,8 @@ pages_of_work cells w = map page_of_id (option_map_or (objects_of cells) w [])
 abbrev pub page_or : ℕ → ℕ → ℕ
 page_or id other = if id == 0 then other else page_of_id id
 
--- the pages of the object, of what the slot holds and of what it is to hold; for null, and where no slot changes, the object's again
+-- the pages of the object, of what the slot holds and of what it is to hold; for null, and where no slot changes, the object's
+-- again
 abbrev pub three_pages : List Cell → Work → List ℕ
 three_pages cells w =
     let first = page_of_id w.id in

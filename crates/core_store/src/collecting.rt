@@ -81,8 +81,8 @@ impl<const SLOTS: usize> Journal<SLOTS> {
 
     /// Makes one event of the collector, adds its entry and tells what it did.
     ///
-    /// Where the history is not full, it is idle exactly where the queue is empty and no round is open. No object is deleted that is reachable, from the
-    /// root or a held reference, in any outcome of the active transactions.
+    /// Where the history is not full, it is idle exactly where the queue is empty and no round is open. No object is deleted that
+    /// is reachable, from the root or a held reference, in any outcome of the active transactions.
     pub fn collect_step(&mut self, held: &mut Three<SLOTS>) -> Collect
         requires agree { Agree (cells_of self.old) held.old }
         requires ready { IsReadyForCollector self.old held.old }

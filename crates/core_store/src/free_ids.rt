@@ -22,8 +22,8 @@ pub(crate) struct FreeIds {
     row: Vec<bool>,
     /// The least free id, or the one behind the limit where none is free.
     first: u32,
-    /// No id above this one is free. It is the greatest of the store at first; once none was free, the greatest that was freed since
-    /// then, or 0.
+    /// No id above this one is free. It is the greatest of the store at first; once none was free, the greatest that was freed
+    /// since then, or 0.
     last: u32,
     /// The greatest id of the store.
     limit: u32,

@@ -1,4 +1,5 @@
-//! What a journal keeps beside its history: the free ids, the marks, the locks, the transactions, what they name, the queue and the round.
+//! What a journal keeps beside its history: the free ids, the marks, the locks, the transactions, what they name, the queue and
+//! the round.
 ghost use Rattle.std.specs.Prelude.{◌≡◌, ◌<◌, ◌≤◌, ◌^◌, length, IfOk, is_some};
 ghost use Rattle.plain_model.specs.History.{least_active};
 ghost use Rattle.store_model.specs.Core.{Core};

@@ -156,8 +156,8 @@ fn run<R: Threads + Wait + Clock + AllocGlobal + Sync>(rt: &R, order: Order) -> 
     }
 }
 
-/// Counts the calls that these words ask for, if they ask for anything: how clients come to the store, how many they are, and what
-/// they ask of it.
+/// Counts the calls that these words ask for, if they ask for anything: how clients come to the store, how many they are, and
+/// what they ask of it.
 pub fn count<R: Threads + Wait + Clock + AllocGlobal + Sync>(
     rt: &R,
     how: &str,

@@ -54,7 +54,8 @@ pub record CollectsNext {D : Type 0} (slots : ℕ) (old new : LoggedView D) (res
   pub within : IsPastLogToCollect (record old { journal = looked }) → ⊥
   pub step : DoesCollect slots looked new.journal result
 
--- the collector looked on as far as this journal, and there told that the log is full: an event comes next, and its record would go past the log's limit
+-- the collector looked on as far as this journal, and there told that the log is full: an event comes next, and its record would
+-- go past the log's limit
 pub record FillsLog {D : Type 0} (slots : ℕ) (old new : LoggedView D) : Type 0 where
   pub looked : JournalView
   pub looks : OnlyLooks slots old.journal looked

@@ -8,7 +8,8 @@ use Rattle.core_store.specs.JournalView.{cells_of}
 use Rattle.logged_journal.specs.View.{LoggedView}
 use Rattle.logged_journal.specs.Upkeep.{IsClean, Cleans}
 
--- The page was cleaned, as it is in the store: in each image of the disk it stands in place by its one spelling, and is the log's last image of it.
+-- The page was cleaned, as it is in the store: in each image of the disk it stands in place by its one spelling, and is the log's
+-- last image of it.
 pub record CleansPage {D : Type 0} (slots : ℕ) (may_leave : D → Area → List ℕ → Type 0) (old new : LoggedView D) (page : ℕ) : Type 0 where
   pub held : List (PageCell slots)
   pub holds : HoldsPage (cells_of old.journal) page held

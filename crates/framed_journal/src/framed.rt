@@ -237,8 +237,8 @@ impl<const SLOTS: usize, D: Disk> FramedJournal<SLOTS, D> {
     ///
     /// [`Upkeep::Stopped`] comes exactly where the disk failed a call before, [`Upkeep::TraceFull`] exactly where the history has
     /// no room for one entry, [`Upkeep::LogFull`] exactly where the page's image would go past the log's limit. These and
-    /// [`Upkeep::Memory`] do nothing. [`Upkeep::DiskFault`] comes only where the disk's count of faults rose in this call; the store
-    /// is then stopped. [`Upkeep::Busy`] never comes.
+    /// [`Upkeep::Memory`] do nothing. [`Upkeep::DiskFault`] comes only where the disk's count of faults rose in this call; the
+    /// store is then stopped. [`Upkeep::Busy`] never comes.
     pub fn clean(&mut self, page: u16) -> Upkeep
         requires { 8 * page < self.old.journal.history.ids }
         ensures stopped { IfSome self.old.failed (λ f. (result ≡ Upkeep.Stopped f.faults) × (self.new ≡ self.old)) }
@@ -271,8 +271,8 @@ impl<const SLOTS: usize, D: Disk> FramedJournal<SLOTS, D> {
     /// [`Upkeep::Stopped`] comes exactly where the disk failed a call before, [`Upkeep::TraceFull`] exactly where the history has
     /// no room for one entry, and [`Upkeep::Busy`] exactly where a transaction is active; it names the least such client, and
     /// enters the history. [`Upkeep::LogFull`] never comes where the bytes of the log in use and those that are owed are within
-    /// its limit. These but `Busy`, and [`Upkeep::Memory`], do nothing. [`Upkeep::DiskFault`] comes only where the disk's count of
-    /// faults rose in this call; the store is then stopped.
+    /// its limit. These but `Busy`, and [`Upkeep::Memory`], do nothing. [`Upkeep::DiskFault`] comes only where the disk's count
+    /// of faults rose in this call; the store is then stopped.
     pub fn turn(&mut self) -> Upkeep
         ensures stopped { IfSome self.old.failed (λ f. (result ≡ Upkeep.Stopped f.faults) × (self.new ≡ self.old)) }
         ensures only_stopped { (faults : ℕ) → result ≡ Upkeep.Stopped faults → IsSome self.old.failed }

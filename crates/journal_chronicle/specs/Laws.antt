@@ -1,4 +1,5 @@
--- The laws of a chronicle that speak of clients: none has a transaction before the first note, and no note but one of a client's own begins or ends its.
+-- The laws of a chronicle that speak of clients: none has a transaction before the first note, and no note but one of a client's
+-- own begins or ends its.
 use Rattle.std.proofs.Common.{◌≡◌, ◌≢◌, ℕ, List, [], ◌∷◌, ◌++◌, map, Bool, false, Some, refl, ap, ◌∙◌}
 use Rattle.std.specs.Prelude.{if◌then◌else◌, fold, unwrap_or}
 use Rattle.std.proofs.lemmas.Bool.{ne_eqb}

@@ -104,8 +104,8 @@ abbrev pub EntersIf : {D : Type 0} → (slots : ℕ) → (may_change : ℕ → B
 EntersIf slots may_change old new (Some entry) = Enters slots may_change old new entry
 EntersIf slots may_change old new None = notes_of new ≡ notes_of old
 
--- A call goes on with the chronicle: its origin stays, the notes are those before and that of the entry that it entered, if it entered
--- one, and the marks are those before and the one that it set. Only pages of the test change their frames.
+-- A call goes on with the chronicle: its origin stays, the notes are those before and that of the entry that it entered, if it
+-- entered one, and the marks are those before and the one that it set. Only pages of the test change their frames.
 pub record GoesOnWith {D : Type 0} (slots : ℕ) (may_change : ℕ → Bool) (old new : LoggedView D) (entered : Option Entry) (marked : Marks) : Type 0 where
   pub origin : origin_of new ≡ origin_of old
   pub notes : EntersIf slots may_change old new entered

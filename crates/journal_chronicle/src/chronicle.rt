@@ -133,8 +133,8 @@ impl<const SLOTS: usize, D: Disk> JournalChronicle<SLOTS, D> {
         let _ = logged.journal();
     }
 
-    /// The history that the notes give is the journal's, and it is legal. By it a client has a transaction exactly where the notes
-    /// tell so.
+    /// The history that the notes give is the journal's, and it is legal. By it a client has a transaction exactly where the
+    /// notes tell so.
     pub fn know_history(&self)
         ensures history { history_after SLOTS (origin_of self.now) (notes_of self.now) ≡ history_of self.now }
         ensures legal { IsLegal (history_of self.now) }

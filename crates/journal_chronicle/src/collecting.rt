@@ -45,7 +45,8 @@ impl<const SLOTS: usize, D: Disk> JournalChronicle<SLOTS, D> {
         requires agree { Agree (cells_of self.old.journal) held.old }
         requires ready { IsReadyForCollector self.old.journal held.old }
 
-        // An event enters its entry, and changes no frames but the held ones. Any other answer leaves the notes, and the held frames.
+        // An event enters its entry, and changes no frames but the held ones. Any other answer leaves the notes, and the held
+        // frames.
         ensures chronicle { GoesOnWith SLOTS (is_held held.old) self.old self.new (entered_by_collect_step result) (marked_by_collect_step result) }
         ensures rest { entered_by_collect_step result ≡ None → held.new ≡ held.old }
         ensures stopped { IfSome self.old.failed (λ f. (IsErrOf result (CollectRefusal.Stopped f.faults)) × (self.new ≡ self.old) × (held.new ≡ held.old)) }

@@ -21,8 +21,8 @@ use disk_model::Disk;
 use logged_journal::Upkeep;
 
 impl<const SLOTS: usize, D: Disk> JournalChronicle<SLOTS, D> {
-    /// What a page's cleaning is refused before the page is looked at, if it is: that the store is stopped, or that the history has
-    /// no room for one entry, and then nothing is done.
+    /// What a page's cleaning is refused before the page is looked at, if it is: that the store is stopped, or that the history
+    /// has no room for one entry, and then nothing is done.
     pub fn refuse_clean(&mut self) -> Option<Upkeep>
         // No entry is entered, and no page changes its frame.
         ensures chronicle { GoesOnWith SLOTS no_page self.old self.new None (marked_by_refusal result) }
@@ -74,8 +74,8 @@ impl<const SLOTS: usize, D: Disk> JournalChronicle<SLOTS, D> {
     ///
     /// [`Upkeep::Stopped`] comes exactly where the disk failed a call before, [`Upkeep::TraceFull`] exactly where the history has
     /// no room for one entry, [`Upkeep::LogFull`] exactly where the page's image would go past the log's limit. These and
-    /// [`Upkeep::Memory`] do nothing. [`Upkeep::DiskFault`] comes only where the disk's count of faults rose in this call; the store
-    /// is then stopped. [`Upkeep::Busy`] never comes.
+    /// [`Upkeep::Memory`] do nothing. [`Upkeep::DiskFault`] comes only where the disk's count of faults rose in this call; the
+    /// store is then stopped. [`Upkeep::Busy`] never comes.
     pub fn clean(&mut self, frame: &Frame<SLOTS>, page: u16) -> Upkeep
         requires page { 8 * page < self.old.journal.history.ids }
         requires agree { HoldsPage (cells_of self.old.journal) page frame.now.page }
@@ -110,15 +110,15 @@ impl<const SLOTS: usize, D: Disk> JournalChronicle<SLOTS, D> {
         answer
     }
 
-    /// Turns the log: images of all pages that changed since it began join it where none is current, it is forced, and each of these
-    /// pages is made to last in place. Then it begins anew in the other log area, with its first batch alone. These are the frames,
-    /// one for each page from 0 on. It changes no object, and enters an entry that says so.
+    /// Turns the log: images of all pages that changed since it began join it where none is current, it is forced, and each of
+    /// these pages is made to last in place. Then it begins anew in the other log area, with its first batch alone. These are the
+    /// frames, one for each page from 0 on. It changes no object, and enters an entry that says so.
     ///
     /// [`Upkeep::Stopped`] comes exactly where the disk failed a call before, [`Upkeep::TraceFull`] exactly where the history has
     /// no room for one entry. [`Upkeep::Busy`] comes where a transaction is active, unless memory is out; it names the least such
-    /// client, and enters the history. [`Upkeep::LogFull`] never comes where the bytes of the log in use and those that are owed are
-    /// within its limit. These but `Busy`, and [`Upkeep::Memory`], do nothing. [`Upkeep::DiskFault`] comes only where the disk's count
-    /// of faults rose in this call; the store is then stopped.
+    /// client, and enters the history. [`Upkeep::LogFull`] never comes where the bytes of the log in use and those that are owed
+    /// are within its limit. These but `Busy`, and [`Upkeep::Memory`], do nothing. [`Upkeep::DiskFault`] comes only where the
+    /// disk's count of faults rose in this call; the store is then stopped.
     pub fn turn(&mut self, frames: &[Frame<SLOTS>]) -> Upkeep
         requires pages { 8 * length frames.now ≡ self.old.journal.history.ids }
         requires agree { AllAgree (cells_of self.old.journal) frames.now }

@@ -16,7 +16,8 @@ OpensToRoot slots pages image = Opened slots image (OpensTo (fresh_cells slots (
 abbrev pub OpenAlike : ℕ → Bytes → Bytes → Type 0
 OpenAlike slots one other = (o : Outcome) → Opened slots one o ↔ Opened slots other o
 
--- What an image opens to while a store of so many pages is made anew on this disk: to what one from before opens to; or to no store; or to the root alone.
+-- What an image opens to while a store of so many pages is made anew on this disk: to what one from before opens to; or to no
+-- store; or to the root alone.
 pub data OpensWhileMaking {D : Type 0} (may_leave : D → Area → List ℕ → Type 0) (slots : ℕ) (disk : D) (pages : ℕ) (image : Bytes) : Type 0 where
   opens_as_before : (old : Bytes) → IsImage may_leave disk old → OpenAlike slots old image → OpensWhileMaking may_leave slots disk pages image
   opens_to_none : Opened slots image NoStore → OpensWhileMaking may_leave slots disk pages image

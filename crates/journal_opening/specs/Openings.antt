@@ -39,7 +39,8 @@ module _ {D : Type 0} (content : D → Area → Option (List ℕ)) where
   abbrev pub ReadsAs : ℕ → D → List Cell → Type 0
   ReadsAs slots disk cells = (image : Bytes) → Reads content disk image → Opened slots image (OpensTo cells)
 
-  -- A journal with its log that was opened from this disk, and goes on from what it read: nothing has happened since, no transaction is active, nothing was refused, and each live object but the root that no strong pointer leads to is queued.
+  -- A journal with its log that was opened from this disk, and goes on from what it read: nothing has happened since, no
+  -- transaction is active, nothing was refused, and each live object but the root that no strong pointer leads to is queued.
   pub record OpensAs (faults : D → ℕ) (slots : ℕ) (disk : D) (given : Limits) (v : LoggedView D) : Type 0 where
     pub opens : ReadsAs slots disk v.journal.opening
     pub history : v.journal.history ≡ opened_history slots (length v.journal.opening - 1) v.journal.opening
@@ -52,7 +53,8 @@ module _ {D : Type 0} (content : D → Area → Option (List ℕ)) where
     pub counted : (v.opened ≡ faults v.disk) × (faults disk ≤ v.opened)
 
   module _ (may_leave : D → Area → List ℕ → Type 0) where
-    -- these frames have the pages of what the disk read, and the log stands on it, which has begun with them; the marks are those of its records, and the pages area is as long as the pages
+    -- these frames have the pages of what the disk read, and the log stands on it, which has begun with them; the marks are those
+    -- of its records, and the pages area is as long as the pages
     pub record HasBegun (slots : ℕ) (before now : D) (frames : List (Frame slots)) (log : LogState) (marks : List PageMark) : Type 0 where
       pub few : (1 ≤ length frames) × (length frames ≤ 1024)
       pub pages : ArePages frames
@@ -66,13 +68,15 @@ module _ {D : Type 0} (content : D → Area → Option (List ℕ)) where
       pub opens : ReadsAs slots before (stored_in frames)
 
     module _ (moment : D → ℕ) (left_since : D → ℕ → Bytes → Type 0) where
-      -- The refusal is what the disk read opens to, and nothing was written; or it tells nothing of the store. Where what the disk read does not open, nothing was written either way.
+      -- The refusal is what the disk read opens to, and nothing was written; or it tells nothing of the store. Where what the
+      -- disk read does not open, nothing was written either way.
       pub record RefusesToOpen (slots : ℕ) (before : D) (e : OpenRefusal) (now : D) : Type 0 where
         pub refused : (image : Bytes) → Reads content before image → Refuses slots image e
         pub unwritten : IsLate e ⊎ IsLookedAt content may_leave moment left_since before now
         pub only_looks : OnlyLooksUnlessOpen content may_leave moment left_since slots before now
 
-      -- where the disk read opens to cells, whatever a power loss leaves at each moment is what it may have left before, or opens to the same cells
+      -- where the disk read opens to cells, whatever a power loss leaves at each moment is what it may have left before, or opens
+      -- to the same cells
       abbrev pub OpensMeanwhile : (slots : ℕ) (before now : D) → Type 0
       OpensMeanwhile slots before now =
           (cells : List Cell) (image : Bytes) → Reads content before image → Opened slots image (OpensTo cells)

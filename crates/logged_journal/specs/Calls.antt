@@ -86,7 +86,8 @@ pub record GoesOn {D : Type 0} (old new : LoggedView D) : Type 0 where
   pub opened : new.opened ≡ old.opened
   pub marks : GoWithNotes old new
 
--- the disk failed a commit that is granted: the journal stays as it is, and is stopped with the disk's count of faults, which rose
+-- the disk failed a commit that is granted: the journal stays as it is, and is stopped with the disk's count of faults, which
+-- rose
 pub record FailsCommit {D : Type 0} (faults : D → ℕ) (old new : LoggedView D) (pass : ℕ) (c : TransactionCall) : Type 0 where
   pub commit : c ≡ call.Commit
   pub granted : IsGranted old.journal pass call.Commit

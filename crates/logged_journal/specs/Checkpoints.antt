@@ -53,7 +53,8 @@ pub record AreSameUnchanged (slots : ℕ) (marks : List PageMark) (before now : 
 abbrev pub AreThere : {slots : ℕ} → List (Frame slots) → List PageMark → ℕ → List ℕ → Type 0
 AreThere {slots} frames marks count area = (page : ℕ) → page < count → has_changed marks page ≡ true → bytes_of_page slots page area ≡ page_bytes (page_in frames page)
 
--- From one disk to another nothing changed but the changed pages in place, and a power loss leaves what it left before, but for any bytes in these.
+-- From one disk to another nothing changed but the changed pages in place, and a power loss leaves what it left before, but for
+-- any bytes in these.
 pub record OnlyPlaces {D : Type 0} (content : D → Area → Option (List ℕ)) (may_leave : D → Area → List ℕ → Type 0) (moment : D → ℕ) (left_since : D → ℕ → Bytes → Type 0) (faults : D → ℕ) (slots : ℕ) (marks : List PageMark) (start now : D) : Type 0 where
   pub left : Follows content may_leave (AreSameUnchanged slots marks) start now Pages
   pub moments : LeavesOnlyImages moment left_since start now (IsImageBut may_leave start Pages (λ area. (was : List ℕ) × may_leave start Pages was × AreSameUnchanged slots marks was area))

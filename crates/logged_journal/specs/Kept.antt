@@ -18,8 +18,8 @@ use Rattle.core_store.specs.Safe.{IsDurable}
 use Rattle.logged_journal.specs.View.{LoggedView, failed_commit, bytes_counted, image_bytes, image_need}
 use Rattle.logged_journal.specs.Records.{AreTypedNotes, HoldsNotes, durable_notes, MayBeLeft}
 
--- The log stands on the disk: with whatever pages a power loss leaves, its batches hold the records of the durable notes
--- behind what it began with, its tail those of the notes behind them, both with images of pages among them, and the marks are those of
+-- The log stands on the disk: with whatever pages a power loss leaves, its batches hold the records of the durable notes behind
+-- what it began with, its tail those of the notes behind them, both with images of pages among them, and the marks are those of
 -- all these records. The pages area is as long as the pages are, and there is room for what the active transactions owe.
 pub record IsStanding {D : Type 0} (may_leave : D → Area → List ℕ → Type 0) (v : LoggedView D) : Type 0 where
   pub stage : v.log.stage ≡ Standing
@@ -55,7 +55,8 @@ pub record IsKept {D : Type 0} (may_leave : D → Area → List ℕ → Type 0) 
   -- a call was answered that the log is full, which was nearly so
   pub full : v.log_full ≡ true → v.journal.limits.log < v.peak + image_need v.journal.history.slots
 
--- The disk's count of faults is not below that at the opening. Where the disk failed a call, the count rose by then, and it isn't below that now.
+-- The disk's count of faults is not below that at the opening. Where the disk failed a call, the count rose by then, and it isn't
+-- below that now.
 abbrev pub IsCounted : {D : Type 0} → (D → ℕ) → LoggedView D → Type 0
 IsCounted faults v = (v.opened ≤ faults v.disk) × IfSome v.failed (λ f. Rose v.opened f.faults × (f.faults ≤ faults v.disk))
 

@@ -45,14 +45,16 @@ IsTypedNote n = IfSome n.logged IsTypedCellRecord
 abbrev pub AreTypedNotes : List Note → Type 0
 AreTypedNotes notes = AllByRecursion IsTypedNote notes
 
--- with these bytes in the pages area, these are the batches of the log that the journal's store opened with, and the marks are those of their records
+-- with these bytes in the pages area, these are the batches of the log that the journal's store opened with, and the marks are
+-- those of their records
 abbrev pub OpenedWith : JournalView → List ℕ → List (List ℕ) → List PageMark → Type 0
 OpenedWith j area begun marks = (count : ℕ) × (j.history.ids ≡ 8 * count) × IsMarkedBegun j.history.slots count area begun j.opening marks
 
--- With these bytes in the pages area, these batches have the records of these notes, in order, and images of pages among them. The
--- log began over what the first of these notes make of the cells of the opening, where no transaction was active: with the batches that
--- the store opened with, or with that of a checkpoint. Behind these stands one batch for each part of the records of the later notes and
--- of images, each image being that page of the cells as they are there. A page that has an image may have any bytes in place.
+-- With these bytes in the pages area, these batches have the records of these notes, in order, and images of pages among them.
+-- The log began over what the first of these notes make of the cells of the opening, where no transaction was active: with the
+-- batches that the store opened with, or with that of a checkpoint. Behind these stands one batch for each part of the records of
+-- the later notes and of images, each image being that page of the cells as they are there. A page that has an image may have any
+-- bytes in place.
 pub record HaveRecords (slots pages : ℕ) (opening : List Cell) (area : List ℕ) (notes : List Note) (batches : List (List ℕ)) : Type 0 where
   pub opens : AreConsistent slots (8 * pages) opening
   -- the notes before the log began, and those behind them
@@ -76,7 +78,8 @@ pub record HaveRecords (slots pages : ℕ) (opening : List Cell) (area : List �
 abbrev pub HoldRecords : JournalView → List ℕ → List Note → List (List ℕ) → Type 0
 HoldRecords j area notes batches = (pages : ℕ) × (j.history.ids ≡ 8 * pages) × HaveRecords j.history.slots pages j.opening area notes batches
 
--- These bytes are these records: those of these notes, in order, and images of pages among them, each that page of the cells as they are there.
+-- These bytes are these records: those of these notes, in order, and images of pages among them, each that page of the cells as
+-- they are there.
 pub record AreRecords {slots : ℕ} (pages : ℕ) (cells : List Cell) (notes : List Note) (rs : List (Record slots)) (bytes : List ℕ) : Type 0 where
   pub logged : AreOfEvents (logged_of notes) rs
   pub images : HaveImages pages cells rs
@@ -88,8 +91,8 @@ pub record HaveMarked {slots : ℕ} (pages : ℕ) (opening : List Cell) (area : 
   pub have : HaveRecords slots pages opening area notes batches
   pub marked : AreMarks (all_of (have.earlier ++ have.parts) ++ tail) marks
 
--- Whatever a power loss leaves in the pages area, the batches have the records of these notes, the tail has those of the notes behind
--- them, and the marks are those of all these records.
+-- Whatever a power loss leaves in the pages area, the batches have the records of these notes, the tail has those of the notes
+-- behind them, and the marks are those of all these records.
 pub record HoldsNotes {D : Type 0} (may_leave : D → Area → List ℕ → Type 0) (slots pages : ℕ) (opening : List Cell) (notes more : List Note) (marks : List PageMark) (disk : D) (batches : List (List ℕ)) (tail : List ℕ) : Type 0 where
   pub rs : List (Record slots)
   pub behind : AreRecords pages (cells_after_notes slots opening notes) more rs tail
@@ -124,7 +127,8 @@ pub data MayBeLeft {D : Type 0} (v : LoggedView D) (image : Bytes) : Type 0 wher
   durable : HasRecords v.journal (durable_notes v) image → MayBeLeft v image
   failed : (f : FailedCall) → v.failed ≡ Some f → HasRecords v.journal (notes_failed v.journal.notes f) image → MayBeLeft v image
 
--- what a power loss may leave while a commit of this client is made: what it may leave before, or the records of all notes and that commit
+-- what a power loss may leave while a commit of this client is made: what it may leave before, or the records of all notes and
+-- that commit
 abbrev pub MayHave : {D : Type 0} → LoggedView D → ℕ → Bytes → Type 0
 MayHave v pass image = MayBeLeft v image ⊎ HasRecords v.journal (with_commit v.journal.notes pass) image
 

@@ -55,7 +55,8 @@ IsPast v needed = v.journal.limits.log < bytes_counted v + needed
 abbrev pub image_bytes : ℕ → ℕ
 image_bytes slots = page_size slots + 3
 
--- how many bytes of the log a page needs to be cleaned: those of an image of it, and five more that a batch takes beside its records
+-- how many bytes of the log a page needs to be cleaned: those of an image of it, and five more that a batch takes beside its
+-- records
 abbrev pub image_need : ℕ → ℕ
 image_need slots = image_bytes slots + 5
 

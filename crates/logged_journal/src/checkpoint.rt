@@ -75,7 +75,8 @@ impl<const SLOTS: usize, D: Disk> LoggedJournal<SLOTS, D> {
         let _ = self.marks.len();
     }
 
-    /// Appends the image of each page that a record of the log concerns and of which none is current, in ascending order of the pages.
+    /// Appends the image of each page that a record of the log concerns and of which none is current, in ascending order of the
+    /// pages.
     fn log_images(&mut self, frames: &[Frame<SLOTS>])
         requires running { self.old.failed ≡ None }
         requires pages { 8 * length frames.now ≡ self.old.journal.history.ids }
@@ -317,15 +318,15 @@ impl<const SLOTS: usize, D: Disk> LoggedJournal<SLOTS, D> {
         }
     }
 
-    /// Turns the log: images of all pages that changed since it began join it where none is current, it is forced, and each of these
-    /// pages is made to last in place. Then it begins anew in the other log area, with its first batch alone. These are the frames,
-    /// one for each page from 0 on. It changes no object, and enters an entry that says so.
+    /// Turns the log: images of all pages that changed since it began join it where none is current, it is forced, and each of
+    /// these pages is made to last in place. Then it begins anew in the other log area, with its first batch alone. These are the
+    /// frames, one for each page from 0 on. It changes no object, and enters an entry that says so.
     ///
     /// [`Upkeep::Stopped`] comes exactly where the disk failed a call before, [`Upkeep::TraceFull`] exactly where the history has
     /// no room for one entry. [`Upkeep::Busy`] comes where a transaction is active, unless memory is out; it names the least such
-    /// client, and enters the history. [`Upkeep::LogFull`] never comes where the bytes of the log in use and those that are owed are
-    /// within its limit. These but `Busy`, and [`Upkeep::Memory`], do nothing. [`Upkeep::DiskFault`] comes only where the disk's count
-    /// of faults rose in this call; the store is then stopped.
+    /// client, and enters the history. [`Upkeep::LogFull`] never comes where the bytes of the log in use and those that are owed
+    /// are within its limit. These but `Busy`, and [`Upkeep::Memory`], do nothing. [`Upkeep::DiskFault`] comes only where the
+    /// disk's count of faults rose in this call; the store is then stopped.
     pub fn turn(&mut self, frames: &[Frame<SLOTS>]) -> Upkeep
         requires pages { 8 * length frames.now ≡ self.old.journal.history.ids }
         requires agree { AllAgree (cells_of self.old.journal) frames.now }

@@ -141,8 +141,8 @@ impl<const SLOTS: usize, D: Disk> LoggedJournal<SLOTS, D> {
     ///
     /// [`Upkeep::Stopped`] comes exactly where the disk failed a call before, [`Upkeep::TraceFull`] exactly where the history has
     /// no room for one entry, [`Upkeep::LogFull`] exactly where the page's image would go past the log's limit. These and
-    /// [`Upkeep::Memory`] do nothing. [`Upkeep::DiskFault`] comes only where the disk's count of faults rose in this call; the store
-    /// is then stopped. [`Upkeep::Busy`] never comes.
+    /// [`Upkeep::Memory`] do nothing. [`Upkeep::DiskFault`] comes only where the disk's count of faults rose in this call; the
+    /// store is then stopped. [`Upkeep::Busy`] never comes.
     pub fn clean(&mut self, frame: &Frame<SLOTS>, page: u16) -> Upkeep
         requires page { 8 * page < self.old.journal.history.ids }
         requires agree { HoldsPage (cells_of self.old.journal) page frame.now.page }

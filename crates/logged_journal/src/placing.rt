@@ -34,8 +34,8 @@ fn spell_page<const SLOTS: usize>(run: &mut Vec<u8>, frame: &Frame<SLOTS>)
     let _ = run.extend_from_slice(bytes);
 }
 
-/// Writes a run of neighbouring pages in place, from the page of this number on, by one disk call, and begins a new run. A run without
-/// pages makes no disk call.
+/// Writes a run of neighbouring pages in place, from the page of this number on, by one disk call, and begins a new run. A run
+/// without pages makes no disk call.
 fn write_run<D: Disk, const SLOTS: usize>(
     disk: &mut D,
     first: u16,
@@ -65,8 +65,8 @@ fn write_run<D: Disk, const SLOTS: usize>(
     Ok(())
 }
 
-/// Writes the changed pages in place, and no others: neighbouring ones by one disk call. It takes no memory where there is room for the bytes of
-/// all of them. What it wrote lasts once the pages area was synced.
+/// Writes the changed pages in place, and no others: neighbouring ones by one disk call. It takes no memory where there is room
+/// for the bytes of all of them. What it wrote lasts once the pages area was synced.
 pub(crate) fn place_changed<D: Disk, const SLOTS: usize>(
     disk: &mut D,
     marks: &PageMarks,

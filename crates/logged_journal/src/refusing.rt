@@ -29,8 +29,8 @@ impl<const SLOTS: usize, D: Disk> LoggedJournal<SLOTS, D> {
         self.journal.enter_turn_busy(pass);
     }
 
-    /// What a page's cleaning is refused before the page is looked at, if it is: that the store is stopped, or that the history has
-    /// no room for one entry, and then nothing is done.
+    /// What a page's cleaning is refused before the page is looked at, if it is: that the store is stopped, or that the history
+    /// has no room for one entry, and then nothing is done.
     pub fn refuse_clean(&mut self) -> Option<Upkeep>
         ensures stopped { IfSome self.old.failed (λ f. (result ≡ Some (Upkeep.Stopped f.faults)) × (self.new ≡ self.old)) }
         ensures full { self.old.failed ≡ None → is_past_limit self.old.journal 1 ≡ true

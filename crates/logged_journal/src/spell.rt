@@ -25,18 +25,18 @@ pub(crate) fn image_len<const SLOTS: usize>() -> usize
 }
 
 /// Appends the record to the tail, in room that was taken for it. It takes no memory.
-pub(crate) fn append_record<const SLOTS: usize>(log: &mut GateLog, record: &CellRecord)
+pub(crate) fn append_record<const SLOTS: usize>(log: &mut GateLog, change: &CellRecord)
     requires count { IsSlotCount SLOTS }
-    requires spelled { HasCellSpelling SLOTS record.now }
+    requires spelled { HasCellSpelling SLOTS change.now }
     requires standing { log.old.stage ≡ Standing }
-    requires room { length (cell_record_bytes record.now) ≤ log.old.room }
+    requires room { length (cell_record_bytes change.now) ≤ log.old.room }
     requires bounded { used log.old + 25 < 2 ^ 32 }
-    ensures log { log.new ≡ appended log.old (cell_record_bytes record.now) }
-    ensures typed { IsTypedCellRecord record.now }
+    ensures log { log.new ≡ appended log.old (cell_record_bytes change.now) }
+    ensures typed { IsTypedCellRecord change.now }
 {
-    know_cell_record(*record);
+    know_cell_record(*change);
     let mut spelling = [0; LONGEST_CELL_RECORD];
-    let length = record.spell(&mut spelling);
+    let length = change.spell(&mut spelling);
     log.append_reserved(&spelling[..length]);
 }
 

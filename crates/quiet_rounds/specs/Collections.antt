@@ -9,7 +9,8 @@ use Rattle.quiet_rounds.specs.Quiet.{NoneActive}
 use Rattle.quiet_rounds.specs.Laws.{IsQuietEvent}
 use Rattle.quiet_rounds.specs.WholeRounds.{IsWholeRound, IsWithoutStrong}
 
--- from one moment at which no round is open to another one: so many whole rounds, and so many queued objects that were passed over
+-- from one moment at which no round is open to another one: so many whole rounds, and so many queued objects that were passed
+-- over
 pub data IsCollection (slots : ℕ) (c : Core) : Core → ℕ → ℕ → Type 0 where
   none : IsCollection slots c c 0 0
   pass : (d e : Core) (id rounds passed : ℕ) → IsCollection slots c d rounds passed → IsQuietEvent slots d e Closed Closed (act.Skip id) None → IsCollection slots c e rounds (passed + 1)
@@ -34,7 +35,8 @@ pub record IsUsedUp (taken : ℕ) (queue behind : List ℕ) : Type 0 where
 abbrev pub QueueLaw : Type 0
 QueueLaw = (slots : ℕ) (c d : Core) (rounds passed : ℕ) → IsCollection slots c d rounds passed → IsUsedUp (rounds + passed) c.queue d.queue
 
--- where the queue is empty behind it, there were as many rounds as objects to which no strong pointer led, and there is no such object any more
+-- where the queue is empty behind it, there were as many rounds as objects to which no strong pointer led, and there is no such
+-- object any more
 abbrev pub AtRestLaw : Type 0
 AtRestLaw =
     (slots : ℕ) (c d : Core) (rounds passed : ℕ) → IsCollection slots c d rounds passed → IsSound d → NoneActive d → d.round ≡ None → d.queue ≡ []

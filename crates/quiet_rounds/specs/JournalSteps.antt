@@ -24,7 +24,8 @@ pub record IsSoundJournal (slots : ℕ) (j : JournalView) : Type 0 where
 abbrev pub note_of : (slots : ℕ) (i j : JournalView) (r : Collect) → MakesEvent slots i j r → Note
 note_of slots i j r m = record { entry = entry_of m.logged; logged = m.logged; left = left_of slots j.round; act = m.event }
 
--- looks and events of the collector one after another, with the notes that they add and with what the history tells behind each event
+-- looks and events of the collector one after another, with the notes that they add and with what the history tells behind each
+-- event
 pub data CollectorSteps (slots : ℕ) (i : JournalView) : JournalView → List Note → Type 0 where
   none : CollectorSteps slots i i []
   looks : (j k : JournalView) (notes : List Note) → CollectorSteps slots i j notes → OnlyLooks slots j k → CollectorSteps slots i k notes
@@ -36,7 +37,8 @@ pub data CollectorSteps (slots : ℕ) (i : JournalView) : JournalView → List N
 abbrev pub NotedLaw : Type 0
 NotedLaw = (slots : ℕ) (i k : JournalView) (notes : List Note) → CollectorSteps slots i k notes → k.notes ≡ i.notes ++ notes
 
--- what an event of a journal's collector is beside no active client: a quiet event, which keeps a quiet round quiet and takes no object into the queue
+-- what an event of a journal's collector is beside no active client: a quiet event, which keeps a quiet round quiet and takes no
+-- object into the queue
 pub record StepsQuietly (slots : ℕ) (i j : JournalView) (r : Collect) (m : MakesEvent slots i j r) : Type 0 where
   pub event : IsQuietEvent slots (core_of i) (core_of j) i.round j.round m.event m.logged
   pub pops : pops r ≡ is_pop m.event
@@ -49,7 +51,8 @@ JournalEventLaw =
     (slots : ℕ) (i j : JournalView) (r : Collect) → IsSoundJournal slots i → NoneActive (core_of i) → (m : MakesEvent slots i j r) → j.opening ≡ i.opening → IsSoundJournal slots j
     → StepsQuietly slots i j r m
 
--- the looks of a journal's collector beside no active client are looks of an open round's run, and keep a quiet round quiet; what the history tells stays true
+-- the looks of a journal's collector beside no active client are looks of an open round's run, and keep a quiet round quiet; what
+-- the history tells stays true
 pub record LooksQuietly (slots : ℕ) (i j : JournalView) : Type 0 where
   pub still : IsStill slots (core_of i) i.round
   pub journal : IsSoundJournal slots j

@@ -62,7 +62,8 @@ pub record AreCopied (slots : ℕ) (cells : List Cell) (g : Greening) : Type 0 w
 abbrev pub IsHeldStrongly : List Cell → Greening → ℕ → Type 0
 IsHeldStrongly cells g id = (u : ℕ) × (slot : ℕ) × (waits g u ≡ false) × IsStrongAt cells u slot id
 
--- objects that aren't green have no strong pointer to them, and none out of them but to an object that was just flipped; green ones have one from an object that doesn't wait, and those that were walked lead to no object that waits
+-- objects that aren't green have no strong pointer to them, and none out of them but to an object that was just flipped; green
+-- ones have one from an object that doesn't wait, and those that were walked lead to no object that waits
 pub record IsQuietSweep (cells : List Cell) (slots : ℕ) (w : Walk) (s : Sweep) (g : Greening) : Type 0 where
   pub zero : (id : ℕ) → Contains w.left id → (Contains g.green id → ⊥) → (cell_at cells id).strong ≡ 0
   pub none_out : (id slot : ℕ) → Contains w.left id → (Contains g.green id → ⊥) → is_counted_strong cells (pointer_at cells id slot) ≡ true → IsToWeaken g.stage id slot (pointer_at cells id slot).target

@@ -1,4 +1,5 @@
--- A whole round of a journal beside which no client is active, by its notes: its objects, what it deletes and leaves, and how many notes it takes.
+-- A whole round of a journal beside which no client is active, by its notes: its objects, what it deletes and leaves, and how
+-- many notes it takes.
 use Rattle.std.specs.Prelude.{◌≡◌, ◌≢◌, ◌↔◌, ℕ, ◌+◌, ◌*◌, ◌≤◌, Bool, true, false, not, ◌&&◌, ◌==◌, if◌then◌else◌, List, [], ◌∷◌, ◌++◌, length, Contains, Option, Some}
 use Rattle.plain_model.specs.Graphs.{root}
 use Rattle.cell_model.specs.Cells.{Cell, cell_at, is_live, object_of}
@@ -58,7 +59,8 @@ abbrev pub started_with : Act → List ℕ
 started_with (act.Start id) = id ∷ []
 started_with _ = []
 
--- the objects of the round, by the cells before its notes: the one that it starts with, and then, in the notes' order, the target of each pointer that became weak before the first copy, where it joined
+-- the objects of the round, by the cells before its notes: the one that it starts with, and then, in the notes' order, the target
+-- of each pointer that became weak before the first copy, where it joined
 abbrev pub objects_of_round : ℕ → List Cell → List Note → List ℕ
 objects_of_round slots cells [] = []
 objects_of_round slots cells (n ∷ ns) = list_from slots cells (started_with n.act) ns

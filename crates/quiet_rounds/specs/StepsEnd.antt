@@ -1,4 +1,5 @@
--- The steps of a journal's collector beside which no client is active, from a moment at which no round is open: they end, after few rounds.
+-- The steps of a journal's collector beside which no client is active, from a moment at which no round is open: they end, after
+-- few rounds.
 use Rattle.std.specs.Prelude.{◌≡◌, ℕ, ◌+◌, ◌*◌, ◌≤◌, Bool, true, false, List, [], length, count_by}
 use Rattle.red_walk.specs.Walk.{opened}
 use Rattle.core_store.specs.declared.act.Act.{Act}

@@ -1,4 +1,5 @@
--- Whole rounds beside which no client is active: which objects they are about, which they delete, what they leave, and how many events they take.
+-- Whole rounds beside which no client is active: which objects they are about, which they delete, what they leave, and how many
+-- events they take.
 use Rattle.std.specs.Prelude.{◌≡◌, ◌≢◌, ◌↔◌, ℕ, ◌+◌, ◌*◌, ◌≤◌, true, false, List, length, Contains, Option, None}
 use Rattle.plain_model.specs.Graphs.{root}
 use Rattle.cell_model.specs.Cells.{Cell, cell_at, pointer_at, is_live, object_of}
@@ -18,7 +19,8 @@ use Rattle.quiet_rounds.specs.Laws.{IsQuietEvent}
 
 -- ---- what a round is about
 
--- the strongly dominated set of an object: the least set that has it, and each live object but the root to which a strong pointer leads and all strong pointers to which come from the set
+-- the strongly dominated set of an object: the least set that has it, and each live object but the root to which a strong pointer
+-- leads and all strong pointers to which come from the set
 pub data IsDominated (cells : List Cell) (x : ℕ) : ℕ → Type 0 where
   itself : IsDominated cells x x
   joins : (id : ℕ) → is_live cells id ≡ true → id ≢ root → HasStrongIn cells id → ((u slot : ℕ) → IsStrongAt cells u slot id → IsDominated cells x u) → IsDominated cells x id

@@ -124,8 +124,8 @@ fn steps<D: Disk>(alloc: Global, store: &Store<6, D>, pass: &mut Pass<6, D>) -> 
     ]
 }
 
-/// Does these steps on the store that the disk holds, and closes it. Whether each answered as it was meant, and how many frames and
-/// objects there are then.
+/// Does these steps on the store that the disk holds, and closes it. Whether each answered as it was meant, and how many frames
+/// and objects there are then.
 fn lone_run<D: Disk>(alloc: Global, disk: D) -> Result<([bool; 9], usize, usize), AllocError> {
     let (store, mut one) = lone_on(alloc, disk)?;
     let answers = steps(alloc, &store, &mut one);

@@ -67,8 +67,8 @@ fn tells_stop<D: Disk>(logged: &LoggedJournal<6, D>, reply: Reply) -> bool {
     reply == Reply::Stopped { faults }
 }
 
-/// Runs that on the store that the disk holds. Whether the commit was told that the disk failed it and the call behind it that the
-/// store is stopped. Hands the disk on.
+/// Runs that on the store that the disk holds. Whether the commit was told that the disk failed it and the call behind it that
+/// the store is stopped. Hands the disk on.
 fn stop<D: Disk>(alloc: Global, disk: D) -> Result<(bool, D), AllocError> {
     let (logged, is_told, reply) = stopped_run(alloc, disk)?;
     let is_stopped = is_told && tells_stop(&logged, reply);

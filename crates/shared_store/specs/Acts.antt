@@ -20,8 +20,8 @@ abbrev pub met_if : {slots : ℕ} → Known slots → Option (ℕ × ℕ) → Kn
 met_if v None = v
 met_if v (Some f) = met v f.0 f.1
 
--- Of a hold with the log word: it claimed pages, of which these frames are held now, and the journal went on from the first to the second
--- with this entry and mark, if any. Or it found this number in a word.
+-- Of a hold with the log word: it claimed pages, of which these frames are held now, and the journal went on from the first to
+-- the second with this entry and mark, if any. Or it found this number in a word.
 pub record Acts {D : Type 0} (slots : ℕ) (old new : Known slots) (before after : LoggedView D) (held : List (HeldFrame slots)) (entered : Option Entry) (marked : Marks) (found : Option (ℕ × ℕ)) : Type 0 where
   -- the frames as they were claimed
   pub first : List (HeldFrame slots)

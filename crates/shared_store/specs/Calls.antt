@@ -35,8 +35,8 @@ use Rattle.shared_store.specs.Passes.{Known, one_more}
 
 -- ---- what a pass knows after a call
 
--- the pass keeps the entry at a place that isn't below what it had seen; it has seen all up to it, and knows by it whether its client
--- has a transaction
+-- the pass keeps the entry at a place that isn't below what it had seen; it has seen all up to it, and knows by it whether its
+-- client has a transaction
 pub record Keeps {slots : ℕ} (old new : Known slots) (entry : Entry) : Type 0 where
   pub note : Note
   pub of_entry : note.entry ≡ entry
@@ -122,8 +122,8 @@ pub record DoesCallOn {D : Type 0} (slots : ℕ) (faults : D → ℕ) (before af
   pub fault : result ≡ reply.DiskFault → FailsCommit faults before after client c
   pub later : faults before.disk ≤ faults after.disk
 
--- The call was made on a journal of which all holds that the pass knew, and this is what the journal did. A pass that is alone keeps
--- each note of it, once
+-- The call was made on a journal of which all holds that the pass knew, and this is what the journal did. A pass that is alone
+-- keeps each note of it, once
 pub record MakesCall (D : Type 0) (slots : ℕ) (faults : D → ℕ) (old : Known slots) (c : TransactionCall) (result : Reply) : Type 0 where
   pub before : LoggedView D
   pub after : LoggedView D
@@ -163,8 +163,8 @@ pub record DoesStepOn {D : Type 0} (slots : ℕ) (before after : LoggedView D) (
   pub goes_on : IfOk result (λ _. GoesOn before after)
   pub untouched : KeepsDisk before after
 
--- The step was made on a journal of which all holds that the pass knew, and this is what the journal did. A pass that is alone keeps
--- each note of it, once
+-- The step was made on a journal of which all holds that the pass knew, and this is what the journal did. A pass that is alone
+-- keeps each note of it, once
 pub record MakesStep (D : Type 0) (slots : ℕ) (old : Known slots) (result : Result AbortStep StepRefusal) : Type 0 where
   pub before : LoggedView D
   pub after : LoggedView D
@@ -207,8 +207,8 @@ pub record DoesCollectOn {D : Type 0} (slots : ℕ) (before after : LoggedView D
   pub goes_on : IfOk result (λ _. GoesOn before after)
   pub untouched : KeepsDisk before after
 
--- The event was made on a journal of which all holds that the pass knew, and this is what the journal did. A pass that is alone keeps
--- each note of it, once
+-- The event was made on a journal of which all holds that the pass knew, and this is what the journal did. A pass that is alone
+-- keeps each note of it, once
 pub record MakesCollect (D : Type 0) (slots : ℕ) (old : Known slots) (result : Result Collect CollectRefusal) : Type 0 where
   pub before : LoggedView D
   pub after : LoggedView D

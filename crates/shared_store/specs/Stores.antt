@@ -15,8 +15,9 @@ pub record IsStore (slots : ℕ) (t : TableView) : Type 0 where
   pub few : t.pages ≤ 1024
   pub size : IsSlotCount slots
 
--- A look at the cell of this id: the pass saw the frame of its page while the history had so many entries, no fewer than it had seen,
--- and keeps that; the cell is that of the frame; each entry that the pass keeps is one of those. Or the word of the page bears this other pass's number.
+-- A look at the cell of this id: the pass saw the frame of its page while the history had so many entries, no fewer than it had
+-- seen, and keeps that; the cell is that of the frame; each entry that the pass keeps is one of those. Or the word of the page
+-- bears this other pass's number.
 abbrev pub Peeks : {slots : ℕ} → Known slots → Known slots → ℕ → Peek slots → Type 0
 Peeks {slots} old new id (Cell seen cell) =
     (old.knowledge.seen ≤ seen)

@@ -65,8 +65,8 @@ pub record DoesCleanOn {D : Type 0} (slots : ℕ) (faults : D → ℕ) (may_leav
   pub fault : result ≡ upkeep.DiskFault → FailsUpkeep faults before after
   pub later : faults before.disk ≤ faults after.disk
 
--- The page was cleaned on a journal of which all holds that the pass knew, and this is what the journal did. A pass that is alone keeps
--- each note of it, once
+-- The page was cleaned on a journal of which all holds that the pass knew, and this is what the journal did. A pass that is alone
+-- keeps each note of it, once
 pub record MakesClean (D : Type 0) (slots : ℕ) (faults : D → ℕ) (may_leave : D → Area → List ℕ → Type 0) (old : Known slots) (page : ℕ) (result : Upkeep) : Type 0 where
   pub before : LoggedView D
   pub after : LoggedView D
@@ -74,7 +74,8 @@ pub record MakesClean (D : Type 0) (slots : ℕ) (faults : D → ℕ) (may_leave
   pub covered : IsAlone old → KeepsEachOnce (notes_of before) old.knowledge.entries
   pub made : DoesCleanOn slots faults may_leave before after page result
 
--- the journal turns its log, or refuses to, and answers so; where it was done, each image of the disk has every page in place and names the other log area
+-- the journal turns its log, or refuses to, and answers so; where it was done, each image of the disk has every page in place and
+-- names the other log area
 pub record DoesTurnOn {D : Type 0} (slots : ℕ) (faults : D → ℕ) (may_leave : D → Area → List ℕ → Type 0) (before after : LoggedView D) (result : Upkeep) : Type 0 where
   pub legal : IsLegal (history_of after)
   pub stopped : IfSome before.failed (λ f. (result ≡ upkeep.Stopped f.faults) × (after ≡ before))
@@ -92,8 +93,8 @@ pub record DoesTurnOn {D : Type 0} (slots : ℕ) (faults : D → ℕ) (may_leave
   pub fault : result ≡ upkeep.DiskFault → FailsUpkeep faults before after
   pub later : faults before.disk ≤ faults after.disk
 
--- The log was turned on a journal of which all holds that the pass knew, and this is what the journal did. A pass that is alone keeps
--- each note of it, once
+-- The log was turned on a journal of which all holds that the pass knew, and this is what the journal did. A pass that is alone
+-- keeps each note of it, once
 pub record MakesTurn (D : Type 0) (slots : ℕ) (faults : D → ℕ) (may_leave : D → Area → List ℕ → Type 0) (old : Known slots) (result : Upkeep) : Type 0 where
   pub before : LoggedView D
   pub after : LoggedView D

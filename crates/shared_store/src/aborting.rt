@@ -94,8 +94,8 @@ impl<const SLOTS: usize, D: Disk> Store<SLOTS, D> {
         }
     }
 
-    /// Undoes the last write of the client's transaction that isn't undone, or ends the transaction where none is left. It takes no
-    /// memory, and doesn't wait.
+    /// Undoes the last write of the client's transaction that isn't undone, or ends the transaction where none is left. It takes
+    /// no memory, and doesn't wait.
     pub fn abort_step(&self, pass: &mut Pass<SLOTS, D>) -> Result<AbortStep, StepRefusal>
         requires of { pass.old.table ≡ self.now.table }
         requires active { pass.old.view.knowledge.truth ≡ true }

@@ -103,11 +103,11 @@ impl<const SLOTS: usize, D: Disk> Store<SLOTS, D> {
         reply
     }
 
-    /// Does the call of the pass's client, and answers what its entry says. The pass keeps that entry, at a place that isn't below
-    /// what it had seen. It doesn't wait: `Reply::Again` names a word that another pass has, and then nothing was done.
+    /// Does the call of the pass's client, and answers what its entry says. The pass keeps that entry, at a place that isn't
+    /// below what it had seen. It doesn't wait: `Reply::Again` names a word that another pass has, and then nothing was done.
     ///
-    /// The call is made on the journal as some moment of this call finds it, under the log word and those of the pages on which it
-    /// works; there each answer has its cause.
+    /// The call is made on the journal as some moment of this call finds it, under the log word and those of the pages on which
+    /// it works; there each answer has its cause.
     pub fn call(&self, pass: &mut Pass<SLOTS, D>, call: &Call) -> Reply
         requires of { pass.old.table ≡ self.now.table }
         requires client { IsClient pass.old.view.station.name }

@@ -13,8 +13,8 @@ use journal_chronicle::JournalChronicle;
 use latch_table::{Chronicle, Hold};
 
 impl<const SLOTS: usize, D: Disk> Store<SLOTS, D> {
-    /// Tells of the entry that the journal has more, if the call entered one: this is the event. Gives the length that the history is
-    /// known to have had.
+    /// Tells of the entry that the journal has more, if the call entered one: this is the event. Gives the length that the
+    /// history is known to have had.
     fn tell_if(
         &self,
         entered: bool,

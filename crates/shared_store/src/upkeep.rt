@@ -203,8 +203,8 @@ impl<const SLOTS: usize, D: Disk> Store<SLOTS, D> {
         Ok(answer)
     }
 
-    /// Turns the log: a checkpoint, behind which it begins anew. The log and all pages are claimed, unless a transaction is active.
-    /// It doesn't wait.
+    /// Turns the log: a checkpoint, behind which it begins anew. The log and all pages are claimed, unless a transaction is
+    /// active. It doesn't wait.
     pub fn turn(&self, alloc: Global, pass: &mut Pass<SLOTS, D>) -> Result<Upkeep, Held>
         requires of { pass.old.table ≡ self.now.table }
         ensures of { pass.new.table ≡ self.now.table }
