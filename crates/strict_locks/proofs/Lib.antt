@@ -4,3 +4,5 @@ mod HoldersLaws
 mod IndexLaws
 pub mod LockLaws
 mod MadeLists
+mod PutLaws
+mod RowLaws

@@ -5,7 +5,7 @@ ghost use Rattle.strict_locks.specs.Clients.{ids_of, HasRoom, AddsId, DropsIds, 
 use std::alloc::{AllocError, Global};
 
 /// Appends the id, for which there is room.
-fn push_into_room(ids: &mut Vec<u32>, id: u32)
+pub(crate) fn push_into_room(ids: &mut Vec<u32>, id: u32)
     requires { vec_len ids.old < vec_capacity ids.old }
     ensures { ids.new.items ≡ ids.old.items ++ id ∷ [] }
 {

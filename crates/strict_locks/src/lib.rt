@@ -11,6 +11,7 @@ mod lock_table;
 mod object_lock;
 mod objects;
 mod refusal;
+mod rows;
 mod standing;
 
 pub use lock_table::LockTable;

@@ -3,11 +3,10 @@ ghost use Rattle.std.specs.List.{IsDistinct};
 ghost use Rattle.std.specs.Ordering.{nat_cmp, eq_by_cmp};
 ghost use Rattle.std.specs.Prelude.{◌≡◌, ℕ, [], OnOk, OnErr, IfErr, true};
 
-use crate::object_lock::ObjectLock;
 use crate::refusal::LockRefusal;
+use crate::rows::LockRows;
 use crate::standing::Standing;
 use crate::{clients, objects};
-use indexmap::IndexMap;
 use std::alloc::Global;
 use std::marker::Model;
 
@@ -17,13 +16,12 @@ use std::marker::Model;
 /// the upgrade to one, is granted exactly where no other client holds the object at all. A client
 /// that owns an object and shares it keeps both facts. No call waits.
 ///
-/// `pass` is the client's number and `id` the object's. The table takes any number.
+/// `pass` is the client's number and `id` the object's. The table takes any number, and memory in
+/// proportion to the greatest id that was ever locked: ids are to be those of a store, which are dense.
 #[derive(Debug, Drop)]
 pub struct LockTable {
     alloc: Global,
-    locks: IndexMap<u32, ObjectLock>,
-    /// The place at which the lock stands that was made last, unless locks were given back since. It is looked at first.
-    recent: usize,
+    locks: LockRows,
     /// The objects that each client holds, at its number.
     lists: Vec<Vec<u32>>,
 }
@@ -34,9 +32,9 @@ impl Model for LockTable {
 
     ghost Value = { Table };
 
-    ghost view = { λ a. a.locks.entries };
+    ghost view = { λ a. a.locks };
 
-    ghost invariant = { λ a. AreSound a.locks.entries a.lists.items };
+    ghost invariant = { λ a. AreSound a.locks a.lists.items };
 }
 
 impl LockTable {
@@ -49,8 +47,7 @@ impl LockTable {
     {
         LockTable {
             alloc,
-            locks: IndexMap::new(alloc),
-            recent: 0,
+            locks: LockRows::new(alloc),
             lists: Vec::new(alloc),
         }
     }
@@ -65,7 +62,7 @@ impl LockTable {
         ensures busy { IfErr result (IsRefusal (StandsInWayOfShare (holders_of self.old id) pass)) }
         ensures err { OnErr result (self.new ≡ self.old) }
     {
-        match objects::standing_to_share(&self.locks, self.recent, pass, id) {
+        match objects::standing_to_share(&self.locks, pass, id) {
             Standing::Blocked(owner) => return Err(LockRefusal::Busy { pass: owner }),
             Standing::Granted => return Ok(()),
             Standing::Held => {
@@ -75,7 +72,6 @@ impl LockTable {
             Standing::Free => {}
         }
         clients::reserve(&mut self.lists, self.alloc, pass)?;
-        self.recent = self.locks.len();
         objects::share(&mut self.locks, pass, id)?;
         clients::note(&mut self.lists, pass, id);
         Ok(())
@@ -91,7 +87,7 @@ impl LockTable {
         ensures busy { IfErr result (IsRefusal (StandsInWayOfOwn (holders_of self.old id) pass)) }
         ensures err { OnErr result (self.new ≡ self.old) }
     {
-        match objects::standing_to_own(&self.locks, self.recent, pass, id) {
+        match objects::standing_to_own(&self.locks, pass, id) {
             Standing::Blocked(holder) => return Err(LockRefusal::Busy { pass: holder }),
             Standing::Granted => return Ok(()),
             Standing::Held => {
@@ -101,7 +97,6 @@ impl LockTable {
             Standing::Free => {}
         }
         clients::reserve(&mut self.lists, self.alloc, pass)?;
-        self.recent = self.locks.len();
         objects::own_first(&mut self.locks, pass, id)?;
         clients::note(&mut self.lists, pass, id);
         Ok(())
@@ -139,9 +134,9 @@ impl LockTable {
         ensures { IsLeastOrNone (StandsInWay alone (holders_of self.now id) pass) result }
     {
         if alone {
-            objects::other_holder(&self.locks, self.recent, pass, id)
+            objects::other_holder(&self.locks, pass, id)
         } else {
-            objects::other_owner(&self.locks, self.recent, pass, id)
+            objects::other_owner(&self.locks, pass, id)
         }
     }
 }

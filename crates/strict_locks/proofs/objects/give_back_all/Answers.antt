@@ -6,7 +6,7 @@ use Rattle.strict_locks.proofs.objects.give_back_all.Goals as goal
 
 pub loop-id-preserved : goal.loop-id-preserved
 loop-id-preserved c =
-    let start = c.args.locks.now.entries in
-    let now = c.loop-id.locks.entries in
+    let start = c.args.locks.now in
+    let now = c.loop-id.locks in
     let left = subst (AreBeingDropped start now c.args.pass) c.in-Some.ensures.steps c.loop-id.invariant in
-    given-back start now c.give_back.new.locks.entries c.args.pass c.in-Some.id.now (iter_rest (rev_source c.next.new.self)) left c.give_back.ensures.gives c.give_back.ensures.held
+    given-back start now c.give_back.new.locks c.args.pass c.in-Some.id.now (iter_rest (rev_source c.next.new.self)) left c.give_back.ensures.gives c.give_back.ensures.held
