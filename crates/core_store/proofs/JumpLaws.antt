@@ -14,17 +14,19 @@ use Rattle.green_walk.proofs.JumpLaws.{tested-to-law, walked-to-law}
 use Rattle.core_store.specs.declared.round_at.RoundAt.{RoundAt}
 use Rattle.core_store.specs.declared.round_at.RoundAt.TheVariants as at
 use Rattle.core_store.specs.declared.three.HeldFrame.{HeldFrame}
-use Rattle.core_store.specs.RoundView.{RoundView, Walking, Sweeping, asked, is_event, is_white, looked_past, passed_by_sweep, to_slot, swept_to, looked_to, Passes, more}
+use Rattle.core_store.specs.RoundView.{RoundView, Walking, Sweeping, asked, is_event, is_white, looked_past, passed_by_sweep, to_slot, swept_to, looked_to, left_of, Passes, more}
 use Rattle.core_store.specs.Tables.{TablesView}
 use Rattle.core_store.specs.Stands.{Stands}
 use Rattle.core_store.specs.Frames.{Agree}
 use Rattle.core_store.specs.Ready.{IsStanding}
 use Rattle.core_store.specs.Changes.{has_no_strong, is_counted_strong}
+use Rattle.core_store.specs.Passed.{HasPassed}
 use Rattle.core_store.specs.Nulls.{slot_at, at_slot, waits_in, is_white_in, IsIdleAt}
 use Rattle.core_store.proofs.AskedLaws.{asked-look, asked-cut}
 use Rattle.core_store.proofs.SeenLaws.{GreenOf, green-of, passed-by}
 use Rattle.core_store.proofs.RoundLaws.{green-goes}
-use Rattle.core_store.proofs.PassLaws.{HasPassed, passed-none, passed-more}
+use Rattle.core_store.proofs.LeftLaws.{left-passed}
+use Rattle.core_store.proofs.PassLaws.{passed-none, passed-more}
 use Rattle.core_store.proofs.NullLaws.{look-on, sweeps, white-in, idle-nothing, idle-next, null-idle, same-slot}
 
 -- ---- to go on from such a slot is to go to the next one
@@ -82,7 +84,7 @@ at-waits g (AtInto flipped rest) n id = refl
 walked-waits : (g : Greening) (n id : ℕ) → waits (walked_to g n) id ≡ waits g id
 walked-waits g n id = at-waits (settled g) (settled g).stage n id ∙ settled-waits g id
 
-out-waits : (slots : ℕ) (r : RoundView) («from» j n id : ℕ) → asked r ≡ at.Out «from» j → waits_in (looked_to slots r n) id ≡ waits_in r id
+pub out-waits : (slots : ℕ) (r : RoundView) («from» j n id : ℕ) → asked r ≡ at.Out «from» j → waits_in (looked_to slots r n) id ≡ waits_in r id
 out-waits slots r «from» j n id e =
     let x = green-of r (at.Out «from» j) tt e in
     ap (λ (q : RoundView). waits_in q id) (x.goes slots n) ∙ (walked-waits x.of n id ∙ sym (ap (λ (q : RoundView). waits_in q id) x.is))
@@ -158,14 +160,18 @@ module _ {slots : ℕ} {v : TablesView} {c : Core} (h : Stands slots v c) where
 
 -- ---- over several slots
 
+-- slots of the object were looked at up to this one, which is looked at next, if the object has it
+pub record HasGone (slots : ℕ) (v w : TablesView) (held : List (HeldFrame slots)) (r : RoundAt) (n : ℕ) : Type 0 where
+  pub passed : HasPassed slots v w held
+  pub next : n < slots → asked w.round ≡ at_slot r n
+  pub lower : left_of slots w.round < left_of slots v.round
+
 module _ {slots : ℕ} (v : TablesView) (held : List (HeldFrame slots)) (t : IsStanding v held) (r : RoundAt) (id first : ℕ) (is : slot_at r ≡ Some (id, first)) (e : asked v.round ≡ r) where
   abbrev gone : ℕ → TablesView
   gone n = record v { round = looked_to slots v.round n }
 
-  -- slots were looked at up to this one, which is looked at next, if the object has it
-  pub record IsGone (n : ℕ) : Type 0 where
-    pub passed : HasPassed slots v (gone n) held
-    pub next : n < slots → asked (looked_to slots v.round n) ≡ at_slot r n
+  abbrev IsGone : ℕ → Type 0
+  IsGone n = HasGone slots v (gone n) held r n
 
   -- there is nothing to do at this slot in whatever stands behind the tables and these held pages
   abbrev pub IsIdle : ℕ → Type 0
@@ -186,6 +192,7 @@ module _ {slots : ℕ} (v : TablesView) (held : List (HeldFrame slots)) (t : IsS
           stands = λ d h agree. (passed-by h (looked_to slots v.round (first + 1)) (nothing d h agree) (goes d h agree)).stands;
         });
         next = λ l. ap asked (goes t.core t.stands t.agree) ∙ idle-next t.stands r first at-first (idle t.core t.stands t.agree) l;
+        lower = subst (λ (q : RoundView). left_of slots q < left_of slots v.round) (sym (goes t.core t.stands t.agree)) (left-passed slots v.ids t.core.cells v.round t.stands.in_step (nothing t.core t.stands t.agree));
       }
 
   gone-more : (n : ℕ) → IsGone n → n < slots → IsIdle n → IsGone (n + 1)
@@ -197,6 +204,9 @@ module _ {slots : ℕ} (v : TablesView) (held : List (HeldFrame slots)) (t : IsS
       let twice : looked_to slots u.round (n + 1) ≡ looked_to slots v.round (n + 1) = goes-twice t.stands r id first first n (n + 1) is at-first l at_n in
       let goes : (d : Core) → Stands slots v d → Agree d.cells held → looked_to slots v.round (n + 1) ≡ looked_past slots d.cells u.round = λ d h agree. sym (idle-goes slots d.cells u.round r n at_n (here d h agree) ∙ twice) in
       let before = g.passed.stands t.core t.stands t.agree in
+      let less : left_of slots (looked_past slots t.core.cells u.round) < left_of slots u.round = left-passed slots v.ids t.core.cells u.round before.in_step (nothing t.core t.stands t.agree) in
+      let lower = g.lower in
+      let both : left_of slots (looked_past slots t.core.cells u.round) < left_of slots v.round = omega (arith, less, lower) in
       record {
         passed = record {
           same = refl;
@@ -204,6 +214,7 @@ module _ {slots : ℕ} (v : TablesView) (held : List (HeldFrame slots)) (t : IsS
           stands = λ d h agree. (passed-by (g.passed.stands d h agree) (looked_to slots v.round (n + 1)) (nothing d h agree) (goes d h agree)).stands;
         };
         next = λ m. ap asked (goes t.core t.stands t.agree) ∙ idle-next before r n at_n (here t.core t.stands t.agree) m;
+        lower = subst (λ (q : RoundView). left_of slots q < left_of slots v.round) (sym (goes t.core t.stands t.agree)) both;
       }
 
   gone-behind : (n : ℕ) → first + 1 + n ≤ slots → ((k : ℕ) → first ≤ k → k < first + 1 + n → IsIdle k) → IsGone (first + 1 + n)
@@ -212,19 +223,19 @@ module _ {slots : ℕ} (v : TablesView) (held : List (HeldFrame slots)) (t : IsS
       subst IsGone (omega arith) (gone-more (first + 1 + n) (gone-behind n (omega (arith, l)) (λ k a b. idle k a (omega (arith, b)))) (omega (arith, l)) (idle (first + 1 + n) (omega arith) (omega arith)))
 
   -- where there is nothing to do at all slots up to this one, to go to it is a run of looks at them
-  pub slots-passed : (place : ℕ) → first < place → place ≤ slots → ((k : ℕ) → first ≤ k → k < place → IsIdle k) → HasPassed slots v (gone place) held
+  pub slots-passed : (place : ℕ) → first < place → place ≤ slots → ((k : ℕ) → first ≤ k → k < place → IsIdle k) → IsGone place
   slots-passed place some few idle =
       let same : first + 1 + (place - (first + 1)) ≡ place = omega (arith, some) in
-      subst (λ (n : ℕ). HasPassed slots v (gone n) held) same (gone-behind (place - (first + 1)) (omega (arith, same, few)) (λ k a b. idle k a (omega (arith, same, b)))).passed
+      subst IsGone same (gone-behind (place - (first + 1)) (omega (arith, same, few)) (λ k a b. idle k a (omega (arith, same, b))))
 
 -- the same, of the tables as they are behind it
 pub slots-behind : {slots : ℕ} (v w : TablesView) (held : List (HeldFrame slots)) → IsStanding v held → (r : RoundAt) (id first place : ℕ) → slot_at r ≡ Some (id, first) → r ≡ asked v.round → first ≤ place → place ≢ first → place ≤ slots
-    → ((k : ℕ) → first ≤ k → k < place → (d : Core) → Stands slots v d → Agree d.cells held → IsIdleAt d.cells v.round (at_slot r k)) → w ≡ record v { round = looked_to slots v.round place } → HasPassed slots v w held
+    → ((k : ℕ) → first ≤ k → k < place → (d : Core) → Stands slots v d → Agree d.cells held → IsIdleAt d.cells v.round (at_slot r k)) → w ≡ record v { round = looked_to slots v.round place } → HasGone slots v w held r place
 slots-behind {slots} v w held t r id first place is e behind other few idle same =
-    subst (λ (x : TablesView). HasPassed slots v x held) (sym same) (slots-passed v held t r id first is (sym e) place (omega (arith, behind, other)) few idle)
+    subst (λ (x : TablesView). HasGone slots v x held r place) (sym same) (slots-passed v held t r id first is (sym e) place (omega (arith, behind, other)) few idle)
 
 -- and where they are null
 pub nulls-behind : {slots : ℕ} (v w : TablesView) (held : List (HeldFrame slots)) → IsStanding v held → (r : RoundAt) (id first place : ℕ) → slot_at r ≡ Some (id, first) → r ≡ asked v.round → first ≤ place → place ≢ first → place ≤ slots
     → ((k : ℕ) → first ≤ k → k < place → (d : Core) → Agree d.cells held → (pointer_at d.cells id k).target ≡ 0) → w ≡ record v { round = looked_to slots v.round place } → HasPassed slots v w held
 nulls-behind v w held t r id first place is e behind other few null same =
-    slots-behind v w held t r id first place is e behind other few (λ k a b d h agree. null-idle h r id first k (sym e) is (null k a b d agree)) same
+    (slots-behind v w held t r id first place is e behind other few (λ k a b d h agree. null-idle h r id first k (sym e) is (null k a b d agree)) same).passed

@@ -30,7 +30,7 @@ use Rattle.core_store.specs.Nulls.{slot_at, at_slot, is_white_in, IsIdleAt}
 use Rattle.core_store.proofs.AskedLaws.{asked-look, asked-cut}
 use Rattle.core_store.proofs.LookLaws.{null-look}
 use Rattle.core_store.proofs.SeenLaws.{GreenOf, green-of, waiting-live, work-at, there-at}
-use Rattle.core_store.proofs.PassLaws.{HasPassed}
+use Rattle.core_store.specs.Passed.{HasPassed}
 use Rattle.core_store.proofs.ReadyRound.{asked-few, few-slot}
 use Rattle.core_store.proofs.WantLaws.{all-objects}
 

@@ -17,6 +17,7 @@ use Rattle.core_store.specs.declared.round_at.RoundAt.{RoundAt}
 use Rattle.core_store.specs.declared.round_at.RoundAt.TheVariants as at
 use Rattle.core_store.specs.RoundView.{RoundView, Closed, Walking, Sweeping, round_of, asked, asked_by_sweep, asked_by_green, is_event, next_slot, looked_past, passed_by_sweep, passed_by_green, IsInStep, IsSweeping, Passes, none, more}
 use Rattle.core_store.specs.Tables.{TablesView}
+use Rattle.core_store.specs.Passed.{HasPassed}
 use Rattle.core_store.specs.Stands.{IsEmptied, IsTestedIn, IsTested, Stands}
 use Rattle.core_store.proofs.AskedGreen.{asked-by}
 use Rattle.core_store.proofs.GreenLooks.{green-looks, looks-tested}
@@ -156,12 +157,6 @@ module _ (slots : ℕ) (v : TablesView) (c : Core) (h : Stands slots v c) (nothi
   }
 
 -- ---- one look after another
-
--- slots were looked at, at which nothing was to do, and the tables go on to stand for whatever they stood for
-pub record HasPassed (slots : ℕ) (v w : TablesView) (held : List (HeldFrame slots)) : Type 0 where
-  pub same : w ≡ record v { round = w.round }
-  pub passes : (c : Core) → Stands slots v c → Agree c.cells held → Passes slots c.cells v.round w.round
-  pub stands : (c : Core) → Stands slots v c → Agree c.cells held → Stands slots w c
 
 pub passed-none : (slots : ℕ) (v : TablesView) (held : List (HeldFrame slots)) → HasPassed slots v v held
 passed-none slots v held = record { same = refl; passes = λ c h agree. none; stands = λ c h agree. h }

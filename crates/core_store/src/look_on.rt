@@ -1,18 +1,20 @@
 //! The looks of the collector where all pages are held: it goes over all slots of an object at which there is nothing to do.
-ghost use Rattle.std.specs.Prelude.{◌≡◌, ◌<◌, ◌≤◌, ℕ, slice_index, true, false, Some};
+ghost use Rattle.std.specs.Prelude.{◌≡◌, ◌<◌, ◌≤◌, ℕ, slice_index, true, false, IfSome, None};
 ghost use Rattle.store_model.specs.Core.{Core};
-ghost use Rattle.core_store.specs.RoundView.{asked, is_event, Passes};
+ghost use Rattle.core_store.specs.RoundView.{asked, is_event, left_of, Passes};
 ghost use Rattle.core_store.specs.Frames.{Agree, HoldsAll};
 ghost use Rattle.core_store.specs.Views.{view_of};
 ghost use Rattle.core_store.specs.Stands.{Stands};
 ghost use Rattle.core_store.specs.Ready.{IsStanding};
-ghost use Rattle.core_store.specs.Nulls.{slot_at, at_slot, is_white_in, IsIdleAt};
+ghost use Rattle.core_store.specs.Passed.{HasPassed, IsEventOf};
+ghost use Rattle.core_store.specs.Nulls.{is_white_in};
 
-use crate::looks::{is_event, next_pointer, slot_at};
+use crate::looks::next_pointer;
 use crate::round_at::RoundAt;
 use crate::slots;
 use crate::tables::Tables;
 use crate::three::Three;
+use green_walk::Found;
 
 impl<const SLOTS: usize> Tables<SLOTS> {
     /// Looks at what the held pages show, and goes on where there is nothing to do, up to the next event, and tells what that
@@ -27,61 +29,155 @@ impl<const SLOTS: usize> Tables<SLOTS> {
         ensures same { view_of self.new ≡ record (view_of self.old) { round = (view_of self.new).round } }
     {
         'looks: loop {
-            let at = self.next_busy(held);
-            if is_event(held, at) {
-                return at;
+            let at = self.round.at();
+            if let Some(event) = self.look_at(held, at) {
+                return event;
             }
-            self.look_past(held, at);
         }
     }
 
-    /// What is looked at or done next, behind the slots of the object at which there is nothing to do. All pages are held.
+    /// Looks at what comes next, at a slot also at those of the object behind it, up to the first one at which there is something
+    /// to do. Tells the event that this came to, if it came to one. All pages are held.
     #[inline(always)]
-    fn next_busy(&mut self, held: &Three<SLOTS>) -> RoundAt
+    fn look_at(&mut self, held: &Three<SLOTS>, at: RoundAt) -> Option<RoundAt>
         requires standing { IsStanding (view_of self.old) held.now }
         requires all { HoldsAll self.old.ids held.now }
-        ensures at { result ≡ asked (view_of self.new).round }
-        ensures passes { (c : Core) → Stands SLOTS (view_of self.old) c → Agree c.cells held.now → Passes SLOTS c.cells (view_of self.old).round (view_of self.new).round }
-        ensures stands { (c : Core) → Stands SLOTS (view_of self.old) c → Agree c.cells held.now → Stands SLOTS (view_of self.new) c }
-        ensures same { view_of self.new ≡ record (view_of self.old) { round = (view_of self.new).round } }
-    {
-        let at = self.round.at();
-        let Some((id, slot)) = slot_at(at) else {
-            return at;
-        };
-        let place = self.first_busy(held, at, id, slot);
-        if place == slot {
-            return at;
-        }
-        self.look_to(at, place);
-        self.round.at()
-    }
-
-    /// The first slot of the object that is looked at, from this one on, at which there may be something to do, or the number of
-    /// slots. All pages are held.
-    #[inline(always)]
-    fn first_busy(&self, held: &Three<SLOTS>, at: RoundAt, id: u32, slot: u8) -> u8
-        requires standing { IsStanding (view_of self.now) held.now }
-        requires all { HoldsAll self.now.ids held.now }
-        requires at { at ≡ asked (view_of self.now).round }
-        requires slot { slot_at at ≡ Some (id, slot) }
-        ensures behind { slot ≤ result }
-        ensures within { result ≤ SLOTS }
-        ensures idle { (c : Core) → Stands SLOTS (view_of self.now) c → Agree c.cells held.now → (k : ℕ) → slot ≤ k → k < result → IsIdleAt c.cells (view_of self.now).round (at_slot at k) }
+        requires at { at ≡ asked (view_of self.old).round }
+        ensures passed { HasPassed SLOTS (view_of self.old) (view_of self.new) held.now }
+        ensures event { IfSome result (IsEventOf SLOTS (view_of self.old) (view_of self.new) held.now) }
+        ensures lower { result ≡ None → left_of SLOTS (view_of self.new).round < left_of SLOTS (view_of self.old).round }
     {
         match at {
-            RoundAt::Look { .. } | RoundAt::Test { .. } => slots::first_strong(held, id, slot),
-            RoundAt::Cut { .. } => next_pointer(&held.cell(id).slots, slot as usize) as u8,
-            RoundAt::Out { .. } => self.first_to_test(&held.cell(id).slots, slot as usize) as u8,
+            RoundAt::Look { id, slot } => self.look_for_strong(held, id, slot),
+            RoundAt::Cut { id, slot } => self.look_for_pointer(held, id, slot),
+            RoundAt::Into { from, slot, to } => self.look_into(held, from, slot, to),
+            RoundAt::Seed { id } => {
+                self.see_seed(id);
+                None
+            }
+            RoundAt::Test { id, slot } => {
+                self.test_slots(held, id, slot);
+                None
+            }
+            RoundAt::Out { from, slot } => {
+                self.walk_slots(held, from, slot);
+                None
+            }
             RoundAt::Queue
             | RoundAt::Copy { .. }
             | RoundAt::Judge
             | RoundAt::Free { .. }
-            | RoundAt::Seed { .. }
             | RoundAt::Flip { .. }
-            | RoundAt::Into { .. }
             | RoundAt::Strengthen { .. }
-            | RoundAt::End => slot,
+            | RoundAt::End => Some(at),
+        }
+    }
+
+    /// The looks at the slots of an object of the round from this one on, up to one that holds a strong pointer. All pages are
+    /// held.
+    #[inline(always)]
+    fn look_for_strong(&mut self, held: &Three<SLOTS>, id: u32, slot: u8) -> Option<RoundAt>
+        requires standing { IsStanding (view_of self.old) held.now }
+        requires all { HoldsAll self.old.ids held.now }
+        requires at { asked (view_of self.old).round ≡ RoundAt.Look id slot }
+        ensures passed { HasPassed SLOTS (view_of self.old) (view_of self.new) held.now }
+        ensures event { IfSome result (IsEventOf SLOTS (view_of self.old) (view_of self.new) held.now) }
+        ensures lower { result ≡ None → left_of SLOTS (view_of self.new).round < left_of SLOTS (view_of self.old).round }
+    {
+        let place = slots::first_strong(held, id, slot);
+        if place == slot {
+            return Some(RoundAt::Look { id, slot });
+        }
+        self.round.look_to(place);
+        if place as usize == SLOTS {
+            return None;
+        }
+        Some(RoundAt::Look { id, slot: place })
+    }
+
+    /// The looks at the slots of a condemned object from this one on, up to one that isn't null. All pages are held.
+    #[inline(always)]
+    fn look_for_pointer(&mut self, held: &Three<SLOTS>, id: u32, slot: u8) -> Option<RoundAt>
+        requires standing { IsStanding (view_of self.old) held.now }
+        requires all { HoldsAll self.old.ids held.now }
+        requires at { asked (view_of self.old).round ≡ RoundAt.Cut id slot }
+        ensures passed { HasPassed SLOTS (view_of self.old) (view_of self.new) held.now }
+        ensures event { IfSome result (IsEventOf SLOTS (view_of self.old) (view_of self.new) held.now) }
+        ensures lower { result ≡ None → left_of SLOTS (view_of self.new).round < left_of SLOTS (view_of self.old).round }
+    {
+        let first = slot as usize;
+        let place = next_pointer(&held.cell(id).slots, first);
+        if place == first {
+            return Some(RoundAt::Cut { id, slot });
+        }
+        self.round.look_to(place as u8);
+        if place == SLOTS {
+            return None;
+        }
+        Some(RoundAt::Cut {
+            id,
+            slot: place as u8,
+        })
+    }
+
+    /// The look at a slot that may lead to the object that was flipped. All pages are held.
+    #[inline(always)]
+    fn look_into(&mut self, held: &Three<SLOTS>, from: u32, slot: u8, to: u32) -> Option<RoundAt>
+        requires standing { IsStanding (view_of self.old) held.now }
+        requires all { HoldsAll self.old.ids held.now }
+        requires at { asked (view_of self.old).round ≡ RoundAt.Into from slot to }
+        ensures passed { HasPassed SLOTS (view_of self.old) (view_of self.new) held.now }
+        ensures event { IfSome result (IsEventOf SLOTS (view_of self.old) (view_of self.new) held.now) }
+        ensures lower { result ≡ None → left_of SLOTS (view_of self.new).round < left_of SLOTS (view_of self.old).round }
+    {
+        if slots::leads_to(held, from, slot, to) {
+            return Some(RoundAt::Into { from, slot, to });
+        }
+        self.round.found(Found::Nothing);
+        None
+    }
+
+    /// The looks at the slots of a tested object from this one on: a strong pointer in one of them ends the test, and there is
+    /// nothing to do. All pages are held.
+    #[inline(always)]
+    fn test_slots(&mut self, held: &Three<SLOTS>, id: u32, slot: u8)
+        requires standing { IsStanding (view_of self.old) held.now }
+        requires all { HoldsAll self.old.ids held.now }
+        requires at { asked (view_of self.old).round ≡ RoundAt.Test id slot }
+        ensures passed { HasPassed SLOTS (view_of self.old) (view_of self.new) held.now }
+        ensures lower { left_of SLOTS (view_of self.new).round < left_of SLOTS (view_of self.old).round }
+    {
+        let place = slots::first_strong(held, id, slot);
+        if place == slot {
+            self.round.found(Found::Nothing);
+            return;
+        }
+        self.round.test_to(place);
+        if (place as usize) < SLOTS {
+            self.round.found(Found::Nothing);
+        }
+    }
+
+    /// The looks at the slots of a green object from this one on: the first target that waits and to which no strong pointer
+    /// leads is tested. All pages are held.
+    #[inline(always)]
+    fn walk_slots(&mut self, held: &Three<SLOTS>, from: u32, slot: u8)
+        requires standing { IsStanding (view_of self.old) held.now }
+        requires all { HoldsAll self.old.ids held.now }
+        requires at { asked (view_of self.old).round ≡ RoundAt.Out from slot }
+        ensures passed { HasPassed SLOTS (view_of self.old) (view_of self.new) held.now }
+        ensures lower { left_of SLOTS (view_of self.new).round < left_of SLOTS (view_of self.old).round }
+    {
+        let slots = &held.cell(from).slots;
+        let first = slot as usize;
+        let place = self.first_to_test(slots, first);
+        if place == first {
+            self.round.begin_test(slots[place]);
+            return;
+        }
+        self.round.walk_to(place as u8);
+        if place < SLOTS {
+            self.round.begin_test(slots[place]);
         }
     }
 

@@ -44,7 +44,7 @@ fn work_at(at: RoundAt) -> Option<Work>
 }
 
 /// The slot that is looked at, with its object, where there is nothing to do at a null one.
-pub(crate) fn slot_at(at: RoundAt) -> Option<(u32, u8)>
+fn slot_at(at: RoundAt) -> Option<(u32, u8)>
     ensures { result ≡ slot_at at }
 {
     match at {
@@ -82,7 +82,7 @@ pub(crate) fn next_pointer<const SLOTS: usize>(slots: &[u32; SLOTS], from: usize
 
 /// Whether there is something to do, and not only to look at.
 #[inline(always)]
-pub(crate) fn is_event<const SLOTS: usize>(held: &Three<SLOTS>, at: RoundAt) -> bool
+fn is_event<const SLOTS: usize>(held: &Three<SLOTS>, at: RoundAt) -> bool
     requires size { IsSlotCount SLOTS }
     requires small { IfSome (work_at at) (IsWork SLOTS) }
     requires pages { IsLookAt at → (cells : List StoredCell) × Agree cells held.now × HasSmallTargets cells × HoldsPagesOf held.now (objects_at cells at) }
@@ -180,7 +180,7 @@ impl<const SLOTS: usize> Tables<SLOTS> {
     }
 
     /// Goes on to this slot of the object that is looked at, or behind the object where it has no such slot.
-    pub(crate) fn look_to(&mut self, at: RoundAt, slot: u8)
+    fn look_to(&mut self, at: RoundAt, slot: u8)
         requires at { at ≡ asked (view_of self.old).round }
         requires look { (id : ℕ) × (k : ℕ) × (slot_at at ≡ Some (id, k)) }
         requires within { slot ≤ SLOTS }
@@ -204,7 +204,7 @@ impl<const SLOTS: usize> Tables<SLOTS> {
 
     /// Goes on from a look at which there was nothing to do.
     #[inline(always)]
-    pub(crate) fn look_past(&mut self, held: &Three<SLOTS>, at: RoundAt)
+    fn look_past(&mut self, held: &Three<SLOTS>, at: RoundAt)
         requires at { at ≡ asked (view_of self.old).round }
         requires ready { CanPass (view_of self.old) held.now }
         ensures passes { (c : Core) → Stands SLOTS (view_of self.old) c → Agree c.cells held.now → (view_of self.new).round ≡ looked_past SLOTS c.cells (view_of self.old).round }
@@ -229,7 +229,7 @@ impl<const SLOTS: usize> Tables<SLOTS> {
 
     /// The look at a seed: it is passed over where it is green, it becomes green where a strong pointer leads to it, and
     /// else a test begins whether one leads out of it.
-    fn see_seed(&mut self, id: u32)
+    pub(crate) fn see_seed(&mut self, id: u32)
         requires at { asked (view_of self.old).round ≡ RoundAt.Seed id }
         requires standing { (c : Core) × Stands SLOTS (view_of self.old) c }
         ensures seen { (c : Core) → Stands SLOTS (view_of self.old) c → IsPassedBy SLOTS c (view_of self.old) (view_of self.new) }

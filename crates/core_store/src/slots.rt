@@ -329,12 +329,24 @@ pub(crate) fn is_strong<const SLOTS: usize>(held: &Three<SLOTS>, id: u32, slot: 
     requires pages { (cells : List StoredCell) × Agree cells held.now × HasSmallTargets cells × HoldsPagesOf held.now (object_and_targets cells id slot 0) }
     ensures { (cells : List StoredCell) → Agree cells held.now → result ≡ is_counted_strong cells (pointer_at cells id slot) }
 {
-    let cell = held.cell(id);
+    holds_strong(held, held.cell(id), slot)
+}
+
+/// Whether the slot of a held object holds a strong pointer.
+#[inline(always)]
+fn holds_strong<const SLOTS: usize>(held: &Three<SLOTS>, cell: &Cell<SLOTS>, slot: u8) -> bool
+    requires size { IsSlotCount SLOTS }
+    requires work { IsWork SLOTS (record { id = cell.now.id; change = Some (slot, 0) }) }
+    requires pages { (cells : List StoredCell) × Agree cells held.now × HasSmallTargets cells × HoldsPagesOf held.now (object_and_targets cells cell.now.id slot 0) }
+    requires stored { (cells : List StoredCell) → Agree cells held.now → cell_of cell.now ≡ cell_at cells cell.now.id }
+    ensures { (cells : List StoredCell) → Agree cells held.now → result ≡ is_counted_strong cells (pointer_at cells cell.now.id slot) }
+{
     let target = cell.slots[slot as usize];
     target != 0 && held.cell(target).bit == cell.pointer_bit(slot)
 }
 
 /// The first slot of the object from this one on that holds a strong pointer, or the number of slots.
+#[inline(always)]
 pub(crate) fn first_strong<const SLOTS: usize>(held: &Three<SLOTS>, id: u32, from: u8) -> u8
     requires size { IsSlotCount SLOTS }
     requires work { IsWork SLOTS (record { id = id; change = None }) }
@@ -345,8 +357,9 @@ pub(crate) fn first_strong<const SLOTS: usize>(held: &Three<SLOTS>, id: u32, fro
     ensures weak { (cells : List StoredCell) → Agree cells held.now → (slot : ℕ) → from ≤ slot → slot < result → is_counted_strong cells (pointer_at cells id slot) ≡ false }
     ensures strong { result < SLOTS → (cells : List StoredCell) → Agree cells held.now → is_counted_strong cells (pointer_at cells id result) ≡ true }
 {
+    let cell = held.cell(id);
     for place in from as usize..SLOTS {
-        if is_strong(held, id, place as u8) {
+        if holds_strong(held, cell, place as u8) {
             return place as u8;
         }
     }

@@ -1,6 +1,6 @@
 use Rattle.core_store.specs.RoundView.{left_of}
 use Rattle.core_store.specs.Views.{view_of}
-use Rattle.core_store.proofs.PassLaws.{HasPassed}
+use Rattle.core_store.specs.Passed.{HasPassed}
 use Rattle.core_store.proofs.tables.Tables.look_on.Given as goal
 
 -- slots were looked at, and nothing else changed
