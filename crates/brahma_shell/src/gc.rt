@@ -5,13 +5,14 @@ ghost use Rattle.disk_model.specs.Causes.{Rose};
 ghost use Rattle.brahma_shell.specs.Log.{StaysRunning};
 ghost use Rattle.brahma_shell.specs.Replay.{StepsOnce, Performs, StopsPerform, LeavesLog};
 
-use crate::replay::{Stop, print};
+use crate::replay::Stop;
 use crate::store::Store;
+use crate::telling::print_deletion;
 use core_store::Collect;
 use disk_model::Disk;
 use logged_journal::CollectRefusal;
 use outside_io::Sink;
-use script_lines::{Line, delete_line};
+use script_lines::Line;
 
 /// A step of the collector that was made.
 #[derive(Clone, Copy, PartialEq, Eq, Debug)]
@@ -42,7 +43,7 @@ fn collect_step<W: Sink, D: Disk>(
         Ok(Collect::Idle) => Ok(None),
         Ok(Collect::Did { popped, left }) => Ok(Some(Stepped { popped, left })),
         Ok(Collect::Deleted { id, left }) => {
-            print(out, delete_line(id).as_str().as_bytes())?;
+            print_deletion(out, id)?;
             Ok(Some(Stepped {
                 popped: false,
                 left,

@@ -20,6 +20,19 @@ use plain_model::{Call, Entry, Reply};
 use script_lines::{call_line, delete_line, stored_line, turn_busy_line, write_all, write_last};
 use std::alloc::Global;
 
+/// Writes that the collector deleted the object, as one piece. It stands apart, so that a step of the collector that deletes nothing
+/// clears no line.
+#[inline(never)]
+pub(crate) fn print_deletion<W: Sink>(out: &mut W, id: u32) -> Result<(), Stop>
+    ensures ok { OnOk result (Appends (W.written out.old) (W.written out.new) (line_of (Entry.Delete id))) }
+    ensures err { IfErr result (λ s. (s ≡ Stop.Write)
+        × AppendsFront (W.written out.old) (W.written out.new) (line_of (Entry.Delete id))
+        × Rose (W.faults out.old) (W.faults out.new)) }
+    ensures later { W.faults out.old ≤ W.faults out.new }
+{
+    print(out, delete_line(id).as_str().as_bytes())
+}
+
 /// Writes the line of an entry, where it has one, as one piece. No journal enters that its store was opened again.
 fn print_entry<W: Sink>(out: &mut W, entry: &Entry) -> Result<(), Stop>
     requires { IsNoCrash entry.now }
@@ -33,7 +46,7 @@ fn print_entry<W: Sink>(out: &mut W, entry: &Entry) -> Result<(), Stop>
         Entry::Call { pass, call, reply } => {
             print(out, call_line(*pass, call, reply).as_str().as_bytes())
         }
-        Entry::Delete { id } => print(out, delete_line(*id).as_str().as_bytes()),
+        Entry::Delete { id } => print_deletion(out, *id),
         Entry::TurnBusy { pass } => print(out, turn_busy_line(*pass).as_str().as_bytes()),
         Entry::Hidden => Ok(()),
         Entry::Undo { .. } => Ok(()),
