@@ -21,7 +21,8 @@ use Rattle.core_store.specs.Frames.{Agree}
 use Rattle.core_store.specs.Ready.{IsStanding}
 use Rattle.core_store.specs.Changes.{has_no_strong, is_counted_strong}
 use Rattle.core_store.specs.Passed.{HasPassed}
-use Rattle.core_store.specs.Nulls.{slot_at, at_slot, waits_in, is_white_in, IsIdleAt}
+use Rattle.core_store.specs.SlotLooks.{slot_at, waits_in, is_white_in}
+use Rattle.core_store.proofs.IdleSlots.{at_slot, IsIdleAt}
 use Rattle.core_store.proofs.AskedLaws.{asked-look, asked-cut}
 use Rattle.core_store.proofs.SeenLaws.{GreenOf, green-of, passed-by}
 use Rattle.core_store.proofs.RoundLaws.{green-goes}
@@ -160,7 +161,7 @@ module _ {slots : ℕ} {v : TablesView} {c : Core} (h : Stands slots v c) where
 
 -- ---- over several slots
 
--- slots of the object were looked at up to this one, which is looked at next, if the object has it
+-- slots of the object were looked at up to this one, which is looked at next, if the object has it, and less is left to do
 pub record HasGone (slots : ℕ) (v w : TablesView) (held : List (HeldFrame slots)) (r : RoundAt) (n : ℕ) : Type 0 where
   pub passed : HasPassed slots v w held
   pub next : n < slots → asked w.round ≡ at_slot r n

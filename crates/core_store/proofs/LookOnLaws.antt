@@ -1,5 +1,5 @@
 -- Looks over the slots of an object, up to one at which there is something to do.
-use Rattle.std.proofs.Common.{◌≡◌, ℕ, ◌<◌, ◌≤◌, ◌≢◌, List, Bool, true, false, Some, refl, sym, ap, ◌∙◌, subst, ⊎_elim}
+use Rattle.std.proofs.Common.{◌≡◌, ℕ, ◌<◌, ◌≤◌, ◌≢◌, List, Bool, true, false, Some, sym, ap, ◌∙◌, subst, ⊎_elim}
 use Rattle.std.specs.Prelude.{◌&&◌, ◌⊎◌}
 use Rattle.std.proofs.lemmas.Bool.{and_parts}
 use Rattle.cell_model.specs.Cells.{Cell, cell_at, pointer_at}
@@ -9,9 +9,10 @@ use Rattle.green_walk.specs.Greening.{found, testing, waits}
 use Rattle.core_store.specs.declared.round_at.RoundAt.{RoundAt}
 use Rattle.core_store.specs.declared.round_at.RoundAt.TheVariants as at
 use Rattle.core_store.specs.Changes.{has_no_strong, is_counted_strong}
-use Rattle.core_store.specs.Nulls.{slot_at, at_slot, is_white_in, IsIdleAt}
+use Rattle.core_store.specs.SlotLooks.{slot_at, is_white_in}
+use Rattle.core_store.proofs.IdleSlots.{at_slot, IsIdleAt}
 use Rattle.core_store.specs.declared.three.HeldFrame.{HeldFrame}
-use Rattle.core_store.specs.RoundView.{RoundView, Sweeping, asked, is_event, is_white, left_of, looked_to, Passes, more}
+use Rattle.core_store.specs.RoundView.{RoundView, Sweeping, asked, is_event, left_of, looked_to, Passes, more}
 use Rattle.core_store.specs.Collecting.{IsPassedBy}
 use Rattle.core_store.specs.Frames.{Agree}
 use Rattle.core_store.specs.Passed.{HasPassed}
@@ -23,11 +24,11 @@ use Rattle.core_store.proofs.JumpLaws.{HasGone, slots-behind, out-waits}
 use Rattle.core_store.proofs.NullLaws.{null-there, white-in}
 use Rattle.core_store.proofs.SeenLaws.{GreenOf, green-of, into-passed, out-passed, test-passed}
 
--- what the tables stand for before the looks they stand for behind them
+-- what the tables stood for before the looks, they stand for behind them
 pub standing-behind : {slots : ℕ} (v w : TablesView) (held : List (HeldFrame slots)) → IsStanding v held → HasPassed slots v w held → IsStanding w held
 standing-behind v w held t p = record { core = t.core; stands = p.stands t.core t.stands t.agree; agree = t.agree }
 
--- looks, and one more behind them, at which there is nothing to do
+-- looks led from v to w, and less is left to do at w than at u
 pub record HasPassedLower (slots : ℕ) (v u w : TablesView) (held : List (HeldFrame slots)) : Type 0 where
   pub passed : HasPassed slots v w held
   pub lower : left_of slots w.round < left_of slots u.round
@@ -63,7 +64,7 @@ module _ {slots : ℕ} (v u w : TablesView) (held : List (HeldFrame slots)) (t :
       one-more v u w held t p (λ d h agree. ap (is_event d.cells) e)
       (λ d h agree. subst (λ (y : TablesView). IsPassedBy slots d u y) (sym same) (out-passed (p.stands d h agree) «from» slot to x w.round true e (target d.cells agree) (white-in d.cells x to ∙ white d h agree) (is x)))
 
-  -- no strong pointer leads to the flipped object
+  -- the slot holds no strong pointer to the flipped object
   pub into-passed-by : («from» slot to : ℕ) (e : asked u.round ≡ at.Into «from» slot to) → ((d : Core) → Agree d.cells held → is_event d.cells (at.Into «from» slot to) ≡ false)
       → ((x : GreenOf u.round (at.Into «from» slot to)) → w.round ≡ Sweeping x.walk x.swept x.slot (found x.of Nothing)) → HasPassedLower slots v u w held
   into-passed-by «from» slot to e nothing is =

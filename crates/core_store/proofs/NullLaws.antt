@@ -26,7 +26,8 @@ use Rattle.core_store.specs.Frames.{Agree, HoldsAll}
 use Rattle.core_store.specs.Logged.{object_and_targets}
 use Rattle.core_store.specs.Slots.{HoldsPagesOf}
 use Rattle.core_store.specs.Collecting.{objects_at}
-use Rattle.core_store.specs.Nulls.{slot_at, at_slot, is_white_in, IsIdleAt}
+use Rattle.core_store.specs.SlotLooks.{slot_at, is_white_in}
+use Rattle.core_store.proofs.IdleSlots.{at_slot, IsIdleAt}
 use Rattle.core_store.proofs.AskedLaws.{asked-look, asked-cut}
 use Rattle.core_store.proofs.LookLaws.{null-look}
 use Rattle.core_store.proofs.SeenLaws.{GreenOf, green-of, waiting-live, work-at, there-at}

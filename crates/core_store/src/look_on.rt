@@ -7,7 +7,7 @@ ghost use Rattle.core_store.specs.Views.{view_of};
 ghost use Rattle.core_store.specs.Stands.{Stands};
 ghost use Rattle.core_store.specs.Ready.{IsStanding};
 ghost use Rattle.core_store.specs.Passed.{HasPassed, IsEventOf};
-ghost use Rattle.core_store.specs.Nulls.{is_white_in};
+ghost use Rattle.core_store.specs.SlotLooks.{is_white_in};
 
 use crate::looks::next_pointer;
 use crate::round_at::RoundAt;
@@ -36,8 +36,8 @@ impl<const SLOTS: usize> Tables<SLOTS> {
         }
     }
 
-    /// Looks at what comes next, at a slot also at those of the object behind it, up to the first one at which there is something
-    /// to do. Tells the event that this came to, if it came to one. All pages are held.
+    /// Makes the looks that come next, over the slots of one object where it is at a slot. Tells the event that comes behind them,
+    /// or `None`, and then it has got further. All pages are held.
     #[inline(always)]
     fn look_at(&mut self, held: &Three<SLOTS>, at: RoundAt) -> Option<RoundAt>
         requires standing { IsStanding (view_of self.old) held.now }

@@ -12,7 +12,7 @@ ghost use Rattle.core_store.specs.Ready.{IsStanding};
 ghost use Rattle.cell_model.specs.Cells.{Cell as StoredCell};
 ghost use Rattle.core_store.specs.Slots.{HoldsPagesOf};
 ghost use Rattle.core_store.specs.Collecting.{work_at, objects_at, pages_to_collect, CanPass, IsPassedBy};
-ghost use Rattle.core_store.specs.Nulls.{slot_at};
+ghost use Rattle.core_store.specs.SlotLooks.{slot_at};
 
 use crate::round_at::RoundAt;
 use crate::slots;

@@ -329,12 +329,12 @@ pub(crate) fn is_strong<const SLOTS: usize>(held: &Three<SLOTS>, id: u32, slot: 
     requires pages { (cells : List StoredCell) × Agree cells held.now × HasSmallTargets cells × HoldsPagesOf held.now (object_and_targets cells id slot 0) }
     ensures { (cells : List StoredCell) → Agree cells held.now → result ≡ is_counted_strong cells (pointer_at cells id slot) }
 {
-    holds_strong(held, held.cell(id), slot)
+    is_strong_in(held, held.cell(id), slot)
 }
 
-/// Whether the slot of a held object holds a strong pointer.
+/// Whether the slot of this cell, which is one of the held ones, holds a strong pointer.
 #[inline(always)]
-fn holds_strong<const SLOTS: usize>(held: &Three<SLOTS>, cell: &Cell<SLOTS>, slot: u8) -> bool
+fn is_strong_in<const SLOTS: usize>(held: &Three<SLOTS>, cell: &Cell<SLOTS>, slot: u8) -> bool
     requires size { IsSlotCount SLOTS }
     requires work { IsWork SLOTS (record { id = cell.now.id; change = Some (slot, 0) }) }
     requires pages { (cells : List StoredCell) × Agree cells held.now × HasSmallTargets cells × HoldsPagesOf held.now (object_and_targets cells cell.now.id slot 0) }
@@ -359,7 +359,7 @@ pub(crate) fn first_strong<const SLOTS: usize>(held: &Three<SLOTS>, id: u32, fro
 {
     let cell = held.cell(id);
     for place in from as usize..SLOTS {
-        if holds_strong(held, cell, place as u8) {
+        if is_strong_in(held, cell, place as u8) {
             return place as u8;
         }
     }

@@ -7,7 +7,8 @@ use crate::note::Note;
 use plain_model::Memory;
 use std::alloc::Global;
 
-/// For how many notes room is asked for at the opening, so that the first ones need not be moved as they grow more.
+/// For how many notes room is asked for at the opening. The allocator maps so much by itself, and maps it anew, without a copy, as
+/// the notes grow more.
 const FIRST_ROOM: usize = 8_192;
 
 /// What happened since the opening, how far that may grow, and which answers were given.

@@ -8,13 +8,13 @@ pub record ArePlaced (ids places : List ℕ) : Type 0 where
   pub within : (place : ℕ) → place < length ids → slice_index ids place < length places
   pub placed : (place : ℕ) → place < length ids → slice_index places (slice_index ids place) ≡ place
 
--- a lock stands beside each id, each id has its place, and an id is told by 32 bits
+-- there are as many locks as ids, each id has its place, and there are at most 2^32 places
 pub record AreRows (ids : List ℕ) (locks : List Holders) (places : List ℕ) : Type 0 where
   pub even : length locks ≡ length ids
   pub placed : ArePlaced ids places
   pub few : length places ≤ 2 ^ 32
 
--- the places stay, and there may be more of them behind these
+-- the places stay, there may be more of them behind these, and there are at most 2^32
 pub record Grows (old new : List ℕ) : Type 0 where
   pub kept : (id : ℕ) → id < length old → slice_index new id ≡ slice_index old id
   pub more : length old ≤ length new

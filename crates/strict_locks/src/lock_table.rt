@@ -16,8 +16,8 @@ use std::marker::Model;
 /// the upgrade to one, is granted exactly where no other client holds the object at all. A client
 /// that owns an object and shares it keeps both facts. No call waits.
 ///
-/// `pass` is the client's number and `id` the object's. The table takes any number, and memory in
-/// proportion to the greatest id that was ever locked: ids are to be those of a store, which are dense.
+/// `pass` is the client's number and `id` the object's. The table takes any number. Its memory grows with the
+/// greatest id that was ever locked and is not given back, so it is made for ids that are dense, as a store's are.
 #[derive(Debug, Drop)]
 pub struct LockTable {
     alloc: Global,

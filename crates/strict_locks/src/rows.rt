@@ -11,9 +11,9 @@ use std::marker::Model;
 
 /// The locks of the objects that are held.
 ///
-/// A look-up reads the object's place and compares the id that stands there, so each call costs the same
-/// however many objects are held. The memory for places is in proportion to the greatest id that was ever
-/// locked; ids are those of a store's cells, of which there are few thousands.
+/// A look-up reads the object's place and compares the id that stands there, so it costs the same however
+/// many objects are held. The first lock of an id makes places for it and for all ids below it. So memory is
+/// in proportion to the greatest id that was ever locked; a store has 8,192 ids at most.
 #[derive(Debug, Drop)]
 pub(crate) struct LockRows {
     ids: Vec<u32>,

@@ -1,13 +1,12 @@
-use Rattle.std.proofs.Common.{rules, ◌≡◌, ℕ, ◌≤◌, ◌<◌, Some, sym, ap, ◌∙◌, subst, arith, ⊎_elim}
-use Rattle.cell_model.specs.Cells.{cell_at, pointer_at}
-use Rattle.core_store.specs.Changes.{is_counted_strong}
+use Rattle.std.proofs.Common.{rules, ℕ, ◌≤◌, ◌<◌, Some, sym, ap, ◌∙◌, subst, arith, ⊎_elim}
+use Rattle.cell_model.specs.Cells.{cell_at}
 use Rattle.core_store.specs.Logged.{object_and_targets}
 use Rattle.core_store.specs.Slots.{HoldsPagesOf}
 use Rattle.core_store.specs.Work.{IsWork}
 use Rattle.core_store.proofs.slots.first_strong.Goals as goal
 
-pub holds_strong-requires : goal.holds_strong-requires
-holds_strong-requires g c =
+pub is_strong_in-requires : goal.is_strong_in-requires
+is_strong_in-requires g c =
     let r = c.requires.pages in
     let small : g.row.SLOTS ≤ 14 = ⊎_elim (λ six. omega arith) (λ fourteen. omega arith) c.requires.size in
     let within : c.loop-place.place < g.row.SLOTS = search rules in

@@ -1,4 +1,4 @@
-use Rattle.std.proofs.Common.{rules, ◌≡◌, ℕ, ◌≤◌, Some, sym, ap, ◌∙◌, subst, arith, ⊎_elim}
+use Rattle.std.proofs.Common.{rules, ℕ, ◌≤◌, Some, sym, ap, ◌∙◌, subst, arith, ⊎_elim}
 use Rattle.cell_model.specs.Cells.{cell_at, pointer_at}
 use Rattle.core_store.specs.Changes.{is_counted_strong}
 use Rattle.core_store.specs.Logged.{object_and_targets}
@@ -6,8 +6,8 @@ use Rattle.core_store.specs.Slots.{HoldsPagesOf}
 use Rattle.core_store.specs.Work.{IsWork}
 use Rattle.core_store.proofs.slots.is_strong.Goals as goal
 
-pub holds_strong-requires : goal.holds_strong-requires
-holds_strong-requires g c =
+pub is_strong_in-requires : goal.is_strong_in-requires
+is_strong_in-requires g c =
     let r = c.requires.pages in
     let small : g.row.SLOTS ≤ 14 = ⊎_elim (λ six. omega arith) (λ fourteen. omega arith) c.requires.size in
     let id = c.cell.ensures.id in
@@ -16,4 +16,4 @@ holds_strong-requires g c =
     (search rules, (search rules, (c.requires.size, (work, ((r.0, r.1, r.2, pages), λ cells agree. c.cell.ensures.stored cells agree ∙ ap (cell_at cells) (sym id))))))
 
 pub returns : goal.returns
-returns g c cells agree = c.holds_strong.ensures cells agree ∙ ap (λ (n : ℕ). is_counted_strong cells (pointer_at cells n c.args.slot)) c.cell.ensures.id
+returns g c cells agree = c.is_strong_in.ensures cells agree ∙ ap (λ (n : ℕ). is_counted_strong cells (pointer_at cells n c.args.slot)) c.cell.ensures.id

@@ -1,6 +1,6 @@
 use Rattle.std.proofs.Common.{◌≡◌, ℕ, ◌<◌, ◌≤◌, false, get_or, sym, ◌∙◌, subst, arith, ⊎_elim}
 use Rattle.std.proofs.lemmas.Bool.{cases_lt}
-use Rattle.core_store.specs.Nulls.{is_white_in}
+use Rattle.core_store.specs.SlotLooks.{is_white_in}
 use Rattle.core_store.proofs.tables.Tables.first_to_test.Goals as goal
 
 -- nor does this slot lead to such an object

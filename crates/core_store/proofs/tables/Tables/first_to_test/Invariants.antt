@@ -1,6 +1,6 @@
 use Rattle.std.proofs.Common.{◌≡◌, ℕ, ◌<◌, ◌≤◌, false, get_or}
 use Rattle.store_model.specs.Core.{Core}
-use Rattle.core_store.specs.Nulls.{is_white_in}
+use Rattle.core_store.specs.SlotLooks.{is_white_in}
 use Rattle.core_store.specs.Stands.{Stands}
 use Rattle.core_store.specs.Views.{view_of}
 use Rattle.core_store.proofs.tables.Tables.first_to_test.Given as goal

@@ -5,7 +5,7 @@ use Rattle.cell_model.specs.Cells.{cell_at}
 use Rattle.core_store.specs.declared.round_at.RoundAt.TheVariants as at
 use Rattle.green_walk.specs.Greening.{waits}
 use Rattle.core_store.specs.Changes.{has_no_strong}
-use Rattle.core_store.specs.Nulls.{is_white_in}
+use Rattle.core_store.specs.SlotLooks.{is_white_in}
 use Rattle.core_store.specs.Views.{view_of}
 use Rattle.core_store.proofs.CollectedLaws.{mark-of_live}
 use Rattle.core_store.proofs.NullLaws.{null-white, white-in}

@@ -1,6 +1,5 @@
 use Rattle.std.proofs.Common.{sym, ap, ◌∙◌}
 use Rattle.core_store.specs.RoundView.{is_event}
-use Rattle.core_store.specs.Tables.{TablesView}
 use Rattle.core_store.specs.Views.{view_of}
 use Rattle.core_store.proofs.LookOnLaws.{no-look, one-more}
 use Rattle.core_store.proofs.PassLaws.{passed-none}

@@ -1,5 +1,5 @@
 use Rattle.std.proofs.Common.{rules, ◌≡◌, ◌<◌, Some, sym, arith}
-use Rattle.core_store.specs.Nulls.{slot_at}
+use Rattle.core_store.specs.SlotLooks.{slot_at}
 use Rattle.core_store.specs.RoundView.{none}
 use Rattle.core_store.proofs.NullLaws.{null-there}
 use Rattle.core_store.proofs.tables.Tables.next_look.Goals as goal

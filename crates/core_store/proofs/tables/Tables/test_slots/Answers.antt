@@ -1,8 +1,8 @@
-use Rattle.std.proofs.Common.{rules, ◌≡◌, ◌≤◌, ◌<◌, ℕ, true, refl, sym, ap, ◌∙◌, subst, arith, ⊎_elim}
+use Rattle.std.proofs.Common.{rules, ◌≡◌, ◌≤◌, ◌<◌, ℕ, true, refl, ap, ◌∙◌, subst, arith, ⊎_elim}
 use Rattle.cell_model.specs.Cells.{pointer_at}
 use Rattle.core_store.specs.declared.round_at.RoundAt.TheVariants as at
 use Rattle.core_store.specs.Changes.{is_counted_strong}
-use Rattle.core_store.specs.RoundView.{left_of, Rounds}
+use Rattle.core_store.specs.RoundView.{Rounds}
 use Rattle.core_store.specs.Tables.{TablesView}
 use Rattle.core_store.specs.Views.{view_of}
 use Rattle.core_store.proofs.LookOnLaws.{first-within, gone-to, test-ended}

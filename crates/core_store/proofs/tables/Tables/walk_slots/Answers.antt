@@ -1,7 +1,7 @@
 use Rattle.std.proofs.Common.{rules, ◌≡◌, ◌≤◌, ◌<◌, ℕ, true, get_or, refl, sym, ap, ◌∙◌, subst, arith, ⊎_elim}
 use Rattle.core_store.specs.declared.round_at.RoundAt.TheVariants as at
-use Rattle.core_store.specs.Nulls.{is_white_in}
-use Rattle.core_store.specs.RoundView.{RoundView, left_of, Rounds}
+use Rattle.core_store.specs.SlotLooks.{is_white_in}
+use Rattle.core_store.specs.RoundView.{RoundView, Rounds}
 use Rattle.core_store.specs.Tables.{TablesView}
 use Rattle.core_store.specs.Views.{view_of}
 use Rattle.core_store.proofs.LookOnLaws.{first-within, gone-to, test-begun, white-behind, white-waits}

@@ -4,7 +4,7 @@ use Rattle.core_store.specs.Frames.{is_held}
 use Rattle.core_store.proofs.SlotReady.{first-of}
 use Rattle.core_store.proofs.SlotStart.{old-of}
 use Rattle.core_store.proofs.LookLaws.{beq-same, strong-look, null-look}
-use Rattle.core_store.proofs.slots.holds_strong.Goals as goal
+use Rattle.core_store.proofs.slots.is_strong_in.Goals as goal
 
 pub cell-requires : goal.cell-requires
 cell-requires g c =
