@@ -14,6 +14,7 @@ mod latches;
 mod packing;
 mod plays;
 mod rule;
+mod starting;
 mod table;
 mod view;
 
