@@ -80,7 +80,7 @@ module _ {D : Type 0} (slots pages : ℕ) (v w : Known slots) (j k : LoggedView 
   act-pages : (entered : Option Entry) → (a : Acts slots v w j k held entered marked found) → w.hands.pages ≡ pairs_of a.first
   act-pages entered a = ap (λ (z : Known slots). z.hands.pages) a.view ∙ ap (λ h. h.pages) (hands-met (with_pages v (pairs_of a.first)) found)
 
-  act-station : (entered : Option Entry) → Acts slots v w j k held entered marked found → w.station ≡ v.station
+  pub act-station : (entered : Option Entry) → Acts slots v w j k held entered marked found → w.station ≡ v.station
   act-station entered a = ap (λ (z : Known slots). z.station) a.view ∙ station-met (with_pages v (pairs_of a.first)) found
 
   act-next : (entered : Option Entry) → Acts slots v w j k held entered marked found → IsSome entered → IfSome entered (λ e. (speaker_of e ≡ None) ⊎ (speaker_of e ≡ Some v.station.name)) → IsNext (account D slots) pages w k

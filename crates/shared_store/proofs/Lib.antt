@@ -10,5 +10,8 @@ mod Replies
 mod Steps
 mod Collects
 mod Upkeeps
+mod Moments
 mod Rows
 mod Kept
+mod Lones
+mod LoneUpkeeps

@@ -4,3 +4,4 @@ pub mod Holding
 pub mod Acts
 pub mod Stores
 pub mod Upkeep
+pub mod Lone

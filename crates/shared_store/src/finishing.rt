@@ -1,5 +1,5 @@
 //! What a call does behind its work on the journal: it tells of the entry, and gives back what it has.
-ghost use Rattle.std.specs.Prelude.{◌≡◌, [], ◌∷◌, ◌++◌, true, false};
+ghost use Rattle.std.specs.Prelude.{◌≡◌, ◌<◌, ◌≤◌, [], ◌∷◌, ◌++◌, length, true, false};
 ghost use Rattle.latch_table.specs.Views.{log_dropped, log_of};
 ghost use Rattle.latch_table.specs.Steps.{IsNext, told_of};
 ghost use Rattle.journal_chronicle.specs.View.{account, marks_of, notes_of};
@@ -35,6 +35,24 @@ impl<const SLOTS: usize, D: Disk> Store<SLOTS, D> {
         }
         self.latches.append(hold, journal);
         journal.len()
+    }
+
+    /// Tells of the entry that the journal has more than so many, if it has one more: this is the event.
+    pub(crate) fn tell(
+        &self,
+        hold: &mut Hold<JournalChronicle<SLOTS, D>, Frame<SLOTS>>,
+        journal: &JournalChronicle<SLOTS, D>,
+        before: u64,
+    )
+        requires of { hold.old.table ≡ self.now.table }
+        requires next { before < length (notes_of journal.now) → IsNext (account D SLOTS) self.now.pages hold.old.view journal.now }
+        ensures of { hold.new.table ≡ self.now.table }
+        ensures told { before < length (notes_of journal.now) → (note : Note) × (notes_of journal.now ≡ log_of hold.old.view ++ note ∷ []) × (hold.new.view ≡ told_of (account D SLOTS) hold.old.view journal.now note) }
+        ensures same { length (notes_of journal.now) ≤ before → hold.new.view ≡ hold.old.view }
+    {
+        if before < journal.len() {
+            self.latches.append(hold, journal);
+        }
     }
 
     /// Tells of the entry, if one was entered, and gives all words back. Gives the length that the history is known to have had.

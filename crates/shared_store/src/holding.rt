@@ -19,7 +19,7 @@ use latch_table::{Held, Hold};
 
 impl<const SLOTS: usize, D: Disk> Store<SLOTS, D> {
     /// Claims the page, and holds its frame too.
-    fn claim_one(
+    pub(crate) fn claim_one(
         &self,
         hold: &mut Hold<JournalChronicle<SLOTS, D>, Frame<SLOTS>>,
         journal: &JournalChronicle<SLOTS, D>,

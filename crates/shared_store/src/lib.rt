@@ -12,13 +12,18 @@ mod collecting;
 mod counting;
 mod finishing;
 mod holding;
+mod lone;
+mod lone_calls;
+mod lone_upkeep;
 mod pass;
 mod refused;
 mod store;
+mod taking;
 mod upkeep;
 
 pub use answers::{CollectRefusal, Peek, StepRefusal};
 pub use latch_table::Held;
+pub use lone::LoneStore;
 pub use pass::Pass;
 pub use refused::Refused;
 pub use store::Store;

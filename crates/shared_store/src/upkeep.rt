@@ -1,7 +1,11 @@
 //! Upkeep: pages are cleaned, and the log is turned.
 ghost use Rattle.std.specs.Prelude.{◌≡◌, ◌↔◌, ℕ, ◌<◌, ◌≤◌, [], ◌∷◌, ◌++◌, true, length, vec_len, vec_capacity, None, IfOk, IfErr, IsSome};
+ghost use Rattle.disk_model.specs.Time.{LeavesOnlyImages};
 ghost use Rattle.core_store.specs.Frames.{AllAgree};
 ghost use Rattle.core_store.specs.JournalView.{cells_of};
+ghost use Rattle.logged_journal.specs.Opens.{OpensAfter};
+ghost use Rattle.logged_journal.specs.Records.{MayHaveAll};
+ghost use Rattle.logged_journal.specs.View.{history_of};
 ghost use Rattle.latch_table.specs.Views.{met, page_claimed};
 ghost use Rattle.latch_table.specs.Holds.{IsAnother};
 ghost use Rattle.shared_store.specs.Acts.{Acts};
@@ -49,7 +53,7 @@ fn is_entered(answer: &Result<Upkeep, Held>) -> bool
 
 impl<const SLOTS: usize, D: Disk> Store<SLOTS, D> {
     /// Cleans the page on the journal, where the pass has the log word.
-    fn act_clean(
+    pub(crate) fn act_clean(
         &self,
         hold: &mut Hold<JournalChronicle<SLOTS, D>, Frame<SLOTS>>,
         journal: &mut JournalChronicle<SLOTS, D>,
@@ -62,8 +66,12 @@ impl<const SLOTS: usize, D: Disk> Store<SLOTS, D> {
         ensures of { hold.new.table ≡ self.now.table }
         ensures acts { Acts SLOTS hold.old.view hold.new.view journal.old journal.new [] (entered_by_upkeep_of result) (marked_by_upkeep_of result) (found_by_upkeep result) }
         ensures made { IfOk result (λ u. DoesCleanOn SLOTS D.faults D.may_leave journal.old journal.new page u) }
+        ensures moments { IfOk result (λ _. LeavesOnlyImages D.moment D.left_since journal.old.disk journal.new.disk (MayHaveAll journal.old)) }
+        ensures opens { IfOk result (λ _. LeavesOnlyImages D.moment D.left_since journal.old.disk journal.new.disk (OpensAfter SLOTS (history_of journal.old))) }
     {
         let _ = &self.latches;
+        // What a power loss may leave, and what that opens to: this call hands the facts out.
+        let _ = journal.logged().durable();
         if let Some(answer) = journal.refuse_clean() {
             journal.know_history();
             return Ok(answer);
@@ -170,7 +178,7 @@ impl<const SLOTS: usize, D: Disk> Store<SLOTS, D> {
     }
 
     /// Turns the log on the journal, where the pass has the log word.
-    fn act_turn(
+    pub(crate) fn act_turn(
         &self,
         alloc: Global,
         hold: &mut Hold<JournalChronicle<SLOTS, D>, Frame<SLOTS>>,
@@ -182,8 +190,12 @@ impl<const SLOTS: usize, D: Disk> Store<SLOTS, D> {
         ensures of { hold.new.table ≡ self.now.table }
         ensures acts { Acts SLOTS hold.old.view hold.new.view journal.old journal.new [] (entered_by_upkeep_of result) (marked_by_upkeep_of result) (found_by_upkeep result) }
         ensures made { IfOk result (λ u. DoesTurnOn SLOTS D.faults D.may_leave journal.old journal.new u) }
+        ensures moments { IfOk result (λ _. LeavesOnlyImages D.moment D.left_since journal.old.disk journal.new.disk (MayHaveAll journal.old)) }
+        ensures opens { IfOk result (λ _. LeavesOnlyImages D.moment D.left_since journal.old.disk journal.new.disk (OpensAfter SLOTS (history_of journal.old))) }
     {
         let _ = &self.latches;
+        // What a power loss may leave, and what that opens to: this call hands the facts out.
+        let _ = journal.logged().durable();
         if let Some(answer) = journal.refuse_turn() {
             journal.know_history();
             return Ok(answer);

@@ -4,12 +4,17 @@ use Rattle.core_store.proofs.MapLaws.{none_from}
 use Rattle.framed_journal.proofs.HoldLaws.{slots-few}
 use Rattle.latch_table.specs.Views.{met, no_marks}
 use Rattle.logged_journal.specs.declared.upkeep.Upkeep.{Upkeep}
+use Rattle.disk_model.specs.Told.{EachImage}
+use Rattle.logged_journal.specs.Opens.{OpensAfter}
+use Rattle.logged_journal.specs.Records.{MayBeLeft}
+use Rattle.logged_journal.specs.View.{LoggedView, history_of}
 use Rattle.journal_chronicle.specs.Steps.{GoesOnWith, no_page, entered_by_upkeep, marked_by_refusal, marked_by_upkeep}
 use Rattle.shared_store.specs.Passes.{Known}
 use Rattle.shared_store.proofs.Kept.{acts-none, dropped-alone}
 use Rattle.shared_store.proofs.Looks.{goes-behind, still-journal}
 use Rattle.shared_store.proofs.Pairs.{with_none, told-frame}
 use Rattle.shared_store.proofs.Upkeeps.{RefusesClean, clean-enters_none, clean-free, clean-refused, clean-behind}
+use Rattle.shared_store.proofs.Moments.{moments-before, moments-still, opens-before, opens-still, clean-refused-disk}
 use Rattle.shared_store.proofs.store.Store.act_clean.Goals as goal
 
 -- ---- it is refused
@@ -93,3 +98,29 @@ returns-clause-made g c =
       fault = e.fault;
       later = e.later;
     })
+
+-- ---- what a power loss leaves
+
+pub returns-in-Some-clause-moments : goal.returns-in-Some-clause-moments
+returns-in-Some-clause-moments g c =
+    moments-still g.D.Disk.may_leave g.D.Disk.moment g.D.Disk.left_since g.D.Disk.only_now c.args.journal.now c.refuse_clean.new.self
+    (clean-refused-disk c.args.journal.now c.refuse_clean.new.self c.in-Some.answer (record { stopped = c.in-Some.ensures.stopped; full = c.in-Some.ensures.full; free = c.in-Some.ensures.free }))
+    (subst (λ (v : LoggedView g.row.D.Denot). EachImage g.D.Disk.may_leave v.disk (MayBeLeft v)) c.logged.ensures.logged c.durable.ensures.images)
+
+pub returns-in-Some-clause-opens : goal.returns-in-Some-clause-opens
+returns-in-Some-clause-opens g c =
+    opens-still g.D.Disk.may_leave g.D.Disk.moment g.D.Disk.left_since g.D.Disk.only_now c.args.journal.now c.refuse_clean.new.self
+    (clean-refused-disk c.args.journal.now c.refuse_clean.new.self c.in-Some.answer (record { stopped = c.in-Some.ensures.stopped; full = c.in-Some.ensures.full; free = c.in-Some.ensures.free })) g.row.SLOTS
+    (subst (λ (v : LoggedView g.row.D.Denot). EachImage g.D.Disk.may_leave v.disk (OpensAfter g.row.SLOTS (history_of v))) c.logged.ensures.logged c.durable.ensures.opens)
+
+pub returns-clause-moments : goal.returns-clause-moments
+returns-clause-moments g c =
+    let none = none_from c.refuse_clean.result (λ x is. c.in_default.not-Some x is) in
+    let refuses = subst (λ (o : Option Upkeep). RefusesClean c.args.journal.now c.refuse_clean.new.self o) none (record { stopped = c.refuse_clean.ensures.stopped; full = c.refuse_clean.ensures.full; free = c.refuse_clean.ensures.free }) in
+    moments-before g.D.Disk.moment g.D.Disk.left_since c.args.journal.now c.refuse_clean.new.self c.clean-answer.new.self.disk (clean-free c.args.journal.now c.refuse_clean.new.self refuses).takes c.clean-answer.ensures.moments
+
+pub returns-clause-opens : goal.returns-clause-opens
+returns-clause-opens g c =
+    let none = none_from c.refuse_clean.result (λ x is. c.in_default.not-Some x is) in
+    let refuses = subst (λ (o : Option Upkeep). RefusesClean c.args.journal.now c.refuse_clean.new.self o) none (record { stopped = c.refuse_clean.ensures.stopped; full = c.refuse_clean.ensures.full; free = c.refuse_clean.ensures.free }) in
+    opens-before g.D.Disk.moment g.D.Disk.left_since c.args.journal.now c.refuse_clean.new.self c.clean-answer.new.self.disk (clean-free c.args.journal.now c.refuse_clean.new.self refuses).takes g.row.SLOTS c.clean-answer.ensures.opens

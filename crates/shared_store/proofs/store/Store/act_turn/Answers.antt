@@ -6,7 +6,10 @@ use Rattle.core_store.proofs.MapLaws.{none_from}
 use Rattle.framed_journal.proofs.HoldLaws.{slots-few}
 use Rattle.latch_table.specs.Views.{no_marks}
 use Rattle.logged_journal.specs.declared.upkeep.Upkeep.{Upkeep}
-use Rattle.logged_journal.specs.View.{LoggedView}
+use Rattle.disk_model.specs.Told.{EachImage}
+use Rattle.logged_journal.specs.Opens.{OpensAfter}
+use Rattle.logged_journal.specs.Records.{MayBeLeft}
+use Rattle.logged_journal.specs.View.{LoggedView, history_of}
 use Rattle.journal_chronicle.specs.Steps.{GoesOnWith, no_page, entered_by_refusal, entered_by_upkeep, marked_by_refusal, marked_by_upkeep}
 use Rattle.shared_store.specs.Passes.{Known}
 use Rattle.shared_store.specs.Holding.{with_pages}
@@ -14,6 +17,7 @@ use Rattle.shared_store.proofs.Kept.{acts-none}
 use Rattle.shared_store.proofs.Looks.{goes-behind, still-journal}
 use Rattle.shared_store.proofs.Pairs.{with_none}
 use Rattle.shared_store.proofs.Upkeeps.{RefusesTurn, turn-free, turn-refused, turn-behind, turn-no_memory}
+use Rattle.shared_store.proofs.Moments.{moments-before, moments-still, opens-before, opens-still}
 use Rattle.shared_store.proofs.store.Store.act_turn.Goals as goal
 
 -- ---- it is refused
@@ -69,7 +73,7 @@ turn-answer-requires-after_bounds g c κs within =
     let k = c.refuse_turn.new.self in
     let look = subst (λ (o : Option Upkeep). GoesOnWith g.row.SLOTS no_page j k (entered_by_refusal o) (marked_by_refusal o)) (none_from c.refuse_turn.result (λ x is. c.in_default.not-Some x is)) c.refuse_turn.ensures.chronicle in
     let has = still-journal g.row.SLOTS j k c.args.self.now.pages v look c.requires.journal in
-    let same : c.journal.result.now ≡ k.journal = c.journal.ensures.journal ∙ ap (λ (z : LoggedView g.row.D.Denot). z.journal) c.logged.ensures.logged in
+    let same : c.journal.result.now ≡ k.journal = c.journal.ensures.journal ∙ ap (λ (z : LoggedView g.row.D.Denot). z.journal) c.logged-2.ensures.logged in
     let ids = ap (λ (x : JournalView). x.history.ids) same in
     let count = c.opening.ensures.by_ids.count in
     let many = c.in_default-claim_all.ensures.ok.0 in
@@ -115,3 +119,45 @@ returns-clause-made g c =
       fault = e.fault;
       later = e.later;
     })
+
+-- ---- what a power loss leaves
+
+pub returns-in-Some-clause-moments : goal.returns-in-Some-clause-moments
+returns-in-Some-clause-moments g c =
+    moments-still g.D.Disk.may_leave g.D.Disk.moment g.D.Disk.left_since g.D.Disk.only_now c.args.journal.now c.refuse_turn.new.self
+    c.in-Some.ensures.untouched.disk
+    (subst (λ (v : LoggedView g.row.D.Denot). EachImage g.D.Disk.may_leave v.disk (MayBeLeft v)) c.logged.ensures.logged c.durable-pages.ensures.images)
+
+pub returns-in-Some-clause-opens : goal.returns-in-Some-clause-opens
+returns-in-Some-clause-opens g c =
+    opens-still g.D.Disk.may_leave g.D.Disk.moment g.D.Disk.left_since g.D.Disk.only_now c.args.journal.now c.refuse_turn.new.self
+    c.in-Some.ensures.untouched.disk g.row.SLOTS
+    (subst (λ (v : LoggedView g.row.D.Denot). EachImage g.D.Disk.may_leave v.disk (OpensAfter g.row.SLOTS (history_of v))) c.logged.ensures.logged c.durable-pages.ensures.opens)
+
+pub returns-in_default-with_capacity-clause-moments : goal.returns-in_default-with_capacity-clause-moments
+returns-in_default-with_capacity-clause-moments g c =
+    moments-still g.D.Disk.may_leave g.D.Disk.moment g.D.Disk.left_since g.D.Disk.only_now c.args.journal.now c.refuse_turn.new.self
+    c.refuse_turn.ensures.untouched.disk
+    (subst (λ (v : LoggedView g.row.D.Denot). EachImage g.D.Disk.may_leave v.disk (MayBeLeft v)) c.logged.ensures.logged c.durable-pages.ensures.images)
+
+pub returns-in_default-with_capacity-clause-opens : goal.returns-in_default-with_capacity-clause-opens
+returns-in_default-with_capacity-clause-opens g c =
+    opens-still g.D.Disk.may_leave g.D.Disk.moment g.D.Disk.left_since g.D.Disk.only_now c.args.journal.now c.refuse_turn.new.self
+    c.refuse_turn.ensures.untouched.disk g.row.SLOTS
+    (subst (λ (v : LoggedView g.row.D.Denot). EachImage g.D.Disk.may_leave v.disk (OpensAfter g.row.SLOTS (history_of v))) c.logged.ensures.logged c.durable-pages.ensures.opens)
+
+pub returns-clause-moments : goal.returns-clause-moments
+returns-clause-moments g c =
+    let n = c.refuse_turn.ensures in
+    let none = none_from c.refuse_turn.result (λ x is. c.in_default.not-Some x is) in
+    let refuses = subst (λ (o : Option Upkeep). RefusesTurn g.row.SLOTS c.args.journal.now c.refuse_turn.new.self o) none
+    (record { stopped = n.stopped; only_stopped = n.only_stopped; full = n.full; marked = n.marked; busy = n.busy; only_busy = n.only_busy; told = n.told; memory = n.memory; never = n.never; free = n.free; untouched = n.untouched }) in
+    moments-before g.D.Disk.moment g.D.Disk.left_since c.args.journal.now c.refuse_turn.new.self c.turn-answer.new.self.disk (turn-free g.row.SLOTS c.args.journal.now c.refuse_turn.new.self refuses).takes c.turn-answer.ensures.moments
+
+pub returns-clause-opens : goal.returns-clause-opens
+returns-clause-opens g c =
+    let n = c.refuse_turn.ensures in
+    let none = none_from c.refuse_turn.result (λ x is. c.in_default.not-Some x is) in
+    let refuses = subst (λ (o : Option Upkeep). RefusesTurn g.row.SLOTS c.args.journal.now c.refuse_turn.new.self o) none
+    (record { stopped = n.stopped; only_stopped = n.only_stopped; full = n.full; marked = n.marked; busy = n.busy; only_busy = n.only_busy; told = n.told; memory = n.memory; never = n.never; free = n.free; untouched = n.untouched }) in
+    opens-before g.D.Disk.moment g.D.Disk.left_since c.args.journal.now c.refuse_turn.new.self c.turn-answer.new.self.disk (turn-free g.row.SLOTS c.args.journal.now c.refuse_turn.new.self refuses).takes g.row.SLOTS c.turn-answer.ensures.opens

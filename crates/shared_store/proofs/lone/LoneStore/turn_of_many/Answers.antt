@@ -1,0 +1,101 @@
+use Rattle.std.proofs.Common.{◌≤◌, ◌<◌, refl, sym, subst, arith, rules}
+use Rattle.core_store.proofs.MapLaws.{none_from}
+use Rattle.disk_model.specs.Time.{LeavesOnlyImages}
+use Rattle.logged_journal.specs.Opens.{OpensAfter}
+use Rattle.logged_journal.specs.Records.{MayHaveAll}
+use Rattle.logged_journal.specs.View.{LoggedView, history_of}
+use Rattle.framed_journal.proofs.HoldLaws.{slots-few}
+use Rattle.journal_chronicle.specs.Steps.{entered_by_upkeep, marked_by_upkeep}
+use Rattle.shared_store.specs.Upkeep.{DoesTurnOn}
+use Rattle.shared_store.proofs.Lones.{WentOn, lone-next, lone-after, own-upkeep-speaks}
+use Rattle.shared_store.proofs.LoneUpkeeps.{lone-frames, goes-held, still-shown, still-within, no-many}
+use Rattle.shared_store.proofs.lone.LoneStore.turn_of_many.Goals as goal
+
+-- more than three are held
+pub unreachable-requires : goal.unreachable-requires
+unreachable-requires g c =
+    let i = c.self.invariant in
+    let many = subst (λ (v : LoggedView g.row.D.Denot). 24 < v.journal.history.ids) (sym c.self.view_is) c.requires.many in
+    absurd (no-many c.self.inside.held c.all.result (none_from c.all.result (λ x is. c.in_default.not-Some x is)) c.all.ensures.some (let count = i.each.count in let ids = i.journal.ids in omega (arith, count, ids, many)))
+
+pub turn-answer-requires-after_bounds : goal.turn-answer-requires-after_bounds
+turn-answer-requires-after_bounds g c κs within =
+    let small : g.row.SLOTS ≤ 14 = slots-few g.row.SLOTS c.self.invariant.size in
+    let all = (lone-frames g.row.SLOTS c.self.inside.store c.self.inside.hold c.self.inside.journal c.self.inside.held c.in-Some.frames.now c.logged.ensures.slots c.self.invariant c.in-Some.ensures.all) in
+    (search rules, (search rules, (all.pages, all.agree)))
+
+pub tell-requires-after_bounds : goal.tell-requires-after_bounds
+tell-requires-after_bounds g c κs within =
+    let small : g.row.SLOTS ≤ 14 = slots-few g.row.SLOTS c.self.invariant.size in
+    let i = c.self.invariant in
+    let e = c.turn-answer.ensures in
+    let r = c.turn-answer.result in
+    let j = c.self.inside.journal in
+    let k = c.turn-answer.new.self in
+    let held = c.self.inside.held in
+    let before = (c.know_frames.ensures.held held i.each.frames.within).0 i.each.frames.agree in
+    let shown = still-shown g.row.SLOTS j k held (entered_by_upkeep r) (marked_by_upkeep r) e.chronicle before in
+    let within_k = still-within g.row.SLOTS j k held (entered_by_upkeep r) (marked_by_upkeep r) e.chronicle i.each.frames.within in
+    let on : WentOn g.row.SLOTS c.self.inside.hold.view j k held held (entered_by_upkeep r) (marked_by_upkeep r) c.len-before.result
+    = record {
+      goes = goes-held g.row.SLOTS j k held (entered_by_upkeep r) (marked_by_upkeep r) e.chronicle;
+      pages = refl;
+      agree = (c.know_frames-2.ensures.held held within_k).1 shown;
+      rest = λ none. refl;
+      speaks = own-upkeep-speaks c.self.inside.hold.view.station.name r;
+      counted = c.len-before.ensures;
+    } in
+    let next = lone-next g.row.SLOTS c.self.inside.store c.self.inside.hold c.self.inside.journal c.turn-answer.new.self c.self.inside.held c.self.inside.held (entered_by_upkeep r) (marked_by_upkeep r) c.len-before.result c.self.invariant on in
+    (search rules, (search rules, (search rules, (search rules, (search rules, next)))))
+
+pub invariant_of-self : goal.invariant_of-self
+invariant_of-self g c =
+    let i = c.self.invariant in
+    let e = c.turn-answer.ensures in
+    let r = c.turn-answer.result in
+    let j = c.self.inside.journal in
+    let k = c.turn-answer.new.self in
+    let held = c.self.inside.held in
+    let before = (c.know_frames.ensures.held held i.each.frames.within).0 i.each.frames.agree in
+    let shown = still-shown g.row.SLOTS j k held (entered_by_upkeep r) (marked_by_upkeep r) e.chronicle before in
+    let within_k = still-within g.row.SLOTS j k held (entered_by_upkeep r) (marked_by_upkeep r) e.chronicle i.each.frames.within in
+    let on : WentOn g.row.SLOTS c.self.inside.hold.view j k held held (entered_by_upkeep r) (marked_by_upkeep r) c.len-before.result
+    = record {
+      goes = goes-held g.row.SLOTS j k held (entered_by_upkeep r) (marked_by_upkeep r) e.chronicle;
+      pages = refl;
+      agree = (c.know_frames-2.ensures.held held within_k).1 shown;
+      rest = λ none. refl;
+      speaks = own-upkeep-speaks c.self.inside.hold.view.station.name r;
+      counted = c.len-before.ensures;
+    } in
+    lone-after g.row.SLOTS c.self.inside.store c.self.inside.hold c.self.inside.journal c.turn-answer.new.self c.self.inside.held c.self.inside.held (entered_by_upkeep r) (marked_by_upkeep r) c.len-before.result c.self.invariant on c.tell.new.hold c.tell.ensures.of c.tell.ensures.told c.tell.ensures.same shown
+
+pub returns-clause-does : goal.returns-clause-does
+returns-clause-does g c =
+    let e = c.turn-answer.ensures in
+    subst (λ (v : LoggedView g.row.D.Denot). DoesTurnOn g.row.SLOTS g.D.Disk.faults g.D.Disk.may_leave v c.turn-answer.new.self c.turn-answer.result) c.self.view_is
+    (record {
+      legal = c.know_history.ensures.legal;
+      stopped = e.stopped;
+      only_stopped = e.only_stopped;
+      full = e.full;
+      marked = e.marked;
+      busy = e.busy;
+      only_busy = e.only_busy;
+      told = e.told;
+      log_full = e.log_full;
+      log_marked = e.log_marked;
+      memory = e.memory;
+      done = e.done;
+      turned = e.turned;
+      fault = e.fault;
+      later = e.later;
+    })
+
+pub returns-clause-moments : goal.returns-clause-moments
+returns-clause-moments g c =
+    subst (λ (v : LoggedView g.row.D.Denot). LeavesOnlyImages g.D.Disk.moment g.D.Disk.left_since v.disk c.turn-answer.new.self.disk (MayHaveAll v)) c.self.view_is c.turn-answer.ensures.moments
+
+pub returns-clause-opens : goal.returns-clause-opens
+returns-clause-opens g c =
+    subst (λ (v : LoggedView g.row.D.Denot). LeavesOnlyImages g.D.Disk.moment g.D.Disk.left_since v.disk c.turn-answer.new.self.disk (OpensAfter g.row.SLOTS (history_of v))) c.self.view_is c.turn-answer.ensures.opens
