@@ -8,16 +8,16 @@ ghost use Rattle.brahma_shell.specs.Ended.{disk_in};
 ghost use Rattle.brahma_shell.specs.Top.{audit_text, Unopened, Audited, outside};
 
 use crate::ended::Ended;
+use crate::opened::OpenedStore;
 use crate::refusing::refuse;
 use crate::status::{DONE, OUT_OF_MEMORY, WRITE_FAULT};
-use crate::store::Store;
 use disk_model::Disk;
 use outside_io::Sink;
 use script_lines::{audit_line, write_all, write_last};
 use std::alloc::Global;
 
 /// Counts all pointers of the store again, tells what it found, and answers the status.
-fn tell_audit<W: Sink, D: Disk>(alloc: Global, store: &Store<D>, out: &mut W) -> u8
+fn tell_audit<W: Sink, D: Disk>(alloc: Global, store: &OpenedStore<D>, out: &mut W) -> u8
     ensures statuses { (result ≡ 0) ⊎ ((result ≡ 5) ⊎ (result ≡ 8)) }
     ensures done { (pages : ℕ) → 8 * pages ≡ store.now.journal.history.ids → result ≡ 0
         → Appends (W.written out.old) (W.written out.new) (audit_text (cells_of store.now.journal) pages) }
@@ -58,7 +58,7 @@ pub(crate) fn audit_store<W: Sink, D: Disk>(alloc: Global, out: &mut W, disk: D)
     ensures out_later { W.faults out.old ≤ W.faults out.new }
     ensures disk_later { D.faults disk ≤ D.faults (disk_in result.1) }
 {
-    match Store::open(alloc, disk) {
+    match OpenedStore::open(alloc, disk) {
         Ok(store) => {
             // How many ids and pages there are, and what a power loss may leave: these calls hand the facts out.
             let _ = store.ids();

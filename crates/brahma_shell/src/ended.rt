@@ -2,7 +2,7 @@
 ghost use Rattle.std.specs.Prelude.{◌≡◌};
 ghost use Rattle.brahma_shell.specs.Ended.{disk_in};
 
-use crate::store::SLOTS;
+use crate::opened::SLOTS;
 use disk_model::Disk;
 use logged_journal::LoggedJournal;
 

@@ -14,11 +14,11 @@ ghost use Rattle.brahma_shell.specs.Top.{GoesLater, IsJustOpened, IsStatusOfRepl
 
 use crate::client_lines::read_scripts;
 use crate::ended::Ended;
+use crate::opened::{OpenedStore, SLOTS};
 use crate::refusing::refuse;
 use crate::replay::Stop;
 use crate::replaying::end_stopped;
 use crate::status::WRITE_FAULT;
-use crate::store::{SLOTS, Store};
 use crate::telling::{print_history, print_stored};
 use client_pass::{ClientScript, Gate, WorkEnd, run_all};
 use disk_model::Disk;
@@ -164,7 +164,7 @@ fn know<D: Disk>(logged: &LoggedJournal<SLOTS, D>)
 fn run_opened<W: Sink, D: Disk, G: Gate, T: Threads + Wait + Sync>(
     rt: &T,
     alloc: Global,
-    store: Store<D>,
+    store: OpenedStore<D>,
     scripts: &[ClientScript],
     out: &mut W,
     gate: &G,
@@ -205,7 +205,7 @@ fn run_opened<W: Sink, D: Disk, G: Gate, T: Threads + Wait + Sync>(
 fn run_in<R: Source, W: Sink, D: Disk, G: Gate, T: Threads + Wait + Sync>(
     rt: &T,
     alloc: Global,
-    store: Store<D>,
+    store: OpenedStore<D>,
     source: &mut R,
     out: &mut W,
     gate: &G,
@@ -254,7 +254,7 @@ pub(crate) fn run_script<R: Source, W: Sink, D: Disk, G: Gate, T: Threads + Wait
         (outside (R.left script.new) (R.faults script.new) (W.written out.new) (W.faults out.new) (D.faults (disk_in result.1))) }
     ensures statuses { IsStatusOfReplay result.0 }
 {
-    match Store::open(alloc, disk) {
+    match OpenedStore::open(alloc, disk) {
         Ok(store) => run_in(rt, alloc, store, script, out, gate),
         Err((refusal, disk)) => (refuse(out, &refusal), Ended::Shut(disk)),
     }

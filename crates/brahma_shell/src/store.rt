@@ -1,18 +1,15 @@
-//! The store of a replay: a journal with its log on a disk, and all its frames.
+//! The store of a replay: the store that threads share, with one pass that is out.
 
 ghost use Rattle.std.specs.Prelude.{◌≡◌, ◌<◌, ◌≤◌, ◌*◌, ℕ, [], ◌∷◌, true, false, Bool, IfOk, IfErr, IsErrOf, IsSome, is_some, Some, None};
 ghost use Rattle.plain_model.specs.Machine.{IsInRange, transaction_of};
 ghost use Rattle.plain_model.specs.History.{IsLegal, end_of, is_stopped, left_to_undo, least_active};
 ghost use Rattle.plain_laws.specs.Serializable.{IsSerializable};
-ghost use Rattle.std.specs.List.{range_with_len};
 ghost use Rattle.disk_model.specs.Told.{EachImage};
 ghost use Rattle.store_model.specs.Sound.{IsSound};
 ghost use Rattle.journal_opening.specs.Openings.{OpensAs, RefusesToOpen, OpensMeanwhile, HasFault};
-ghost use Rattle.auditor.specs.Recount.{live_in, zero_in};
-ghost use Rattle.framed_journal.specs.Holding.{AreFramesOf};
 ghost use Rattle.logged_journal.specs.View.{history_of};
 ghost use Rattle.logged_journal.specs.Opens.{OpensAfter};
-ghost use Rattle.core_store.specs.JournalView.{cells_of, core_of, opening_of};
+ghost use Rattle.core_store.specs.JournalView.{core_of, opening_of};
 ghost use Rattle.core_store.specs.Leads.{AreLed};
 ghost use Rattle.cell_model.specs.Graph.{graph_of};
 ghost use Rattle.core_store.specs.Limited.{WasFull};
@@ -27,25 +24,24 @@ ghost use Rattle.brahma_shell.specs.Upkeep.{GivesUp, HasClean, HasTurned};
 ghost use Rattle.brahma_shell.specs.Log.{StaysRunning, TellsFull, LosesCommit, WasLogFull};
 ghost use Rattle.brahma_shell.specs.Rest.{StaysQuiet};
 
-use auditor::{Report, audit_journal};
+use crate::opened::{OpenedStore, SLOTS};
 use cell_page::CELLS_OF_PAGE;
-use core_store::{AbortStep, Collect, Frame, Limits, Note};
+use core_store::{AbortStep, Collect, Note};
 use disk_model::Disk;
-use framed_journal::FramedJournal;
-use journal_opening::open;
 use logged_journal::{CollectRefusal, LoggedJournal, Stopped, Upkeep};
 use plain_model::{Call, Entry, Ids, Memory, Reply};
+use shared_store::LoneStore;
 use std::alloc::Global;
 use std::marker::Model;
 use store_opening::OpenRefusal;
 
-/// How many slots an object of the program's store has.
-pub const SLOTS: usize = 6;
-
-/// A journal with its log and all its frames, whose calls are told in the words of a script.
+/// The store of a replay: its journal with its log, in the hand of the one pass that is out. Its calls are told in the words of a
+/// script.
 #[derive(Drop)]
 pub(crate) struct Store<D: Disk> {
-    framed: FramedJournal<SLOTS, D>,
+    lone: LoneStore<SLOTS, D>,
+    /// Turns take memory from it.
+    alloc: Global,
 }
 
 /// Contracts see the journal and its log.
@@ -54,7 +50,7 @@ impl<D: Disk> Model for Store<D> {
 
     ghost Value = { LoggedView D };
 
-    ghost view = { λ s. s.framed };
+    ghost view = { λ s. s.lone };
 }
 
 impl<D: Disk> Store<D> {
@@ -66,9 +62,13 @@ impl<D: Disk> Store<D> {
         ensures opens_meanwhile { IfOk result (λ s. OpensMeanwhile D.content D.may_leave D.moment D.left_since 6 disk s.disk) }
         ensures fault { IfErr result (λ e. HasFault (D.faults disk) (D.faults e.1) e.0) }
     {
-        match open(alloc, disk, Limits::GREATEST) {
-            Ok(framed) => Ok(Store { framed }),
-            Err(refused) => Err(refused),
+        let opened = OpenedStore::open(alloc, disk)?;
+        // What is known of the journal that was opened: this call hands the facts out.
+        let _ = opened.history();
+        let (logged, frames) = opened.into_parts();
+        match LoneStore::new(alloc, logged, frames) {
+            Ok(lone) => Ok(Store { lone, alloc }),
+            Err((logged, _)) => Err((OpenRefusal::Memory, logged.into_disk())),
         }
     }
 
@@ -88,7 +88,7 @@ impl<D: Disk> Store<D> {
         ensures images { EachImage D.may_leave self.now.disk (MayBeLeft self.now) }
         ensures opens { EachImage D.may_leave self.now.disk (OpensAfter 6 (history_of self.now)) }
     {
-        let logged = self.framed.logged();
+        let logged = self.lone.logged();
         let journal = logged.journal();
         // What the marks mean, what a power loss may leave, and what the opening's cells are: these calls hand the facts out.
         let _ = logged.marks();
@@ -112,7 +112,7 @@ impl<D: Disk> Store<D> {
         ensures fault { result ≡ Reply.DiskFault → (call.now ≡ Call.Commit) × (self.new.journal ≡ self.old.journal) × LosesCommit D.faults client self.old self.new }
         ensures stopped { (faults : ℕ) → result ≡ Reply.Stopped faults → ⊥ }
     {
-        self.framed.call(client, call)
+        self.lone.call(client, call)
     }
 
     /// Does one step of the client's abort.
@@ -124,7 +124,7 @@ impl<D: Disk> Store<D> {
         ensures goes_on { StaysRunning D.faults self.old self.new }
         ensures stopped { IfErr result (λ _. ⊥) }
     {
-        self.framed.abort_step(client)
+        self.lone.abort_step(client)
     }
 
     /// Makes one step of the collector.
@@ -143,9 +143,9 @@ impl<D: Disk> Store<D> {
         ensures stopped { (faults : ℕ) → IsErrOf result (CollectRefusal.Stopped faults) → ⊥ }
     {
         // The journal is sound, and what its notes say: these calls hand the facts out.
-        let _ = self.framed.logged().journal().history();
-        let step = self.framed.collect_step();
-        let _ = self.framed.logged().journal().history();
+        let _ = self.lone.logged().journal().history();
+        let step = self.lone.collect_step();
+        let _ = self.lone.logged().journal().history();
         step
     }
 
@@ -158,7 +158,7 @@ impl<D: Disk> Store<D> {
         ensures gives_up { GivesUp D.faults self.old self.new result }
         ensures never_busy { (pass : ℕ) → result ≡ Upkeep.Busy pass → ⊥ }
     {
-        self.framed.clean(page)
+        self.lone.clean(page)
     }
 
     /// Makes a checkpoint, where no client has a transaction.
@@ -169,23 +169,7 @@ impl<D: Disk> Store<D> {
         ensures busy { (pass : ℕ) → result ≡ Upkeep.Busy pass → (least_active (end_of self.old.journal.history).state ≡ Some pass) × GrowsByUpkeep self.old.journal self.new.journal (Entry.TurnBusy pass) × StaysRunning D.faults self.old self.new }
         ensures gives_up { GivesUp D.faults self.old self.new result }
     {
-        self.framed.turn()
-    }
-
-    /// Counts all pointers again, and tells what it found: no difference.
-    pub(crate) fn audit(&self, alloc: Global) -> Result<Report, Memory>
-        ensures live { IfOk result (λ r. r.live ≡ live_in (cells_of self.now.journal)) }
-        ensures zero { IfOk result (λ r. r.zero ≡ zero_in (cells_of self.now.journal) (range_with_len 1 self.now.journal.history.ids)) }
-        ensures differences { IfOk result (λ r. r.differences ≡ []) }
-    {
-        audit_journal(alloc, &self.framed)
-    }
-
-    /// How many pages the store has.
-    pub(crate) fn pages(&self) -> usize
-        ensures { 8 * result ≡ self.now.journal.history.ids }
-    {
-        self.framed.frames().len()
+        self.lone.turn(self.alloc)
     }
 
     /// How many ids the store has.
@@ -193,7 +177,7 @@ impl<D: Disk> Store<D> {
         ensures value { result ≡ self.now.journal.history.ids }
         ensures some { 1 ≤ result }
     {
-        CELLS_OF_PAGE as u32 * self.framed.frames().len() as u32
+        CELLS_OF_PAGE as u32 * u32::from(self.lone.pages())
     }
 
     /// Whether the client has a transaction.
@@ -201,34 +185,27 @@ impl<D: Disk> Store<D> {
         ensures value { result ≡ is_some (transaction_of (end_of self.now.journal.history).state client) }
         ensures entries { entries_in self.now.journal.notes ≡ self.now.journal.history.entries }
     {
-        self.framed.logged().journal().active(client)
+        self.lone.logged().journal().active(client)
     }
 
     /// The stored ids, ascending.
     pub(crate) fn stored(&self) -> Result<Ids, Memory>
         ensures { IfOk result (λ ids. ids ≡ (end_of self.now.journal.history).state.stored) }
     {
-        self.framed.logged().journal().stored()
+        self.lone.logged().journal().stored()
     }
 
     /// The disk alone.
     pub(crate) fn into_disk(self) -> D
         ensures { result ≡ self.disk }
     {
-        self.framed.into_logged().into_disk()
+        self.lone.into_logged().into_disk()
     }
 
     /// The journal with its log.
     pub(crate) fn into_logged(self) -> LoggedJournal<SLOTS, D>
         ensures { result ≡ self }
     {
-        self.framed.into_logged()
-    }
-    /// The journal with its log, and the frames in order of their pages.
-    pub(crate) fn into_parts(self) -> (LoggedJournal<SLOTS, D>, Vec<Frame<SLOTS>>)
-        ensures logged { result.0 ≡ self }
-        ensures frames { AreFramesOf self.journal result.1.items }
-    {
-        self.framed.into_parts()
+        self.lone.into_logged()
     }
 }

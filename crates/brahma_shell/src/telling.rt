@@ -9,9 +9,9 @@ ghost use Rattle.script_lines.specs.Output.{AppendsFront, EndsWith};
 ghost use Rattle.brahma_shell.specs.Points.{entries_in};
 ghost use Rattle.brahma_shell.specs.Telling.{IsNoCrash, failed_text};
 
+use crate::opened::SLOTS;
 use crate::replay::{Stop, print};
 use crate::status::{DONE, OUT_OF_MEMORY, WRITE_FAULT};
-use crate::store::SLOTS;
 use core_store::Note;
 use disk_model::Disk;
 use logged_journal::{FailedCall, LoggedJournal};

@@ -27,7 +27,7 @@ use Rattle.brahma_shell.proofs.store.Store.collect_step.Goals as goal
 
 pub returns-clause-idle : goal.returns-clause-idle
 returns-clause-idle g c =
-    let i = c.self.inside.framed.journal in
+    let i = c.self.inside.lone.journal in
     let k = c.collect_step-step.new.self.journal in
     let told = c.history.ensures in
     let same : c.journal.result.now ≡ i = c.journal.ensures.journal ∙ ap (λ (x : LoggedView g.row.D.Denot). x.journal) c.logged.ensures.logged in
@@ -38,7 +38,7 @@ returns-clause-idle g c =
 
 pub returns-clause-full : goal.returns-clause-full
 returns-clause-full g c =
-    let i = c.self.inside.framed.journal in
+    let i = c.self.inside.lone.journal in
     let k = c.collect_step-step.new.self.journal in
     let told = c.history.ensures in
     let same : c.journal.result.now ≡ i = c.journal.ensures.journal ∙ ap (λ (x : LoggedView g.row.D.Denot). x.journal) c.logged.ensures.logged in
@@ -47,7 +47,7 @@ returns-clause-full g c =
 
 pub returns-clause-memory : goal.returns-clause-memory
 returns-clause-memory g c =
-    let i = c.self.inside.framed.journal in
+    let i = c.self.inside.lone.journal in
     let k = c.collect_step-step.new.self.journal in
     let told = c.history.ensures in
     let same : c.journal.result.now ≡ i = c.journal.ensures.journal ∙ ap (λ (x : LoggedView g.row.D.Denot). x.journal) c.logged.ensures.logged in
@@ -56,7 +56,7 @@ returns-clause-memory g c =
 
 pub returns-clause-did : goal.returns-clause-did
 returns-clause-did g c =
-    let i = c.self.inside.framed.journal in
+    let i = c.self.inside.lone.journal in
     let k = c.collect_step-step.new.self.journal in
     let told = c.history.ensures in
     let same : c.journal.result.now ≡ i = c.journal.ensures.journal ∙ ap (λ (x : LoggedView g.row.D.Denot). x.journal) c.logged.ensures.logged in
@@ -72,7 +72,7 @@ returns-clause-did g c =
 
 pub returns-clause-deleted : goal.returns-clause-deleted
 returns-clause-deleted g c =
-    let i = c.self.inside.framed.journal in
+    let i = c.self.inside.lone.journal in
     let k = c.collect_step-step.new.self.journal in
     let told = c.history.ensures in
     let same : c.journal.result.now ≡ i = c.journal.ensures.journal ∙ ap (λ (x : LoggedView g.row.D.Denot). x.journal) c.logged.ensures.logged in
@@ -89,7 +89,7 @@ returns-clause-deleted g c =
 
 pub returns-clause-exact : goal.returns-clause-exact
 returns-clause-exact g c =
-    let i = c.self.inside.framed.journal in
+    let i = c.self.inside.lone.journal in
     let k = c.collect_step-step.new.self.journal in
     let told = c.history.ensures in
     let same : c.journal.result.now ≡ i = c.journal.ensures.journal ∙ ap (λ (x : LoggedView g.row.D.Denot). x.journal) c.logged.ensures.logged in
@@ -100,7 +100,7 @@ returns-clause-exact g c =
 
 pub returns-clause-quiet : goal.returns-clause-quiet
 returns-clause-quiet g c =
-    let i = c.self.inside.framed.journal in
+    let i = c.self.inside.lone.journal in
     let k = c.collect_step-step.new.self.journal in
     let told = c.history.ensures in
     let behind = c.history-2.ensures in
@@ -133,7 +133,7 @@ returns-clause-quiet g c =
 
 pub returns-clause-log_full : goal.returns-clause-log_full
 returns-clause-log_full g c = λ e.
-    let i = c.self.inside.framed in
+    let i = c.self.inside.lone in
     let k = c.collect_step-step.new.self in
     let fills = c.collect_step-step.ensures.log_full e in
     let faults = g.D.Disk.faults in

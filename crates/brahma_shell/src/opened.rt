@@ -1,0 +1,132 @@
+//! A store that was just opened, for the commands that audit it or hand it to clients on threads.
+
+ghost use Rattle.std.specs.Prelude.{◌≡◌, ◌<◌, ◌≤◌, ◌*◌, [], true, false, IfOk, IfErr};
+ghost use Rattle.plain_model.specs.History.{IsLegal, end_of, is_stopped};
+ghost use Rattle.plain_laws.specs.Serializable.{IsSerializable};
+ghost use Rattle.std.specs.List.{range_with_len};
+ghost use Rattle.disk_model.specs.Told.{EachImage};
+ghost use Rattle.store_model.specs.Sound.{IsSound};
+ghost use Rattle.journal_opening.specs.Openings.{OpensAs, RefusesToOpen, OpensMeanwhile, HasFault};
+ghost use Rattle.auditor.specs.Recount.{live_in, zero_in};
+ghost use Rattle.framed_journal.specs.Holding.{AreFramesOf};
+ghost use Rattle.logged_journal.specs.View.{history_of};
+ghost use Rattle.logged_journal.specs.Opens.{OpensAfter};
+ghost use Rattle.core_store.specs.JournalView.{cells_of, core_of, opening_of};
+ghost use Rattle.core_store.specs.Leads.{AreLed};
+ghost use Rattle.cell_model.specs.Graph.{graph_of};
+ghost use Rattle.core_store.specs.Limited.{WasFull};
+ghost use Rattle.core_store.specs.Safe.{IsDurable};
+ghost use Rattle.logged_journal.specs.Records.{MayBeLeft, durable_notes};
+ghost use Rattle.brahma_shell.specs.Points.{entries_in};
+ghost use Rattle.brahma_shell.specs.Log.{WasLogFull};
+
+use auditor::{Report, audit_journal};
+use cell_page::CELLS_OF_PAGE;
+use core_store::{Frame, Limits, Note};
+use disk_model::Disk;
+use framed_journal::FramedJournal;
+use journal_opening::open;
+use logged_journal::LoggedJournal;
+use plain_model::Memory;
+use std::alloc::Global;
+use std::marker::Model;
+use store_opening::OpenRefusal;
+
+/// How many slots an object of the program's store has.
+pub const SLOTS: usize = 6;
+
+/// A store that was opened: a journal with its log and all its frames, on one thread.
+#[derive(Drop)]
+pub(crate) struct OpenedStore<D: Disk> {
+    framed: FramedJournal<SLOTS, D>,
+}
+
+/// Contracts see the journal and its log.
+impl<D: Disk> Model for OpenedStore<D> {
+    ghost use Rattle.logged_journal.specs.View.{LoggedView};
+
+    ghost Value = { LoggedView D };
+
+    ghost view = { λ s. s.framed };
+}
+
+impl<D: Disk> OpenedStore<D> {
+    /// The store that the disk holds. Where it isn't opened the disk is handed back.
+    pub(crate) fn open(alloc: Global, disk: D) -> Result<OpenedStore<D>, (OpenRefusal, D)>
+        ensures opened { IfOk result (λ s. OpensAs D.content D.faults 6 disk (record { trace = 1048576; log = 1071644672 }) s) }
+        ensures refused { IfErr result (λ e. RefusesToOpen D.content D.may_leave D.moment D.left_since 6 disk e.0 e.1) }
+        ensures meanwhile { IfErr result (λ e. OpensMeanwhile D.content D.may_leave D.moment D.left_since 6 disk e.1) }
+        ensures opens_meanwhile { IfOk result (λ s. OpensMeanwhile D.content D.may_leave D.moment D.left_since 6 disk s.disk) }
+        ensures fault { IfErr result (λ e. HasFault (D.faults disk) (D.faults e.1) e.0) }
+    {
+        match open(alloc, disk, Limits::GREATEST) {
+            Ok(framed) => Ok(OpenedStore { framed }),
+            Err(refused) => Err(refused),
+        }
+    }
+
+    /// What happened so far, and what each of its events logged.
+    pub(crate) fn history(&self) -> &[Note]
+        ensures notes { result.now ≡ self.now.journal.notes }
+        ensures legal { IsLegal self.now.journal.history }
+        ensures running { is_stopped (end_of self.now.journal.history) ≡ false }
+        ensures serializable { IsSerializable self.now.journal.history }
+        ensures opening { graph_of self.now.journal.opening ≡ self.now.journal.history.opening }
+        ensures entries { entries_in self.now.journal.notes ≡ self.now.journal.history.entries }
+        ensures sound { IsSound (core_of self.now.journal) }
+        ensures led { AreLed 6 (opening_of self.now.journal) self.now.journal.notes (core_of self.now.journal) }
+        ensures full { self.now.journal.marks.trace ≡ true → WasFull self.now.journal }
+        ensures log_full { self.now.log_full ≡ true → WasLogFull self.now }
+        ensures lasting { IsDurable self.now.journal (durable_notes self.now) }
+        ensures images { EachImage D.may_leave self.now.disk (MayBeLeft self.now) }
+        ensures opens { EachImage D.may_leave self.now.disk (OpensAfter 6 (history_of self.now)) }
+    {
+        let logged = self.framed.logged();
+        let journal = logged.journal();
+        // What the marks mean, what a power loss may leave, and what the opening's cells are: these calls hand the facts out.
+        let _ = logged.marks();
+        let _ = logged.durable();
+        let _ = journal.marks();
+        let _ = journal.opening();
+        journal.history()
+    }
+
+    /// Counts all pointers again, and tells what it found: no difference.
+    pub(crate) fn audit(&self, alloc: Global) -> Result<Report, Memory>
+        ensures live { IfOk result (λ r. r.live ≡ live_in (cells_of self.now.journal)) }
+        ensures zero { IfOk result (λ r. r.zero ≡ zero_in (cells_of self.now.journal) (range_with_len 1 self.now.journal.history.ids)) }
+        ensures differences { IfOk result (λ r. r.differences ≡ []) }
+    {
+        audit_journal(alloc, &self.framed)
+    }
+
+    /// How many pages the store has.
+    pub(crate) fn pages(&self) -> usize
+        ensures { 8 * result ≡ self.now.journal.history.ids }
+    {
+        self.framed.frames().len()
+    }
+
+    /// How many ids the store has.
+    pub(crate) fn ids(&self) -> u32
+        ensures value { result ≡ self.now.journal.history.ids }
+        ensures some { 1 ≤ result }
+    {
+        CELLS_OF_PAGE as u32 * self.framed.frames().len() as u32
+    }
+
+    /// The journal with its log.
+    pub(crate) fn into_logged(self) -> LoggedJournal<SLOTS, D>
+        ensures { result ≡ self }
+    {
+        self.framed.into_logged()
+    }
+
+    /// The journal with its log, and the frames in order of their pages.
+    pub(crate) fn into_parts(self) -> (LoggedJournal<SLOTS, D>, Vec<Frame<SLOTS>>)
+        ensures logged { result.0 ≡ self }
+        ensures frames { AreFramesOf self.journal result.1.items }
+    {
+        self.framed.into_parts()
+    }
+}
