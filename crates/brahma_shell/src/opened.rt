@@ -1,4 +1,4 @@
-//! A store that was just opened, for the commands that audit it or hand it to clients on threads.
+//! A store that was just opened: it is audited, or handed to clients on threads or to a replay.
 
 ghost use Rattle.std.specs.Prelude.{◌≡◌, ◌<◌, ◌≤◌, ◌*◌, [], true, false, IfOk, IfErr};
 ghost use Rattle.plain_model.specs.History.{IsLegal, end_of, is_stopped};

@@ -1,4 +1,4 @@
-//! The store of a replay: the store that threads share, with one pass that is out.
+//! The store of `replay` and `gen`: a journal with its log, whose one hold has all words between calls.
 
 ghost use Rattle.std.specs.Prelude.{◌≡◌, ◌<◌, ◌≤◌, ◌*◌, ℕ, [], ◌∷◌, true, false, Bool, IfOk, IfErr, IsErrOf, IsSome, is_some, Some, None};
 ghost use Rattle.plain_model.specs.Machine.{IsInRange, transaction_of};
@@ -35,12 +35,11 @@ use std::alloc::Global;
 use std::marker::Model;
 use store_opening::OpenRefusal;
 
-/// The store of a replay: its journal with its log, in the hand of the one pass that is out. Its calls are told in the words of a
-/// script.
+/// The store of `replay` and `gen`. Its calls are told in the words of a script.
 #[derive(Drop)]
 pub(crate) struct Store<D: Disk> {
     lone: LoneStore<SLOTS, D>,
-    /// Turns take memory from it.
+    /// A turn in a store of at most three pages takes memory from it.
     alloc: Global,
 }
 

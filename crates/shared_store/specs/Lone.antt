@@ -1,4 +1,4 @@
--- A store with the one pass that is out, whose hold has all words between calls.
+-- A store whose first hold stays the only one, and has all words between calls.
 use Rattle.std.specs.Prelude.{◌≡◌, ℕ, ◌≤◌, List, length}
 use Rattle.cell_page.specs.Format.{IsSlotCount}
 use Rattle.core_store.specs.declared.note.Note.{Note}

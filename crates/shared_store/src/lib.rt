@@ -3,6 +3,8 @@
 //! [`Store`] has the journal behind the log word of a table of latches, and each page's frame behind a word of its own. A call
 //! claims the log word, then the pages that it works on, acts on the journal, tells of its entry by the one store that makes the
 //! event, and drops all before it answers. Where another pass has a word, it drops what it has and answers whose that is.
+//!
+//! [`LoneStore`] is such a store with one hold, which has all words between calls and meets nobody.
 #![tactic(auto)]
 
 mod aborting;

@@ -1,4 +1,4 @@
-//! A store with the one pass that is out, which has all words.
+//! A store whose first hold stays the only one, and has all words between calls.
 ghost use Rattle.std.specs.Prelude.{◌≡◌, ◌*◌, ◌≤◌, [], length, None, IfOk, IfErr};
 ghost use Rattle.cell_page.specs.Format.{IsSlotCount};
 ghost use Rattle.core_store.specs.Frames.{AllAgree};
@@ -13,11 +13,11 @@ use logged_journal::LoggedJournal;
 use std::alloc::Global;
 use std::marker::Model;
 
-/// A store with its first pass, which stays the one that is out. It has all words from call to call, the log's and each page's: so
-/// the journal and all frames stay in its hand, and what a call finds is what the call before left. It works for each client in
-/// turn under that client's number, and tells of each entry by a store to the length word.
+/// A store whose first hold stays the only one. Between calls that has all words, the log's and each page's: so the journal and all
+/// frames stay in its hand. It takes each client's number for its name before it works for that client, and tells of each entry by a
+/// store to the length word.
 ///
-/// A [`crate::Pass`] never keeps a word between calls. This one may, since nobody else is there to meet it.
+/// A [`crate::Pass`] has no word between calls. No pass is made of this store, so nobody is there to meet a word.
 #[derive(Drop)]
 pub struct LoneStore<const SLOTS: usize, D: Disk> {
     pub(crate) store: Store<SLOTS, D>,

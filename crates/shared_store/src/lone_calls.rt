@@ -1,4 +1,4 @@
-//! The calls of a store with the one pass that is out. Each is what the same call of a journal with its frames is.
+//! The calls of a store with one hold. Each does what the same call of a journal with its frames does.
 ghost use Rattle.std.specs.Prelude.{◌≡◌, ◌≢◌, ◌↔◌, ◌⊎◌, ℕ, ◌≤◌, true, length, IsSome, IfSome, IfOk, IfErr, IsErrOf, None};
 ghost use Rattle.disk_model.specs.Time.{LeavesOnlyImages};
 ghost use Rattle.plain_model.specs.Machine.{IsInRange, refusal_of, transaction_of};

@@ -1,4 +1,4 @@
-//! What the one pass that is out does with its hold: it takes the pages of a small store again, and changes its name.
+//! What a hold that is alone does: it claims the pages of a small store again, and changes its name.
 ghost use Rattle.std.specs.Prelude.{◌≡◌, ◌≤◌, []};
 ghost use Rattle.latch_table.specs.Views.{renamed};
 ghost use Rattle.latch_table.specs.Holds.{IsAlone};
