@@ -1,4 +1,4 @@
-//! Upkeep of the log and of the pages, by the one pass that is out.
+//! Upkeep of the log and of the pages of a store whose first hold stays the only one.
 ghost use Rattle.std.specs.Prelude.{◌≡◌, ◌*◌, ◌<◌, ◌≤◌, true, false};
 ghost use Rattle.disk_model.specs.Time.{LeavesOnlyImages};
 ghost use Rattle.logged_journal.specs.Opens.{OpensAfter};
