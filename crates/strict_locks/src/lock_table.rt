@@ -41,7 +41,7 @@ impl LockTable {
     ghost use Rattle.strict_locks.specs.Locks.{holders_of, Holds, IsExclusive, NamesExactly, StandsInWay, StandsInWayOfShare, StandsInWayOfOwn, Nobody, IsLeastOrNone, AddsShare, AddsOwner, DropsAll};
     ghost use Rattle.strict_locks.specs.Refusal.{IsRefusal};
 
-    /// The table without a lock. It takes no memory.
+    /// The table without a lock. Where there is no memory for the first locks yet, each takes its own.
     pub fn new(alloc: Global) -> LockTable
         ensures { result ≡ [] }
     {

@@ -9,6 +9,10 @@ use crate::object_lock::ObjectLock;
 use std::alloc::{AllocError, Global};
 use std::marker::Model;
 
+/// For how many locks room is asked for at the opening, which is as many as a store has ids at most. Memory that holds no lock yet
+/// costs nothing, and no lock is ever copied.
+const FIRST_ROOM: usize = 8_192;
+
 /// The locks of the objects that are held.
 ///
 /// A look-up reads the object's place and compares the id that stands there, so it costs the same however
@@ -78,13 +82,15 @@ impl LockRows {
     ghost use Rattle.strict_locks.specs.RowLends.{LendsLock};
     ghost use Rattle.std.specs.Borrow.{sem};
 
-    /// No object is held. It takes no memory.
+    /// No object is held. Where there is no memory for the first locks yet, each takes its own.
     pub(crate) fn new(alloc: Global) -> LockRows
         ensures { result ≡ [] }
     {
+        let mut locks = Vec::new(alloc);
+        let _ = locks.reserve(FIRST_ROOM);
         LockRows {
             ids: Vec::new(alloc),
-            locks: Vec::new(alloc),
+            locks,
             places: Vec::new(alloc),
         }
     }
