@@ -1,7 +1,6 @@
 -- What each record does to cells whose counts are of no account.
-use Rattle.std.proofs.Common.{◌≡◌, ◌≢◌, ℕ, ◌<◌, ◌≤◌, ◌+◌, Bool, true, false, List, [], ◌∷◌, length, map, drop, get_or, Option, Some, None, refl, sym, ap, subst, ◌∙◌, ⊎_elim, arith}
+use Rattle.std.proofs.Common.{◌≡◌, ◌≢◌, ℕ, ◌<◌, ◌≤◌, Bool, true, false, List, [], ◌∷◌, length, map, Option, Some, None, refl, sym, ap, subst, ◌∙◌, ⊎_elim, arith}
 use Rattle.std.specs.Prelude.{◌==◌, if◌then◌else◌, option_map}
-use Rattle.std.proofs.lemmas.List.{drop_more, drop_all}
 use Rattle.std.proofs.lemmas.Bool.{eqb-true, eqb-false, cases_eq}
 use Rattle.cell_model.specs.Cells.{Cell, edit, relink, pays}
 use Rattle.cell_model.specs.Records.{Undo as UndoRecord, UndoPay as UndoPayRecord, Fits, IsPointer, AllFit, after_record, cells_after}
@@ -46,14 +45,12 @@ step slots first trace rest before after stored None replays e fits ends = recor
 step slots first trace rest before after stored (Some r) replays e fits ends =
     record { stored = after_cell_record slots stored r; same = replays stored e fits.0; fits = fits.1; ends = ends }
 
-pub note-replayed : (slots : ℕ) (first : List Cell) (trace : List Note) (i : ℕ) (note : Note) (before after : List Cell) → i < length trace → note ≡ get_or trace i note
-    → ReplaysNote slots before note.logged after → IsReplayed slots first trace (drop i trace) before → IsReplayed slots first trace (drop (i + 1) trace) after
-note-replayed slots first trace i note before after within is replays was =
-    let next : drop i trace ≡ note ∷ drop (i + 1) trace = drop_more trace i note within ∙ ap (λ (n : Note). n ∷ drop (i + 1) trace) (sym is) in
-    let now : IsReplayed slots first trace (note ∷ drop (i + 1) trace) before = subst (λ (notes : List Note). IsReplayed slots first trace notes before) next was in
-    step slots first trace (drop (i + 1) trace) before after now.stored note.logged replays now.same now.fits now.ends
+pub note-replayed : (slots : ℕ) (first : List Cell) (trace left rest : List Note) (note : Note) (before after : List Cell) → left ≡ note ∷ rest → ReplaysNote slots before note.logged after → IsReplayed slots first trace left before → IsReplayed slots first trace rest after
+note-replayed slots first trace left rest note before after is replays was =
+    let now : IsReplayed slots first trace (note ∷ rest) before = subst (λ (notes : List Note). IsReplayed slots first trace notes before) is was in
+    step slots first trace rest before after now.stored note.logged replays now.same now.fits now.ends
 
-pub all-replayed : (slots : ℕ) (first : List Cell) (trace : List Note) (i : ℕ) (cells : List Cell) → length trace ≤ i → IsReplayed slots first trace (drop i trace) cells → SameButCounts cells (cells_after_notes slots first trace)
-all-replayed slots first trace i cells past was =
-    let none : IsReplayed slots first trace [] cells = subst (λ (notes : List Note). IsReplayed slots first trace notes cells) (drop_all i trace past) was in
+pub all-replayed : (slots : ℕ) (first : List Cell) (trace left : List Note) (cells : List Cell) → left ≡ [] → IsReplayed slots first trace left cells → SameButCounts cells (cells_after_notes slots first trace)
+all-replayed slots first trace left cells is was =
+    let none : IsReplayed slots first trace [] cells = subst (λ (notes : List Note). IsReplayed slots first trace notes cells) is was in
     none.same ∙ ap (λ (cs : List Cell). map uncounted cs) none.ends

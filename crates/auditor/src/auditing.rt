@@ -13,7 +13,7 @@ use crate::difference::{Difference, Differences};
 use crate::replay::{get, replay};
 use crate::report::Report;
 use cell_page::{CELLS_OF_PAGE, Cell, ROOT};
-use core_store::{Frame, Note};
+use core_store::{Frame, Notes};
 use plain_model::Memory;
 use std::alloc::Global;
 
@@ -191,17 +191,17 @@ fn recount<const SLOTS: usize>(
 pub fn audit<const SLOTS: usize>(
     alloc: Global,
     opening: &[Cell<SLOTS>],
-    trace: &[Note],
+    trace: &Notes,
     frames: &[Frame<SLOTS>],
 ) -> Result<Report, Memory>
     requires size { IsSlotCount SLOTS }
     requires few { length frames.now ≤ 1024 }
     requires ids { length opening.now ≡ 8 * length frames.now }
-    requires fits { AllFit SLOTS (store_of opening.now) (logged_in trace.now) }
+    requires fits { AllFit SLOTS (store_of opening.now) (logged_in trace.now.list) }
     requires pages { ArePages frames.now }
-    ensures live { IfOk result (λ r. r.live ≡ live_in (cells_after_notes SLOTS (store_of opening.now) trace.now)) }
-    ensures zero { IfOk result (λ r. r.zero ≡ zero_in (cells_after_notes SLOTS (store_of opening.now) trace.now) (ids_of (length frames.now))) }
-    ensures differences { IfOk result (λ r. r.differences ≡ differences_of (cells_after_notes SLOTS (store_of opening.now) trace.now) frames.now) }
+    ensures live { IfOk result (λ r. r.live ≡ live_in (cells_after_notes SLOTS (store_of opening.now) trace.now.list)) }
+    ensures zero { IfOk result (λ r. r.zero ≡ zero_in (cells_after_notes SLOTS (store_of opening.now) trace.now.list) (ids_of (length frames.now))) }
+    ensures differences { IfOk result (λ r. r.differences ≡ differences_of (cells_after_notes SLOTS (store_of opening.now) trace.now.list) frames.now) }
 {
     let cells = replay(alloc, opening, trace)?;
     recount(alloc, cells.as_slice(), frames)

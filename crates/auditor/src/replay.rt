@@ -14,7 +14,7 @@ ghost use Rattle.auditor.specs.Replay.{SameButCounts, switched_over, Replays, Re
 
 use crate::counts::know_slots;
 use cell_page::Cell;
-use core_store::Note;
+use core_store::{Note, Notes};
 use log_record::{CellRecord, PAYLOAD_PLACE};
 use plain_model::Memory;
 use std::alloc::Global;
@@ -220,14 +220,14 @@ fn copied<const SLOTS: usize>(
 }
 
 /// Changes the cells as the notes' records say.
-fn redo_all<const SLOTS: usize>(cells: &mut [Cell<SLOTS>], trace: &[Note])
+fn redo_all<const SLOTS: usize>(cells: &mut [Cell<SLOTS>], trace: &Notes)
     requires size { IsSlotCount SLOTS }
     requires few { length cells.old ≤ 8193 }
-    requires fits { AllFit SLOTS (map cell_of cells.old) (logged_in trace.now) }
-    ensures { SameButCounts (map cell_of cells.new) (cells_after_notes SLOTS (map cell_of cells.old) trace.now) }
+    requires fits { AllFit SLOTS (map cell_of cells.old) (logged_in trace.now.list) }
+    ensures { SameButCounts (map cell_of cells.new) (cells_after_notes SLOTS (map cell_of cells.old) trace.now.list) }
 {
-    for note in trace {
-        redo_note(cells, note);
+    for note in trace.iter() {
+        redo_note(cells, &note);
     }
 }
 
@@ -235,12 +235,12 @@ fn redo_all<const SLOTS: usize>(cells: &mut [Cell<SLOTS>], trace: &[Note])
 pub(crate) fn replay<const SLOTS: usize>(
     alloc: Global,
     opening: &[Cell<SLOTS>],
-    trace: &[Note],
+    trace: &Notes,
 ) -> Result<Vec<Cell<SLOTS>>, Memory>
     requires size { IsSlotCount SLOTS }
     requires few { length opening.now ≤ 8192 }
-    requires fits { AllFit SLOTS (store_of opening.now) (logged_in trace.now) }
-    ensures cells { IfOk result (λ cells. SameButCounts (map cell_of cells.items) (cells_after_notes SLOTS (store_of opening.now) trace.now)) }
+    requires fits { AllFit SLOTS (store_of opening.now) (logged_in trace.now.list) }
+    ensures cells { IfOk result (λ cells. SameButCounts (map cell_of cells.items) (cells_after_notes SLOTS (store_of opening.now) trace.now.list)) }
     ensures len { IfOk result (λ cells. length cells.items ≡ length opening.now + 1) }
 {
     let mut cells = copied(alloc, opening)?;

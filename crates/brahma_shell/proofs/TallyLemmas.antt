@@ -1,9 +1,7 @@
 -- Counts of entries, one note after another.
-use Rattle.std.proofs.Common.{◌≡◌, ℕ, ◌+◌, ◌<◌, Bool, true, false, List, length, ◌≤◌, get_or, take, Option, sym, ap, subst, ◌∙◌, refl, arith}
+use Rattle.std.proofs.Common.{◌≡◌, ℕ, ◌+◌, Bool, true, false, cond, List, [], ◌∷◌, length, ◌≤◌, Option, ap, subst, ◌∙◌, refl, arith}
 use Rattle.std.specs.Prelude.{count_by}
-use Rattle.std.proofs.Math.ListN.{get_or-map}
-use Rattle.std.proofs.lemmas.List.{length-map}
-use Rattle.std.proofs.lemmas.List.Sums.{count_by_more_yes, count_by_more_no}
+use Rattle.std.proofs.lemmas.List.Sums.{sum_by-cons}
 use Rattle.plain_model.specs.declared.calls.Entry.{Entry}
 use Rattle.core_store.specs.declared.note.Note.{Note}
 use Rattle.brahma_shell.specs.Points.{entries_in}
@@ -13,29 +11,43 @@ use Rattle.brahma_shell.specs.declared.tally.Tally.{Tally}
 use Rattle.brahma_shell.specs.Generated.{tally_text}
 use Rattle.brahma_shell.specs.Tally.{one_if, tally_of, is_commit, is_abort, is_busy, is_deletion}
 
-pub count-more : (p : Entry → Bool) (notes : List Note) (i : ℕ) (d : Note) → i < length notes → count_by p (take (i + 1) (entries_in notes)) ≡ count_by p (take i (entries_in notes)) + one_if (p (get_or notes i d).entry)
-count-more p notes i d within = by (p (get_or notes i d).entry) refl
+-- the first of the notes that are left is counted: those that are counted and those that are left come to as many as before
+pub counted-on : (p : Entry → Bool) (note : Note) (left rest : List Note) (old new whole : ℕ) → left ≡ note ∷ rest → new ≡ old + one_if (p note.entry) → old + count_by p (entries_in left) ≡ whole → new + count_by p (entries_in rest) ≡ whole
+counted-on p note left rest old new whole is now was = by (p note.entry) refl
   where
-    there : i < length (entries_in notes)
-    there = let l = length-map notes (λ (n : Note). n.entry) in omega (arith, l, within)
+    same : count_by p (entries_in left) ≡ count_by p (note.entry ∷ entries_in rest)
+    same = ap (λ (ns : List Note). count_by p (entries_in ns)) is
 
-    cell : get_or (entries_in notes) i d.entry ≡ (get_or notes i d).entry
-    cell = get_or-map (λ (n : Note). n.entry) notes i d
+    parts : count_by p (note.entry ∷ entries_in rest) ≡ cond (p note.entry) 1 0 + count_by p (entries_in rest)
+    parts = sum_by-cons (λ (e : Entry). cond (p e) 1 0) note.entry (entries_in rest)
 
-    by : (b : Bool) → p (get_or notes i d).entry ≡ b → count_by p (take (i + 1) (entries_in notes)) ≡ count_by p (take i (entries_in notes)) + one_if b
-    by true e = let h = count_by_more_yes p (entries_in notes) i d.entry there (ap p cell ∙ e) in omega (arith, h)
-    by false e = let h = count_by_more_no p (entries_in notes) i d.entry there (ap p cell ∙ e) in omega (arith, h)
+    by : (b : Bool) → p note.entry ≡ b → new + count_by p (entries_in rest) ≡ whole
+    by true e =
+        let one : count_by p (entries_in left) ≡ 1 + count_by p (entries_in rest) = same ∙ (parts ∙ ap (λ (b : Bool). cond b 1 0 + count_by p (entries_in rest)) e) in
+        let more : new ≡ old + 1 = now ∙ ap (λ (b : Bool). old + one_if b) e in
+        omega (arith, one, more, was)
+    by false e =
+        let none : count_by p (entries_in left) ≡ 0 + count_by p (entries_in rest) = same ∙ (parts ∙ ap (λ (b : Bool). cond b 1 0 + count_by p (entries_in rest)) e) in
+        let more : new ≡ old + 0 = now ∙ ap (λ (b : Bool). old + one_if b) e in
+        omega (arith, none, more, was)
 
-pub counted-on : (p : Entry → Bool) (notes : List Note) (i : ℕ) (item : Note) (old new : ℕ) → i < length notes → item ≡ get_or notes i item → new ≡ old + one_if (p item.entry) → old ≡ count_by p (take i (entries_in notes)) → new ≡ count_by p (take (i + 1) (entries_in notes))
-counted-on p notes i item old new within is now was =
-    now
-    ∙ ap (λ (n : ℕ). n + one_if (p item.entry)) was
-    ∙ ap (λ (n : Note). count_by p (take i (entries_in notes)) + one_if (p n.entry)) is
-    ∙ sym (count-more p notes i item within)
+-- before the first note nothing is counted, and all are left
+pub counted-none : (p : Entry → Bool) (left notes : List Note) (n : ℕ) → n ≡ 0 → left ≡ notes → n + count_by p (entries_in left) ≡ count_by p (entries_in notes)
+counted-none p left notes n none all = let same = ap (λ (ns : List Note). count_by p (entries_in ns)) all in omega (arith, none, same)
 
-pub few-more : (old new i : ℕ) (b : Bool) → new ≡ old + one_if b → old ≤ i → new ≤ i + 1
-few-more old new i true e l = omega (arith, e, l)
-few-more old new i false e l = omega (arith, e, l)
+pub few-none : (left notes : List Note) (n : ℕ) → n ≡ 0 → left ≡ notes → n + length left ≤ length notes
+few-none left notes n none all = let same = ap (λ (ns : List Note). length ns) all in omega (arith, none, same)
+
+-- where none is left, all are counted
+pub counted-all : (p : Entry → Bool) (left : List Note) (n whole : ℕ) → left ≡ [] → n + count_by p (entries_in left) ≡ whole → n ≡ whole
+counted-all p left n whole none is =
+    let empty = ap (λ (ns : List Note). count_by p (entries_in ns)) none in
+    omega (arith, empty, is)
+
+-- and no more are counted than there are
+pub few-more : (note : Note) (left rest : List Note) (old new whole : ℕ) (b : Bool) → left ≡ note ∷ rest → new ≡ old + one_if b → old + length left ≤ whole → new + length rest ≤ whole
+few-more note left rest old new whole true is e l = let long = ap length is in omega (arith, long, e, l)
+few-more note left rest old new whole false is e l = let long = ap length is in omega (arith, long, e, l)
 
 -- what is written is the line of these entries
 pub told-text : (before now : Option (List ℕ)) (piece : List ℕ) (es whole : List Entry) (t : Tally) (ids stored : List ℕ) → piece ≡ generated_line t.commits t.aborts t.busy t.deleted (length ids)

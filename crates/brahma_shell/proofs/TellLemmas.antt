@@ -1,10 +1,10 @@
 -- What is written behind a run of clients.
-use Rattle.std.proofs.Common.{◌≡◌, ℕ, zero, suc, ◌+◌, ◌<◌, ◌≤◌, List, [], ◌∷◌, ◌++◌, length, take, drop, get_or, Option, Some, None, Result, Ok, Err, refl, sym, ap, subst, ◌∙◌, arith}
+use Rattle.std.proofs.Common.{◌≡◌, ◌≤◌, ℕ, List, [], ◌∷◌, ◌++◌, Option, Some, None, Result, Ok, Err, refl, sym, ap, subst, ◌∙◌, arith}
 use Rattle.std.specs.Prelude.{IfErr, OnOk}
 use Rattle.std.specs.List.{AllByRecursion}
 use Rattle.std.specs.Option.{option_map_or, option_and_then}
 use Rattle.std.specs.Io.KnownBytes.{Appends}
-use Rattle.std.proofs.lemmas.List.{append-nil, map-append, take_more, take-append-drop}
+use Rattle.std.proofs.lemmas.List.{append-nil, append_assoc, map-append}
 use Rattle.plain_model.specs.declared.calls.Call.TheVariants.{Commit}
 use Rattle.plain_model.specs.declared.calls.Reply.TheVariants.{DiskFault}
 use Rattle.plain_model.specs.declared.calls.Entry.{Entry}
@@ -82,31 +82,26 @@ text-failed o f client e is = ap failed_text e ∙ ap (λ (c : Option ℕ). opti
 
 -- ---- notes, one after another
 
--- the next note's entry behind those of the first notes
-entries-more : (notes : List Note) (i : ℕ) (item : Note) → i < length notes → item ≡ get_or notes i item → entries_in (take (i + 1) notes) ≡ entries_in (take i notes) ++ item.entry ∷ []
-entries-more notes i item within is =
-    ap entries_in (take_more notes i item within) ∙ map-append (λ (n : Note). n.entry) (take i notes) (get_or notes i item ∷ [])
-    ∙ ap (λ (n : Note). entries_in (take i notes) ++ n.entry ∷ []) (sym is)
+-- the first of the notes that are left is of no crash
+pub no-crash_first : (note : Note) (left rest : List Note) → left ≡ note ∷ rest → AllByRecursion IsNoCrash (entries_in left) → IsNoCrash note.entry × AllByRecursion IsNoCrash (entries_in rest)
+no-crash_first note left rest is all = subst (λ (ns : List Note). AllByRecursion IsNoCrash (entries_in ns)) is all
 
-pub no-crash_at : (notes : List Note) (i : ℕ) (item : Note) → i < length notes → item ≡ get_or notes i item → AllByRecursion IsNoCrash (entries_in notes) → IsNoCrash item.entry
-no-crash_at [] i item within is all = absurd (omega (arith, within))
-no-crash_at (n ∷ notes) zero item within is all = subst (λ (m : Note). IsNoCrash m.entry) (sym is) all.0
-no-crash_at (n ∷ notes) (suc i) item within is all = no-crash_at notes i item (omega (arith, within)) is all.1
+-- the next note's line behind those of the notes before
+text-more : (done : List Note) (note : Note) → text_of (entries_in (done ++ note ∷ [])) ≡ text_of (entries_in done) ++ line_of note.entry
+text-more done note = ap text_of (map-append (λ (n : Note). n.entry) done (note ∷ [])) ∙ entries-next (entries_in done) note.entry
 
-pub text-more : (notes : List Note) (i : ℕ) (item : Note) → i < length notes → item ≡ get_or notes i item → text_of (entries_in (take (i + 1) notes)) ≡ text_of (entries_in (take i notes)) ++ line_of item.entry
-text-more notes i item within is = ap text_of (entries-more notes i item within is) ∙ entries-next (entries_in (take i notes)) item.entry
-
--- the next note's line was written behind those of the first notes
-pub appends-more : (old mid new : Option (List ℕ)) (notes : List Note) (i : ℕ) (item : Note) → i < length notes → item ≡ get_or notes i item → Appends old mid (text_of (entries_in (take i notes))) → Appends mid new (line_of item.entry) → Appends old new (text_of (entries_in (take (i + 1) notes)))
-appends-more old mid new notes i item within is a b = subst (Appends old new) (sym (text-more notes i item within is)) (Appends-trans old mid new (text_of (entries_in (take i notes))) (line_of item.entry) a b)
+-- the next note's line was written behind those of the notes before
+pub appends-more : (old mid new : Option (List ℕ)) (done : List Note) (note : Note) → Appends old mid (text_of (entries_in done)) → Appends mid new (line_of note.entry) → Appends old new (text_of (entries_in (done ++ note ∷ [])))
+appends-more old mid new done note a b = subst (Appends old new) (sym (text-more done note)) (Appends-trans old mid new (text_of (entries_in done)) (line_of note.entry) a b)
 
 -- or a front of it, so a front of all lines
-pub front-more : (old mid new : Option (List ℕ)) (notes : List Note) (i : ℕ) (item : Note) → i < length notes → item ≡ get_or notes i item → Appends old mid (text_of (entries_in (take i notes))) → AppendsFront mid new (line_of item.entry) → AppendsFront old new (text_of (entries_in notes))
-front-more old mid new notes i item within is a b =
-    let now : AppendsFront old new (text_of (entries_in (take (i + 1) notes))) = subst (AppendsFront old new) (sym (text-more notes i item within is)) (AppendsFront-after old mid new (text_of (entries_in (take i notes))) (line_of item.entry) a b) in
-    let all : text_of (entries_in (take (i + 1) notes)) ++ text_of (entries_in (drop (i + 1) notes)) ≡ text_of (entries_in notes) =
-    sym (text_of-append (entries_in (take (i + 1) notes)) (entries_in (drop (i + 1) notes))) ∙ ap text_of (sym (map-append (λ (n : Note). n.entry) (take (i + 1) notes) (drop (i + 1) notes))) ∙ ap (λ (ns : List Note). text_of (entries_in ns)) (take-append-drop (i + 1) notes) in
-    subst (AppendsFront old new) all (AppendsFront-longer old new (text_of (entries_in (take (i + 1) notes))) (text_of (entries_in (drop (i + 1) notes))) now)
+pub front-more : (old mid new : Option (List ℕ)) (done left rest notes : List Note) (note : Note) → done ++ left ≡ notes → left ≡ note ∷ rest → Appends old mid (text_of (entries_in done)) → AppendsFront mid new (line_of note.entry) → AppendsFront old new (text_of (entries_in notes))
+front-more old mid new done left rest notes note whole is a b =
+    let now : AppendsFront old new (text_of (entries_in (done ++ note ∷ []))) = subst (AppendsFront old new) (sym (text-more done note)) (AppendsFront-after old mid new (text_of (entries_in done)) (line_of note.entry) a b) in
+    let parts : (done ++ note ∷ []) ++ rest ≡ notes = append_assoc done (note ∷ []) rest ∙ (ap (λ (ns : List Note). done ++ ns) (sym is) ∙ whole) in
+    let all : text_of (entries_in (done ++ note ∷ [])) ++ text_of (entries_in rest) ≡ text_of (entries_in notes) =
+    sym (text_of-append (entries_in (done ++ note ∷ [])) (entries_in rest)) ∙ ap text_of (sym (map-append (λ (n : Note). n.entry) (done ++ note ∷ []) rest)) ∙ ap (λ (ns : List Note). text_of (entries_in ns)) parts in
+    subst (AppendsFront old new) all (AppendsFront-longer old new (text_of (entries_in (done ++ note ∷ []))) (text_of (entries_in rest)) now)
 
 -- a front of the notes' lines is one of the history's lines
 pub front-all : {D : Type 0} (v : LoggedView D) (notes : List Note) (old new : Option (List ℕ)) → entries_in notes ≡ v.journal.history.entries → AppendsFront old new (text_of (entries_in notes)) → AppendsFront old new (text_of (history_of v).entries)

@@ -22,7 +22,7 @@ ghost use Rattle.brahma_shell.specs.Log.{WasLogFull};
 
 use auditor::{Report, audit_journal};
 use cell_page::CELLS_OF_PAGE;
-use core_store::{Frame, Limits, Note};
+use core_store::{Frame, Limits, Notes};
 use disk_model::Disk;
 use framed_journal::FramedJournal;
 use journal_opening::open;
@@ -66,8 +66,8 @@ impl<D: Disk> OpenedStore<D> {
     }
 
     /// What happened so far, and what each of its events logged.
-    pub(crate) fn history(&self) -> &[Note]
-        ensures notes { result.now ≡ self.now.journal.notes }
+    pub(crate) fn history(&self) -> &Notes
+        ensures notes { result.now.list ≡ self.now.journal.notes }
         ensures legal { IsLegal self.now.journal.history }
         ensures running { is_stopped (end_of self.now.journal.history) ≡ false }
         ensures serializable { IsSerializable self.now.journal.history }

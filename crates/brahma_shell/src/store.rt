@@ -26,7 +26,7 @@ ghost use Rattle.brahma_shell.specs.Rest.{StaysQuiet};
 
 use crate::opened::{OpenedStore, SLOTS};
 use cell_page::CELLS_OF_PAGE;
-use core_store::{AbortStep, Collect, Note};
+use core_store::{AbortStep, Collect, Notes};
 use disk_model::Disk;
 use logged_journal::{CollectRefusal, LoggedJournal, Stopped, Upkeep};
 use plain_model::{Call, Entry, Ids, Memory, Reply};
@@ -72,8 +72,8 @@ impl<D: Disk> Store<D> {
     }
 
     /// What happened so far, and what each of its events logged.
-    pub(crate) fn history(&self) -> &[Note]
-        ensures notes { result.now ≡ self.now.journal.notes }
+    pub(crate) fn history(&self) -> &Notes
+        ensures notes { result.now.list ≡ self.now.journal.notes }
         ensures legal { IsLegal self.now.journal.history }
         ensures running { is_stopped (end_of self.now.journal.history) ≡ false }
         ensures serializable { IsSerializable self.now.journal.history }

@@ -3,7 +3,7 @@ ghost use Rattle.std.specs.Prelude.{◌≡◌, ◌+◌, ◌-◌, ◌^◌, count_
 ghost use Rattle.brahma_shell.specs.Points.{entries_in};
 ghost use Rattle.brahma_shell.specs.Tally.{no_tally, one_if, IsSmall, is_commit, is_abort, is_busy, is_deletion};
 
-use core_store::Note;
+use core_store::Notes;
 use plain_model::{Call, Entry, Reply};
 
 /// How many entries of a history are of these kinds.
@@ -105,14 +105,16 @@ fn one_if(so: bool) -> u64
 }
 
 /// What the notes' entries come to.
-pub(crate) fn tally_of(notes: &[Note]) -> Tally
-    ensures commits { result.commits ≡ count_by is_commit (entries_in notes.now) }
-    ensures aborts { result.aborts ≡ count_by is_abort (entries_in notes.now) }
-    ensures busy { result.busy ≡ count_by is_busy (entries_in notes.now) }
-    ensures deleted { result.deleted ≡ count_by is_deletion (entries_in notes.now) }
+pub(crate) fn tally_of(notes: &Notes) -> Tally
+    ensures commits { result.commits ≡ count_by is_commit (entries_in notes.now.list) }
+    ensures aborts { result.aborts ≡ count_by is_abort (entries_in notes.now.list) }
+    ensures busy { result.busy ≡ count_by is_busy (entries_in notes.now.list) }
+    ensures deleted { result.deleted ≡ count_by is_deletion (entries_in notes.now.list) }
 {
     let mut tally = Tally::new();
-    for note in notes {
+    // No more are counted than there are.
+    let _ = notes.len();
+    for note in notes.iter() {
         tally = tally.with(&note.entry);
     }
     tally

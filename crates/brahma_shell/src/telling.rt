@@ -12,7 +12,7 @@ ghost use Rattle.brahma_shell.specs.Telling.{IsNoCrash, failed_text};
 use crate::opened::SLOTS;
 use crate::replay::{Stop, print};
 use crate::status::{DONE, OUT_OF_MEMORY, WRITE_FAULT};
-use core_store::Note;
+use core_store::Notes;
 use disk_model::Disk;
 use logged_journal::{FailedCall, LoggedJournal};
 use outside_io::Sink;
@@ -55,15 +55,15 @@ fn print_entry<W: Sink>(out: &mut W, entry: &Entry) -> Result<(), Stop>
 }
 
 /// Writes the lines of the notes' entries, each as one piece.
-fn print_notes<W: Sink>(out: &mut W, notes: &[Note]) -> Result<(), Stop>
-    requires { AllByRecursion IsNoCrash (entries_in notes.now) }
-    ensures ok { OnOk result (Appends (W.written out.old) (W.written out.new) (text_of (entries_in notes.now))) }
+fn print_notes<W: Sink>(out: &mut W, notes: &Notes) -> Result<(), Stop>
+    requires { AllByRecursion IsNoCrash (entries_in notes.now.list) }
+    ensures ok { OnOk result (Appends (W.written out.old) (W.written out.new) (text_of (entries_in notes.now.list))) }
     ensures err { IfErr result (λ s. (s ≡ Stop.Write)
-        × AppendsFront (W.written out.old) (W.written out.new) (text_of (entries_in notes.now))
+        × AppendsFront (W.written out.old) (W.written out.new) (text_of (entries_in notes.now.list))
         × Rose (W.faults out.old) (W.faults out.new)) }
     ensures later { W.faults out.old ≤ W.faults out.new }
 {
-    'notes: for note in notes {
+    'notes: for note in notes.iter() {
         match print_entry(out, &note.entry) {
             Ok(()) => {}
             Err(stop) => return Err(stop),

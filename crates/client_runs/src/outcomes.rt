@@ -9,7 +9,7 @@ ghost use Rattle.client_runs.specs.Ready.{MayAllStart};
 use crate::made::{closed, store_on};
 use auditor::audit;
 use client_pass::{ClientScript, Gate, RunEnd, run_all};
-use core_store::{Frame, Note};
+use core_store::{Frame, Notes};
 use disk_model::Disk;
 use logged_journal::LoggedJournal;
 use plain_model::{Call, Entry, Ids, Reply};
@@ -60,13 +60,13 @@ fn count(counts: &mut Counts, entry: &Entry) {
 }
 
 /// Counts the entries.
-fn counts_of(notes: &[Note]) -> Counts {
+fn counts_of(notes: &Notes) -> Counts {
     let mut counts = Counts {
         calls: 0,
         busy: 0,
         aborts: 0,
     };
-    'notes: for note in notes {
+    'notes: for note in notes.iter() {
         count(&mut counts, &note.entry);
     }
     counts

@@ -1,14 +1,12 @@
 -- What the tables of a journal ask for before they work.
 use Rattle.std.proofs.Common.{◌≡◌, ℕ, ◌+◌, ◌<◌, ◌≤◌, List, [], map, length, true, false, refl, sym, ap, ◌∙◌, subst, arith}
 use Rattle.std.specs.Prelude.{Option}
-use Rattle.std.specs.List.{AllByRecursion}
 use Rattle.std.specs.Option.{option_map_or}
 use Rattle.plain_model.specs.declared.calls.Call.{Call as TransactionCall}
 use Rattle.plain_model.specs.declared.calls.Entry.{Entry}
 use Rattle.plain_model.specs.History.{start_of, end_of, moment_after}
 use Rattle.std.proofs.lemmas.Bool.Decides.{nat_tests}
 use Rattle.std.proofs.lemmas.List.{length-map, append-nil}
-use Rattle.cell_page.specs.Format.{page_of_id}
 use Rattle.core_store.specs.declared.journal.Journal.TheInside.{Inside}
 use Rattle.core_store.specs.declared.note.Note.{Note}
 use Rattle.core_store.specs.declared.three.HeldFrame.{HeldFrame}

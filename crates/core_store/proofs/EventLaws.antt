@@ -78,7 +78,7 @@ told-left a (Some (logs.CutDead x slot target strong)) left told e = cc
 told-left a (Some (logs.Free x)) left told e = cc
 
 -- the journal grew by the note that was entered where room was taken for it before
-pub entered : {slots : ℕ} (a b : Inside slots) (taken : Trace) (event : Act) (logged : Option CellRecord) → b.opening ≡ a.opening → taken.notes.items ≡ a.trace.notes.items → (taken.limits ≡ a.trace.limits) × (taken.marks ≡ a.trace.marks) → IsNoted taken b.trace event logged (left_of slots b.tables.round.view)
+pub entered : {slots : ℕ} (a b : Inside slots) (taken : Trace) (event : Act) (logged : Option CellRecord) → b.opening ≡ a.opening → taken.notes.list ≡ a.trace.notes.list → (taken.limits ≡ a.trace.limits) × (taken.marks ≡ a.trace.marks) → IsNoted taken b.trace event logged (left_of slots b.tables.round.view)
     → Grows a b (collector_note event logged (left_of slots b.tables.round.view))
 entered {slots} a b taken event logged opening items rest n = record {
   opening = opening;

@@ -35,7 +35,7 @@ use Rattle.core_store.specs.Transactions.{Running, running_at}
 use Rattle.core_store.specs.Stands.{Matches, Stands}
 use Rattle.core_store.proofs.LedLaws.{AreLed-push, references-push, last_left-push, left-told}
 use Rattle.core_store.specs.Clients.{AreNumbered, IsNumbered}
-use Rattle.core_store.specs.Spelled.{AreSpelled, AreOfIds, IsOfIds}
+use Rattle.core_store.specs.Spelled.{IsOfIds}
 use Rattle.core_store.specs.RedWalks.{RedWalk, no_walk, walk_after, IsOver, is_first_copy}
 use Rattle.core_store.specs.RedCursor.{IsRedWalk, red_of}
 use Rattle.core_store.proofs.RedNotes.{walk-push, AreWalked-push}

@@ -1,6 +1,6 @@
 -- A journal after looks of its collector at which there was nothing to do.
 use Rattle.std.proofs.Common.{◌≡◌, ℕ, ◌+◌, ◌<◌, ◌≤◌, true, List, length, sym, ap, ◌∙◌, subst, arith, ⊎_elim}
-use Rattle.std.specs.Prelude.{◌⊎◌, vec_len, vec_capacity}
+use Rattle.std.specs.Prelude.{◌⊎◌}
 use Rattle.store_model.specs.Core.{Core, Round}
 use Rattle.restart_laws.specs.Restartable.{IsRestartable}
 use Rattle.std.proofs.Common.{Option}
@@ -86,8 +86,8 @@ module _ {slots : ℕ} (a : Inside slots) (t : Tables slots) (now : JournalView)
   looked-sound = record {
     keeps = subst (λ j. Keeps j (tables_of t)) (sym seen) (Keeps-looked (view_of a) (tables_of a.tables) (tables_of t) s.keeps stands_a (passes (core_of (view_of a)) s.keeps.stands agree_a) most);
     placed = subst (λ n. AreByIds n a.opening.items) (sym looked-ids) s.placed;
-    room = subst (λ (n : ℕ). vec_len a.trace.notes + n ≤ vec_capacity a.trace.notes) (sym owed) s.room;
-    reserved = subst (λ (n : ℕ). a.trace.reserved ≡ true → (vec_len a.trace.notes + n + 1 ≤ vec_capacity a.trace.notes) × (length a.trace.notes.items + n + 1 ≤ a.trace.limits.trace)) (sym owed) s.reserved;
+    room = subst (λ (n : ℕ). length a.trace.notes.list + n ≤ a.trace.notes.room) (sym owed) s.room;
+    reserved = subst (λ (n : ℕ). a.trace.reserved ≡ true → (length a.trace.notes.list + n + 1 ≤ a.trace.notes.room) × (length a.trace.notes.list + n + 1 ≤ a.trace.limits.trace)) (sym owed) s.reserved;
   }
 
   pub looked-view : view_of looked ≡ record now { round = t.round.view }

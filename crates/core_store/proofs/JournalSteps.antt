@@ -1,6 +1,6 @@
 -- A journal whose trace has grown by one note.
 use Rattle.std.proofs.Common.{◌≡◌, ℕ, ◌+◌, ◌≤◌, false, List, [], ◌∷◌, ◌++◌, sym, ap, ◌∙◌, subst, map}
-use Rattle.std.specs.Prelude.{vec_len, vec_capacity}
+use Rattle.std.specs.Prelude.{length}
 use Rattle.std.proofs.lemmas.List.{map-append}
 use Rattle.plain_model.proofs.StepLaws.{end_of-ids}
 use Rattle.cell_model.specs.Cells.{Cell as StoredCell}
@@ -29,12 +29,12 @@ pub record Grows {slots : ℕ} (a b : Inside slots) (n : Note) : Type 0 where
   pub limits : b.trace.limits ≡ a.trace.limits
   pub marks : b.trace.marks ≡ a.trace.marks
   pub reserved : b.trace.reserved ≡ false
-  pub trace : b.trace.notes.items ≡ a.trace.notes.items ++ n ∷ []
+  pub trace : b.trace.notes.list ≡ a.trace.notes.list ++ n ∷ []
   pub left : n.left ≡ left_of slots b.tables.round.view
 
 -- the journal has this note more and stands for this now, and the held pages are those of its cells
 pub record HasGrown {slots : ℕ} (b : Inside slots) (now : JournalView) (held new : List (HeldFrame slots)) (n : Note) (d : Core) : Type 0 where
-  pub sound : vec_len b.trace.notes + b.tables.owed ≤ vec_capacity b.trace.notes → IsJournalInside b
+  pub sound : length b.trace.notes.list + b.tables.owed ≤ b.trace.notes.room → IsJournalInside b
   pub view_is : view_of b ≡ grown now n b.tables.queue.ids b.tables.round.view
   pub core_is : core_of (view_of b) ≡ d
   pub agree : Agree (cells_of (view_of b)) new
@@ -47,8 +47,8 @@ module _ {slots : ℕ} (a b : Inside slots) (n : Note) (d : Core) (s : IsJournal
   pub grown-ids : b.tables.ids ≡ a.tables.ids
   grown-ids = ids-same (grown (view_of a) n b.tables.queue.ids b.tables.round.view) (tables_of b.tables) keeps
 
-  entries : map (λ (x : Note). x.entry) b.trace.notes.items ≡ map (λ (x : Note). x.entry) a.trace.notes.items ++ n.entry ∷ []
-  entries = ap (map (λ (x : Note). x.entry)) g.trace ∙ map-append (λ (x : Note). x.entry) a.trace.notes.items (n ∷ [])
+  entries : map (λ (x : Note). x.entry) b.trace.notes.list ≡ map (λ (x : Note). x.entry) a.trace.notes.list ++ n.entry ∷ []
+  entries = ap (map (λ (x : Note). x.entry)) g.trace ∙ map-append (λ (x : Note). x.entry) a.trace.notes.list (n ∷ [])
 
   placed : AreByIds b.tables.ids b.opening.items
   placed = subst (λ o. AreByIds b.tables.ids o.items) (sym g.opening) (subst (λ n. AreByIds n a.opening.items) (sym grown-ids) s.placed)

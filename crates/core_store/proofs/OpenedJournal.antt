@@ -107,17 +107,17 @@ seen_of slots ids cells notes limits queue round =
 
 -- a trace with these limits, no marks and nothing reserved is seen so
 trace-new : {slots : ℕ} (ids : ℕ) (cells : List (PageCell slots)) (t : Trace) (limits : Limits) (queue : List ℕ) (round : RoundView) → t.limits ≡ limits → t.marks ≡ no_marks → t.reserved ≡ false
-    → (let j : JournalView = record { history = record { ids = ids; slots = slots; opening = graph_of (store_of cells); entries = map (λ n. n.entry) t.notes.items }; opening = store_of cells; notes = t.notes.items; limits = t.limits; marks = t.marks; queue = queue; round = round; reserved = t.reserved } in j)
-    ≡ seen_of slots ids (store_of cells) t.notes.items limits queue round
+    → (let j : JournalView = record { history = record { ids = ids; slots = slots; opening = graph_of (store_of cells); entries = map (λ n. n.entry) t.notes.list }; opening = store_of cells; notes = t.notes.list; limits = t.limits; marks = t.marks; queue = queue; round = round; reserved = t.reserved } in j)
+    ≡ seen_of slots ids (store_of cells) t.notes.list limits queue round
 trace-new ids cells t limits queue round l m k = cc
 
 -- and with no note, and tables of an opening, as one that has just opened
-pub opened-seen : {slots : ℕ} (ids : ℕ) (cells opening : List (PageCell slots)) (t : Trace) (limits : Limits) (seen : ℕ) (queue : List ℕ) (round : RoundView) → t.limits ≡ limits → t.marks ≡ no_marks → t.reserved ≡ false → t.notes.items ≡ [] → opening ≡ cells → seen ≡ ids → queue ≡ zeros_of (store_of cells) → round ≡ Closed
-    → (let j : JournalView = record { history = record { ids = seen; slots = slots; opening = graph_of (store_of opening); entries = map (λ n. n.entry) t.notes.items }; opening = store_of opening; notes = t.notes.items; limits = t.limits; marks = t.marks; queue = queue; round = round; reserved = t.reserved } in j)
+pub opened-seen : {slots : ℕ} (ids : ℕ) (cells opening : List (PageCell slots)) (t : Trace) (limits : Limits) (seen : ℕ) (queue : List ℕ) (round : RoundView) → t.limits ≡ limits → t.marks ≡ no_marks → t.reserved ≡ false → t.notes.list ≡ [] → opening ≡ cells → seen ≡ ids → queue ≡ zeros_of (store_of cells) → round ≡ Closed
+    → (let j : JournalView = record { history = record { ids = seen; slots = slots; opening = graph_of (store_of opening); entries = map (λ n. n.entry) t.notes.list }; opening = store_of opening; notes = t.notes.list; limits = t.limits; marks = t.marks; queue = queue; round = round; reserved = t.reserved } in j)
     ≡ opened_view slots ids (store_of cells) limits
 opened-seen {slots} ids cells opening t limits seen queue round l m k n o i q r =
     trace-new seen opening t limits queue round l m k
-    ∙ (ap (λ (cs : List (PageCell slots)). seen_of slots seen (store_of cs) t.notes.items limits queue round) o
+    ∙ (ap (λ (cs : List (PageCell slots)). seen_of slots seen (store_of cs) t.notes.list limits queue round) o
     ∙ (ap (λ (ns : List Note). seen_of slots seen (store_of cells) ns limits queue round) n
     ∙ (ap (λ (k : List ℕ). seen_of slots seen (store_of cells) [] limits k round) q
     ∙ (ap (λ (k : RoundView). seen_of slots seen (store_of cells) [] limits (zeros_of (store_of cells)) k) r

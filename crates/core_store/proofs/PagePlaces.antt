@@ -2,7 +2,7 @@
 use Rattle.std.proofs.Common.{◌≡◌, ℕ, zero, suc, ◌+◌, ◌<◌, true, false, List, [], ◌∷◌, length, map, get_or, set, take, refl, sym, ap, subst, ◌∙◌, arith}
 use Rattle.std.specs.Prelude.{◌==◌}
 use Rattle.std.proofs.Math.Seq.{take-set-lt}
-use Rattle.std.proofs.lemmas.List.{length-take, get_or-take, length-set}
+use Rattle.std.proofs.lemmas.List.{length-take, get_or-take}
 use Rattle.std.proofs.lemmas.List.Elements.{All-from_recursion}
 use Rattle.cell_model.specs.Cells.{Cell as StoredCell, cell_at, is_live, edit}
 use Rattle.cell_page.specs.declared.cell.Cell.{Cell}
@@ -12,7 +12,7 @@ use Rattle.cell_page.proofs.Pages.{place_within}
 use Rattle.cell_page.proofs.HeldPages.{held_cell, stored-held, HoldsPage-edited, stored-edited}
 use Rattle.core_store.specs.declared.three.HeldFrame.{HeldFrame}
 use Rattle.core_store.specs.Frames.{pages_held, is_held, Agree}
-use Rattle.core_store.proofs.PageLaws.{id-low, id-high, AreOnce-pages, Agree-edit}
+use Rattle.core_store.proofs.PageLaws.{id-low, id-high}
 
 -- the place of a page is within the frames
 pub held-within : {slots : ℕ} (hs : List (HeldFrame slots)) (k page : ℕ) → is_held hs page ≡ true

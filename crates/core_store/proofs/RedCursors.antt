@@ -1,20 +1,18 @@
 -- The walk of the tables keeps up with the red walk of the notes.
-use Rattle.std.proofs.Common.{◌≡◌, ◌≢◌, ℕ, ◌+◌, ◌<◌, ◌≤◌, List, [], ◌∷◌, ◌++◌, length, get_or, Bool, true, false, not, ◌⊎◌, inl, inr, ⊎_elim, refl, sym, ap, ◌∙◌, subst, Option, Some, None, arith}
-use Rattle.std.specs.Prelude.{◌==◌, ◌&&◌, ◌||◌, if◌then◌else◌, fold, slice_index, Contains, IfSome, filter, unwrap_or}
+use Rattle.std.proofs.Common.{◌≡◌, ◌≢◌, ℕ, ◌+◌, ◌<◌, ◌≤◌, List, [], ◌∷◌, ◌++◌, length, Bool, true, false, ◌⊎◌, inl, inr, ⊎_elim, refl, sym, ap, ◌∙◌, subst, Option, Some, None, arith}
+use Rattle.std.specs.Prelude.{◌==◌, ◌&&◌, ◌||◌, if◌then◌else◌, fold, slice_index, Contains, filter}
 use Rattle.std.proofs.lemmas.Bool.{cases_eq, cases_lt, eqb-true}
 use Rattle.std.proofs.lemmas.List.{get_or_default, get_or_append_left, get_or_past}
-use Rattle.cell_model.specs.Cells.{Cell, Pointer, null, cell_at, pointer_at, is_live}
+use Rattle.cell_model.specs.Cells.{Cell, null, cell_at, pointer_at, is_live}
 use Rattle.cell_model.specs.Consistent.{AreConsistent}
-use Rattle.store_model.specs.Core.{Core, Round}
 use Rattle.store_model.proofs.Lists.{Contains-here, Contains-later}
 use Rattle.red_walk.specs.declared.red_at.RedAt.{RedAt}
 use Rattle.red_walk.specs.declared.red_at.RedAt.TheVariants as red
-use Rattle.red_walk.specs.Walk.{Walk, next, moved, joined_by, is_open, touched_at}
+use Rattle.red_walk.specs.Walk.{Walk, next, moved, joined_by, is_open}
 use Rattle.red_walk.proofs.Members.{has-Contains}
-use Rattle.red_walk.proofs.WalkLaws.{look-at, copy-place}
+use Rattle.red_walk.proofs.WalkLaws.{look-at}
 use Rattle.ref_tables.specs.Queue.{has}
-use Rattle.green_walk.specs.Greening.{Greening}
-use Rattle.green_walk.specs.Sweeping.{SweepState as Sweep, next as next_of_sweep, found}
+use Rattle.green_walk.specs.Sweeping.{next as next_of_sweep, found}
 use Rattle.green_walk.specs.declared.sweep.SweepAt.{SweepAt}
 use Rattle.green_walk.specs.declared.sweep.SweepAt.TheVariants as sweep
 use Rattle.green_walk.specs.declared.sweep.Found.TheVariants.{Nothing}
@@ -22,10 +20,9 @@ use Rattle.log_record.specs.declared.cell_record.CellRecord.{CellRecord}
 use Rattle.log_record.specs.declared.cell_record.CellRecord.TheVariants as logs
 use Rattle.log_record.specs.Records.{FitsCells, after_cell_record}
 use Rattle.core_store.specs.Changes.{is_counted_strong}
-use Rattle.core_store.specs.RedWalks.{RedWalk, with_record, IsOver}
-use Rattle.core_store.specs.RedCursor.{IsBehind, IsAtCursor, IsRedWalk}
-use Rattle.core_store.specs.RoundView.{RoundView, Closed, Walking, Sweeping, asked, asked_by_walk, is_event, next_slot, looked_past, passed_by_sweep, touched_in, touched_by_record, Passes, none, more}
-use Rattle.core_store.specs.Touched.{objects_touched}
+use Rattle.core_store.specs.RedWalks.{RedWalk, with_record}
+use Rattle.core_store.specs.RedCursor.{IsBehind, IsRedWalk}
+use Rattle.core_store.specs.RoundView.{RoundView, Closed, Walking, Sweeping, asked, asked_by_walk, is_event, looked_past, passed_by_sweep, touched_in, Passes, none, more}
 use Rattle.core_store.proofs.LeftLaws.{look-asked}
 use Rattle.core_store.proofs.ReadyRound.{look-slot}
 use Rattle.core_store.proofs.RedStrengths.{IsByClient, Writes, IsStrong, no-both, client-strong}

@@ -1,36 +1,33 @@
 -- What the events of a journal leave of the red walk.
-use Rattle.std.proofs.Common.{◌≡◌, ℕ, ◌+◌, ◌<◌, ◌≤◌, List, [], ◌∷◌, ◌++◌, length, Bool, true, false, not, ◌⊎◌, inl, inr, ⊎_elim, refl, sym, ap, ◌∙◌, subst, Option, Some, None, arith}
+use Rattle.std.proofs.Common.{◌≡◌, ℕ, ◌+◌, ◌<◌, List, [], ◌∷◌, ◌++◌, Bool, true, false, not, inl, ⊎_elim, refl, sym, ap, ◌∙◌, subst, Option, Some, None, arith}
 use Rattle.std.specs.Prelude.{◌==◌, ◌&&◌, if◌then◌else◌, slice_index, Contains, IfSome, unwrap_or}
 use Rattle.std.specs.Option.{option_map_or}
 use Rattle.std.proofs.lemmas.List.{get_or_default}
 use Rattle.plain_model.specs.Graphs.{root}
-use Rattle.cell_model.specs.Cells.{Cell, cell_at, pointer_at, is_live}
+use Rattle.cell_model.specs.Cells.{Cell, cell_at, is_live}
 use Rattle.cell_model.specs.Consistent.{AreConsistent}
 use Rattle.store_model.specs.Core.{Core, Round}
 use Rattle.store_model.specs.Steps.{with_listed}
-use Rattle.store_model.specs.Sound.{in_round}
 use Rattle.red_walk.specs.declared.red_at.RedAt.TheVariants as red
 use Rattle.red_walk.specs.Walk.{Walk, next, moved, joined_by}
 use Rattle.red_walk.specs.Rounds.{round_of as walked}
 use Rattle.red_walk.proofs.WalkLaws.{look-at, copy-place}
 use Rattle.ref_tables.specs.Queue.{has}
-use Rattle.green_walk.specs.Sweeping.{SweepState as Sweep, found}
-use Rattle.green_walk.specs.Greening.{Greening}
+use Rattle.green_walk.specs.Sweeping.{found}
 use Rattle.green_walk.specs.declared.sweep.Found.TheVariants.{Nothing}
 use Rattle.log_record.specs.declared.cell_record.CellRecord.{CellRecord}
 use Rattle.log_record.specs.declared.cell_record.CellRecord.TheVariants as logs
 use Rattle.log_record.specs.Records.{FitsCells, after_cell_record}
 use Rattle.core_store.specs.declared.act.Act.{Act}
 use Rattle.core_store.specs.declared.act.Act.TheVariants as act
-use Rattle.core_store.specs.declared.note.Note.{Note}
 use Rattle.core_store.specs.declared.three.HeldFrame.{HeldFrame}
-use Rattle.core_store.specs.Changes.{is_counted_strong, has_no_strong}
+use Rattle.core_store.specs.Changes.{has_no_strong}
 use Rattle.core_store.specs.Collecting.{Collected}
-use Rattle.core_store.specs.Collects.{Collects, is_let_go, Weakens, WeakensInto, entry_of}
+use Rattle.core_store.specs.Collects.{is_let_go, Weakens, WeakensInto, entry_of}
 use Rattle.core_store.specs.Logged.{after_logged}
 use Rattle.core_store.specs.RedWalks.{RedWalk, joins, with_record, walk_after, IsOver, is_first_copy}
-use Rattle.core_store.specs.RedCursor.{IsBehind, IsAtCursor, IsRedWalk}
-use Rattle.core_store.specs.RoundView.{RoundView, Closed, Walking, Sweeping, round_of, next_slot, IsWalking, IsInStep, touched_by_record, Proceeds, skip, start, weaken, scan, judge, cut, free, flip, into, strengthen, end}
+use Rattle.core_store.specs.RedCursor.{IsRedWalk}
+use Rattle.core_store.specs.RoundView.{RoundView, Closed, Walking, Sweeping, round_of, IsWalking, IsInStep, touched_by_record, Proceeds, skip, start, weaken, scan, judge, cut, free, flip, into, strengthen, end}
 use Rattle.core_store.specs.Stands.{Stands}
 use Rattle.core_store.specs.Tables.{TablesView}
 use Rattle.core_store.proofs.RedStrengths.{IsByClient, IsStrong, weak-here, weak-before}

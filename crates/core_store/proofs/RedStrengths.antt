@@ -1,5 +1,5 @@
 -- Which strong pointers are left by a record of a client, and by one of the red walk.
-use Rattle.std.proofs.Common.{◌≡◌, ◌≢◌, ℕ, Bool, true, false, not, ◌⊎◌, inl, inr, ⊎_elim, refl, sym, ap, ◌∙◌, subst, Option, Some, None, List}
+use Rattle.std.proofs.Common.{◌≡◌, ℕ, Bool, true, false, not, ◌⊎◌, inl, inr, ⊎_elim, refl, sym, ap, ◌∙◌, subst, Option, Some, None, List}
 use Rattle.std.specs.Prelude.{◌==◌, ◌&&◌, if◌then◌else◌, IfSome, option_map, unwrap_or}
 use Rattle.std.specs.Option.{option_map_or}
 use Rattle.plain_model.specs.declared.write.Place.{Place}
@@ -12,7 +12,7 @@ use Rattle.plain_model.specs.ActiveTransaction.{ActiveTransaction}
 use Rattle.plain_model.specs.Machine.{State, transaction_of, refusal_of}
 use Rattle.core_store.specs.Logged.{logged_by, logged_by_undo, record_in}
 use Rattle.std.proofs.lemmas.Bool.{eqb-false}
-use Rattle.cell_model.specs.Cells.{Cell, Pointer, cell_at, pointer_at, is_live, is_strong, same, other_strength, relinked, edit, pays}
+use Rattle.cell_model.specs.Cells.{Cell, Pointer, cell_at, pointer_at, is_strong, same, other_strength, relinked, edit, pays}
 use Rattle.cell_model.specs.Records.{Undo, UndoPay, Weaken as WeakenRecord, Fits, after_record}
 use Rattle.cell_model.specs.Consistent.{AreConsistent}
 use Rattle.cell_model.proofs.CountLaws.{relinked-bit, relinked-which, relinked-slot}

@@ -1,16 +1,15 @@
 -- The records that a journal logs have a spelling.
-use Rattle.std.proofs.Common.{◌≡◌, ◌≢◌, ℕ, ◌^◌, ◌<◌, ◌≤◌, Bool, true, false, not, ⊎_elim, inl, inr, refl, sym, ap, ◌∙◌, subst, Option, Some, None, arith, List, []}
-use Rattle.std.specs.Prelude.{◌==◌, ◌&&◌, if◌then◌else◌, IfSome, IsSome, Contains, option_map, unwrap_or}
+use Rattle.std.proofs.Common.{◌≡◌, ◌≢◌, ℕ, ◌<◌, ◌≤◌, Bool, true, false, not, ⊎_elim, inl, inr, refl, ap, subst, Option, Some, None, arith, List}
+use Rattle.std.specs.Prelude.{◌==◌, ◌&&◌, if◌then◌else◌, IfSome}
 use Rattle.std.specs.Option.{option_map_or}
 use Rattle.std.proofs.lemmas.Bool.{cases_eq, eqb-true, eqb-false}
 use Rattle.plain_model.specs.declared.write.Place.{Place}
 use Rattle.plain_model.specs.declared.write.Place.TheVariants.{Slot, Payload, Whole}
-use Rattle.plain_model.specs.declared.write.Write.{Write}
 use Rattle.plain_model.specs.declared.calls.Call.{Call as TransactionCall}
 use Rattle.plain_model.specs.declared.calls.Call.TheVariants.{Begin as BeginCall, Read, Make as MakeCall, Store as StoreCall, GetPay, SetPay, Commit as CommitCall, Abort}
 use Rattle.plain_model.specs.declared.calls.Reply.{Reply}
 use Rattle.plain_model.specs.ActiveTransaction.{ActiveTransaction}
-use Rattle.plain_model.specs.Machine.{State, transaction_of, refusal_of, register_id, free_id}
+use Rattle.plain_model.specs.Machine.{State, transaction_of, refusal_of, register_id}
 use Rattle.cell_model.specs.Cells.{Cell, Pointer, null, cell_at, pointer_at, is_live, same, relinked}
 use Rattle.cell_model.specs.Records.{Undo, UndoPay, HasPointer, Fits}
 use Rattle.cell_model.specs.Consistent.{AreConsistent}
@@ -20,7 +19,7 @@ use Rattle.store_model.specs.Core.{Core, Round}
 use Rattle.log_record.specs.declared.cell_record.CellRecord.{CellRecord}
 use Rattle.log_record.specs.declared.cell_record.CellRecord.TheVariants as logs
 use Rattle.log_record.specs.Records.{payload_place, FitsCells}
-use Rattle.log_record.specs.Spelling.{IsPass, IsOfTarget, IsSide, HasCellSpelling}
+use Rattle.log_record.specs.Spelling.{IsPass, IsOfTarget, HasCellSpelling}
 use Rattle.core_store.specs.declared.act.Act.{Act}
 use Rattle.core_store.specs.declared.act.Act.TheVariants as act
 use Rattle.core_store.specs.Changes.{is_counted_strong, is_laid_strong}

@@ -1,5 +1,5 @@
 -- A cell changes in its page, where that stands among the frames that a call works on.
-use Rattle.std.proofs.Common.{◌≡◌, ℕ, ◌<◌, ◌≤◌, true, false, List, length, map, get_or, set, take, refl, sym, ap, subst, ◌∙◌, Option, Some}
+use Rattle.std.proofs.Common.{◌≡◌, ℕ, ◌<◌, ◌≤◌, true, List, length, map, get_or, set, take, refl, sym, ap, subst, ◌∙◌, Option, Some}
 use Rattle.std.specs.Global.{Vec}
 use Rattle.cell_model.specs.Cells.{Cell as StoredCell, cell_at, is_live, edit}
 use Rattle.cell_page.specs.declared.cell.Cell.{Cell}

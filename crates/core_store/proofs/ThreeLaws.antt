@@ -1,25 +1,24 @@
 -- The frames that a call works on, as they stand in a program.
-use Rattle.std.proofs.Common.{◌≡◌, ◌≢◌, ℕ, zero, suc, ◌+◌, ◌-◌, ◌*◌, ◌<◌, ◌≤◌, true, false, Bool, List, [], ◌∷◌, ◌++◌, length, get_or, set, take, drop, refl, sym, ap, subst, ◌∙◌, ⊎_elim, ◌⊎◌, inl, inr, arith, Option, None, Some, IfSome, eqb}
-use Rattle.std.specs.Prelude.{◌==◌, ◌||◌, ◌&&◌, nat_lt, is_some}
+use Rattle.std.proofs.Common.{◌≡◌, ℕ, ◌+◌, ◌-◌, ◌<◌, ◌≤◌, true, false, List, [], ◌∷◌, ◌++◌, length, get_or, set, take, refl, sym, ap, subst, ◌∙◌, ⊎_elim, inl, inr, arith, Option, None, Some, IfSome, eqb}
+use Rattle.std.specs.Prelude.{◌==◌, ◌&&◌, nat_lt, is_some}
 use Rattle.std.specs.Global.{Vec}
 use Rattle.std.proofs.lemmas.Bool.Decides.{nat_tests}
 use Rattle.std.proofs.lemmas.List.{length-take, length-append, length-set, append-nil, append_assoc, take-set-le, get_or-set_same, take_more}
 use Rattle.std.proofs.lemmas.Bool.{ne_eqb, cases_eq, cases_Bool, eqb-true}
-use Rattle.std.proofs.Math.Seq.{take-set-lt, take-suc}
 use Rattle.core_store.specs.declared.frame.Frame.{Frame}
 use Rattle.core_store.specs.declared.three.HeldFrame.{HeldFrame}
-use Rattle.core_store.specs.Frames.{pages_held, is_held, holds_nothing, are_all_among, AreOnce, Agree, numbered}
+use Rattle.core_store.specs.Frames.{pages_held, is_held, holds_nothing, AreOnce, Agree, numbered}
 use Rattle.core_store.specs.Inside.{frames_of_all, held_in, AreThreeInside}
 use Rattle.std.proofs.lemmas.List.Elements.{All-from_recursion}
-use Rattle.std.proofs.lemmas.List.{map-append, get_or-take}
-use Rattle.cell_model.specs.Cells.{Cell as StoredCell, cell_at, edit}
+use Rattle.std.proofs.lemmas.List.{map-append}
+use Rattle.cell_model.specs.Cells.{Cell as StoredCell, edit}
 use Rattle.cell_page.specs.declared.cell.Cell.{Cell}
-use Rattle.cell_page.specs.Format.{IsCell, HasId, first_id, page_of_id, place_of}
+use Rattle.cell_page.specs.Format.{IsCell, page_of_id, place_of}
 use Rattle.cell_page.specs.Stored.{cell_of, HoldsPage}
 use Rattle.cell_page.proofs.HeldPages.{HoldsPage-edit}
 use Rattle.core_store.proofs.PageLaws.{id-low, id-high, is_held-put, AreOnce-put, AreOnce-pages, Agree-edit, Agree-other}
 use Rattle.core_store.proofs.PagePlaces.{holds-place, pages-set, below, take-place, same-place, pages-place}
-use Rattle.core_store.proofs.WholeLaws.{length-numbered, numbered-append, numbered-once, numbered-at, numbered-set, numbered-there, numbered-above, held-all, held-behind, among-append}
+use Rattle.core_store.proofs.WholeLaws.{length-numbered, numbered-append, numbered-once, numbered-at, numbered-set, numbered-there, numbered-above, held-behind}
 
 length-held-of : {slots : ℕ} (fs : List (Frame slots)) (hs : List (HeldFrame slots)) → length (numbered 0 fs ++ hs) ≡ length fs + length hs
 length-held-of fs hs = length-append (numbered 0 fs) hs ∙ ap (λ (n : ℕ). n + length hs) (length-numbered 0 fs)

@@ -1,5 +1,5 @@
 -- What a step of the collector works on, and what it is answered.
-use Rattle.std.specs.Prelude.{◌≡◌, ◌+◌, ◌≤◌, ℕ, Bool, true, false, List, [], ◌∷◌, ◌++◌, Option, Some, None, vec_len, vec_capacity}
+use Rattle.std.specs.Prelude.{◌≡◌, ◌+◌, ◌≤◌, ℕ, Bool, true, false, List, [], ◌∷◌, ◌++◌, length, Option, Some, None}
 use Rattle.cell_model.specs.Cells.{Cell}
 use Rattle.store_model.specs.Core.{Core}
 use Rattle.log_record.specs.declared.cell_record.CellRecord.{CellRecord}
@@ -98,9 +98,9 @@ answer_of act _ left = Did (is_pop act) left
 
 -- the trace has the note of this event behind the others, and else is as it was; what was reserved is given up
 pub record IsNoted (t u : Trace) (event : Act) (logged : Option CellRecord) (left : ℕ) : Type 0 where
-  pub items : u.notes.items ≡ t.notes.items ++ record { entry = entry_of logged; logged = logged; left = left; act = event } ∷ []
-  pub len : vec_len u.notes ≡ vec_len t.notes + 1
-  pub room : vec_capacity t.notes ≤ vec_capacity u.notes
+  pub items : u.notes.list ≡ t.notes.list ++ record { entry = entry_of logged; logged = logged; left = left; act = event } ∷ []
+  pub len : length u.notes.list ≡ length t.notes.list + 1
+  pub room : t.notes.room ≤ u.notes.room
   pub limits : u.limits ≡ t.limits
   pub marks : u.marks ≡ t.marks
   pub reserved : u.reserved ≡ false

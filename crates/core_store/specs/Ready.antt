@@ -1,6 +1,5 @@
 -- What has to stand before an event, and what the event then does.
 use Rattle.std.specs.Prelude.{◌≡◌, ℕ, ◌+◌, ◌<◌, Bool, true, List, [], ◌∷◌, Result}
-use Rattle.std.specs.List.{AllByRecursion}
 use Rattle.std.specs.Option.{option_map_or}
 use Rattle.plain_model.specs.declared.write.Write.{Write}
 use Rattle.plain_model.specs.declared.write.Place.{Place}

@@ -16,7 +16,8 @@ ghost use Rattle.core_store.specs.Work.{IsWorkIn, pages_of_work};
 use crate::abort_step::AbortStep;
 use crate::act::Act;
 use crate::journal::Journal;
-use crate::note::Note;
+use crate::notes::PlainNote;
+use crate::plain_event::{Cause, PlainEvent};
 use crate::plan::room_needed;
 use crate::three::Three;
 use crate::want::{Want, Work};
@@ -113,16 +114,10 @@ impl<const SLOTS: usize> Journal<SLOTS> {
         let Ok(outcome) = self.tables.perform(held, pass, planned) else {
             return Reply::Memory;
         };
-        let entry = Entry::Call {
-            pass,
-            call: *call,
-            reply: outcome.reply,
-        };
-        let note = Note {
-            entry,
-            logged: outcome.logged,
+        let event = PlainEvent::of_call(pass, call, outcome.reply, outcome.logged);
+        let note = PlainNote {
+            event,
             left: self.tables.round.left(),
-            act: Act::Other,
         };
         self.trace.add(note);
         outcome.reply
@@ -150,27 +145,30 @@ impl<const SLOTS: usize> Journal<SLOTS> {
         match self.tables.plan_undo(pass) {
             Some(replaced) => {
                 let logged = self.tables.undo(held, pass, replaced);
-                let note = Note {
-                    entry: Entry::Undo { pass },
-                    logged: Some(logged),
+                let cause = Cause::Undo;
+                let event = PlainEvent::Logged {
+                    pass,
+                    cause,
+                    logged,
+                };
+                let note = PlainNote {
+                    event,
                     left: self.tables.round.left(),
-                    act: Act::Other,
                 };
                 self.trace.add(note);
                 AbortStep::Undone
             }
             None => {
                 let logged = self.tables.end_abort(pass);
-                let entry = Entry::Call {
+                let cause = Cause::AbortEnd;
+                let event = PlainEvent::Logged {
                     pass,
-                    call: Call::Abort,
-                    reply: Reply::Done,
+                    cause,
+                    logged,
                 };
-                let note = Note {
-                    entry,
-                    logged: Some(logged),
+                let note = PlainNote {
+                    event,
                     left: self.tables.round.left(),
-                    act: Act::Other,
                 };
                 self.trace.add(note);
                 AbortStep::Ended

@@ -7,16 +7,15 @@ ghost use Rattle.core_store.specs.Frames.{pages_held};
 ghost use Rattle.core_store.specs.Views.{view_of};
 ghost use Rattle.core_store.specs.Steps.{JoinsIfCut};
 ghost use Rattle.core_store.specs.Collecting.{CanCollect, CollectsOne};
+ghost use Rattle.core_store.specs.Notes.{act_of, logged_of};
 
-use crate::act::Act;
-use crate::events::Event;
+use crate::event::Event;
 use crate::round_at::RoundAt;
 use crate::slots;
 use crate::tables::Tables;
 use crate::three::Three;
 use cell_page::{Cell, ROOT};
 use green_walk::Found;
-use log_record::CellRecord;
 
 impl<const SLOTS: usize> Tables<SLOTS> {
     /// Whether an object is to join the open round: no strong pointer leads to it, it isn't the root, and it isn't in
@@ -33,7 +32,7 @@ impl<const SLOTS: usize> Tables<SLOTS> {
     pub(crate) fn weaken(&mut self, held: &mut Three<SLOTS>, id: u32, slot: u8) -> Event
         requires ready { CanCollect (view_of self.old) held.old }
         requires at { asked (view_of self.old).round ≡ RoundAt.Look id slot }
-        ensures collects { CollectsOne SLOTS (view_of self.old) (view_of self.new) held.old held.new result.act result.logged }
+        ensures collects { CollectsOne SLOTS (view_of self.old) (view_of self.new) held.old held.new (act_of result) (logged_of result) }
         ensures owed { self.new.owed ≡ self.old.owed }
         ensures pages { pages_held held.new ≡ pages_held held.old }
     {
@@ -44,10 +43,7 @@ impl<const SLOTS: usize> Tables<SLOTS> {
         } else {
             self.round.weakened(None);
         }
-        Event {
-            act: Act::Change,
-            logged: Some(CellRecord::Weaken { id, slot, target }),
-        }
+        Event::Weaken { id, slot, target }
     }
 
     /// Removes the pointer in the slot of a condemned object. Its target joins the queue where the last strong pointer
@@ -55,21 +51,18 @@ impl<const SLOTS: usize> Tables<SLOTS> {
     pub(crate) fn cut_dead(&mut self, held: &mut Three<SLOTS>, id: u32, slot: u8) -> Event
         requires ready { CanCollect (view_of self.old) held.old }
         requires at { asked (view_of self.old).round ≡ RoundAt.Cut id slot }
-        ensures collects { CollectsOne SLOTS (view_of self.old) (view_of self.new) held.old held.new result.act result.logged }
+        ensures collects { CollectsOne SLOTS (view_of self.old) (view_of self.new) held.old held.new (act_of result) (logged_of result) }
         ensures owed { self.new.owed ≡ self.old.owed }
         ensures pages { pages_held held.new ≡ pages_held held.old }
     {
         let change = slots::restore(held, &mut self.zeros, id, slot, 0);
         self.queue_cut(change.old_target, change.old_strong);
         self.round.cut();
-        Event {
-            act: Act::Change,
-            logged: Some(CellRecord::CutDead {
-                id,
-                slot,
-                target: change.old_target,
-                was_strong: change.old_strong,
-            }),
+        Event::CutDead {
+            id,
+            slot,
+            target: change.old_target,
+            was_strong: change.old_strong,
         }
     }
 
@@ -89,33 +82,27 @@ impl<const SLOTS: usize> Tables<SLOTS> {
     pub(crate) fn free_dead(&mut self, held: &mut Three<SLOTS>, id: u32) -> Event
         requires ready { CanCollect (view_of self.old) held.old }
         requires at { asked (view_of self.old).round ≡ RoundAt.Free id }
-        ensures collects { CollectsOne SLOTS (view_of self.old) (view_of self.new) held.old held.new result.act result.logged }
+        ensures collects { CollectsOne SLOTS (view_of self.old) (view_of self.new) held.old held.new (act_of result) (logged_of result) }
         ensures owed { self.new.owed ≡ self.old.owed }
         ensures pages { pages_held held.new ≡ pages_held held.old }
     {
         self.free.insert(id);
         held.put_cell(Cell::free(id));
         self.round.freed(id);
-        Event {
-            act: Act::Change,
-            logged: Some(CellRecord::Free { id }),
-        }
+        Event::Free { id }
     }
 
     /// Flips a seed: its pointers to itself stay weak, and all others to it become strong.
     pub(crate) fn flip(&mut self, held: &mut Three<SLOTS>, id: u32) -> Event
         requires ready { CanCollect (view_of self.old) held.old }
         requires at { asked (view_of self.old).round ≡ RoundAt.Flip id }
-        ensures collects { CollectsOne SLOTS (view_of self.old) (view_of self.new) held.old held.new result.act result.logged }
+        ensures collects { CollectsOne SLOTS (view_of self.old) (view_of self.new) held.old held.new (act_of result) (logged_of result) }
         ensures owed { self.new.owed ≡ self.old.owed }
         ensures pages { pages_held held.new ≡ pages_held held.old }
     {
         slots::flip(held, &mut self.zeros, id);
         self.round.found(Found::Made { id });
-        Event {
-            act: Act::Change,
-            logged: Some(CellRecord::Flip { id }),
-        }
+        Event::Flip { id }
     }
 
     /// Makes the strong pointer in the slot weak, which leads to the object that was flipped.
@@ -128,19 +115,16 @@ impl<const SLOTS: usize> Tables<SLOTS> {
     ) -> Event
         requires ready { CanCollect (view_of self.old) held.old }
         requires at { asked (view_of self.old).round ≡ RoundAt.Into from slot to }
-        ensures collects { CollectsOne SLOTS (view_of self.old) (view_of self.new) held.old held.new result.act result.logged }
+        ensures collects { CollectsOne SLOTS (view_of self.old) (view_of self.new) held.old held.new (act_of result) (logged_of result) }
         ensures owed { self.new.owed ≡ self.old.owed }
         ensures pages { pages_held held.new ≡ pages_held held.old }
     {
         slots::weaken(held, &mut self.zeros, from, slot);
         self.round.found(Found::Made { id: from });
-        Event {
-            act: Act::Change,
-            logged: Some(CellRecord::Weaken {
-                id: from,
-                slot,
-                target: to,
-            }),
+        Event::Weaken {
+            id: from,
+            slot,
+            target: to,
         }
     }
 
@@ -154,19 +138,16 @@ impl<const SLOTS: usize> Tables<SLOTS> {
     ) -> Event
         requires ready { CanCollect (view_of self.old) held.old }
         requires at { asked (view_of self.old).round ≡ RoundAt.Strengthen from slot to }
-        ensures collects { CollectsOne SLOTS (view_of self.old) (view_of self.new) held.old held.new result.act result.logged }
+        ensures collects { CollectsOne SLOTS (view_of self.old) (view_of self.new) held.old held.new (act_of result) (logged_of result) }
         ensures owed { self.new.owed ≡ self.old.owed }
         ensures pages { pages_held held.new ≡ pages_held held.old }
     {
         slots::strengthen(held, &mut self.zeros, from, slot);
         self.round.found(Found::Made { id: to });
-        Event {
-            act: Act::Change,
-            logged: Some(CellRecord::Strengthen {
-                id: from,
-                slot,
-                target: to,
-            }),
+        Event::Strengthen {
+            id: from,
+            slot,
+            target: to,
         }
     }
 }

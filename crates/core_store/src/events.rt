@@ -1,5 +1,5 @@
 //! The events of the collector: which one comes next, and those that change no cell.
-ghost use Rattle.std.specs.Prelude.{◌≡◌, ℕ, ◌<◌, ◌≤◌, List, length, Bool, not, ◌&&◌, get_or, false, vec_len, vec_capacity};
+ghost use Rattle.std.specs.Prelude.{◌≡◌, ℕ, ◌<◌, ◌≤◌, List, length, Bool, not, ◌&&◌, get_or, false};
 ghost use Rattle.store_model.specs.Core.{Core};
 ghost use Rattle.core_store.specs.declared.three.HeldFrame.{HeldFrame};
 ghost use Rattle.core_store.specs.RoundView.{Closed, is_closed, asked, left_of};
@@ -9,41 +9,26 @@ ghost use Rattle.core_store.specs.Stands.{Stands};
 ghost use Rattle.core_store.specs.Steps.{AreNames, JoinsIfLoose};
 ghost use Rattle.core_store.specs.Collecting.{CanCollect, CollectsOne, answer_of, IsNoted, EntersOne};
 ghost use Rattle.core_store.specs.Queued.{is_none_queued};
-ghost use Rattle.core_store.specs.Collects.{entry_of};
+ghost use Rattle.core_store.specs.Notes.{act_of, logged_of};
 
-use crate::act::Act;
 use crate::collect::Collect;
-use crate::note::Note;
+use crate::event::Event;
 use crate::round::Round;
 use crate::round_at::RoundAt;
 use crate::tables::Tables;
 use crate::three::Three;
 use crate::trace::Trace;
-use log_record::CellRecord;
-use plain_model::Entry;
-
-/// An event of the collector: which one, and what it logs.
-#[derive(Clone, Copy)]
-pub(crate) struct Event {
-    pub(crate) act: Act,
-    pub(crate) logged: Option<CellRecord>,
-}
 
 /// Adds the note of an event that was made, behind which the round stands so, and for which there is room. Tells what the event
 /// did.
 #[inline(always)]
 fn enter<const SLOTS: usize>(event: Event, round: &Round<SLOTS>, trace: &mut Trace) -> Collect
-    requires room { vec_len trace.old.notes < vec_capacity trace.old.notes }
-    ensures noted { IsNoted trace.old trace.new event.act event.logged (left_of SLOTS round.now.view) }
-    ensures answer { result ≡ answer_of event.act event.logged (left_of SLOTS round.now.view) }
+    requires room { length trace.old.notes.list < trace.old.notes.room }
+    ensures noted { IsNoted trace.old trace.new (act_of event) (logged_of event) (left_of SLOTS round.now.view) }
+    ensures answer { result ≡ answer_of (act_of event) (logged_of event) (left_of SLOTS round.now.view) }
 {
     let left = round.left();
-    trace.add(Note {
-        entry: entry_of(event.logged),
-        logged: event.logged,
-        left,
-        act: event.act,
-    });
+    trace.add_event(event, left);
     answer_of(event, left)
 }
 
@@ -66,7 +51,7 @@ impl<const SLOTS: usize> Tables<SLOTS> {
         requires next { next ≡ asked (view_of self.old).round }
         requires ready { CanCollect (view_of self.old) held.old }
         requires busy { (is_closed (view_of self.old).round && is_none_queued (view_of self.old).queue) ≡ false }
-        requires room { vec_len trace.old.notes < vec_capacity trace.old.notes }
+        requires room { length trace.old.notes.list < trace.old.notes.room }
         ensures enters { EntersOne SLOTS (view_of self.old) (view_of self.new) held.old held.new trace.old trace.new result }
         ensures owed { self.new.owed ≡ self.old.owed }
         ensures pages { pages_held held.new ≡ pages_held held.old }
@@ -105,54 +90,39 @@ impl<const SLOTS: usize> Tables<SLOTS> {
         requires standing { (c : Core) × Stands SLOTS (view_of self.old) c }
         requires closed { (view_of self.old).round ≡ Closed }
         requires some { is_none_queued (view_of self.old).queue ≡ false }
-        ensures collects { (held : List (HeldFrame SLOTS)) → CollectsOne SLOTS (view_of self.old) (view_of self.new) held held result.act result.logged }
+        ensures collects { (held : List (HeldFrame SLOTS)) → CollectsOne SLOTS (view_of self.old) (view_of self.new) held held (act_of result) (logged_of result) }
         ensures owed { self.new.owed ≡ self.old.owed }
     {
         let Some(id) = self.queue.pop() else {
-            return Event {
-                act: Act::Other,
-                logged: None,
-            };
+            return Event::Judge;
         };
         if !self.is_loose(id) {
-            return Event {
-                act: Act::Skip { id },
-                logged: None,
-            };
+            return Event::Skip { id };
         }
         self.round.start(id);
-        Event {
-            act: Act::Start { id },
-            logged: None,
-        }
+        Event::Start { id }
     }
 
     /// Copies the object's slots and counts.
     fn copy(&mut self, held: &Three<SLOTS>, id: u32) -> Event
         requires ready { CanCollect (view_of self.old) held.now }
         requires at { asked (view_of self.old).round ≡ RoundAt.Copy id }
-        ensures collects { CollectsOne SLOTS (view_of self.old) (view_of self.new) held.now held.now result.act result.logged }
+        ensures collects { CollectsOne SLOTS (view_of self.old) (view_of self.new) held.now held.now (act_of result) (logged_of result) }
         ensures owed { self.new.owed ≡ self.old.owed }
     {
         self.round.scan(id, held.cell(id).seen());
-        Event {
-            act: Act::Scan { id },
-            logged: None,
-        }
+        Event::Scan { id }
     }
 
     /// The verdict.
     fn judge(&mut self) -> Event
         requires standing { (c : Core) × Stands SLOTS (view_of self.old) c }
         requires at { asked (view_of self.old).round ≡ RoundAt.Judge }
-        ensures collects { (held : List (HeldFrame SLOTS)) → CollectsOne SLOTS (view_of self.old) (view_of self.new) held held result.act result.logged }
+        ensures collects { (held : List (HeldFrame SLOTS)) → CollectsOne SLOTS (view_of self.old) (view_of self.new) held held (act_of result) (logged_of result) }
         ensures owed { self.new.owed ≡ self.old.owed }
     {
         self.round.judge(&self.locks, &self.references);
-        Event {
-            act: Act::Judge,
-            logged: None,
-        }
+        Event::Judge
     }
 
     /// Lets an object of the round join the queue where no strong pointer leads to it and no transaction names it.
@@ -174,7 +144,7 @@ impl<const SLOTS: usize> Tables<SLOTS> {
     fn end_round(&mut self) -> Event
         requires standing { (c : Core) × Stands SLOTS (view_of self.old) c }
         requires at { asked (view_of self.old).round ≡ RoundAt.End }
-        ensures collects { (held : List (HeldFrame SLOTS)) → CollectsOne SLOTS (view_of self.old) (view_of self.new) held held result.act result.logged }
+        ensures collects { (held : List (HeldFrame SLOTS)) → CollectsOne SLOTS (view_of self.old) (view_of self.new) held held (act_of result) (logged_of result) }
         ensures owed { self.new.owed ≡ self.old.owed }
     {
         for place in 0..self.round.list().len() {
@@ -182,32 +152,18 @@ impl<const SLOTS: usize> Tables<SLOTS> {
             self.requeue(id);
         }
         self.round.close();
-        Event {
-            act: Act::End,
-            logged: None,
-        }
-    }
-}
-
-/// The history's entry of an event of the collector.
-#[inline(always)]
-fn entry_of(logged: Option<CellRecord>) -> Entry
-    ensures { result ≡ entry_of logged }
-{
-    match logged {
-        Some(CellRecord::Free { id }) => Entry::Delete { id },
-        _ => Entry::Hidden,
+        Event::End
     }
 }
 
 /// What a step of the collector is answered that made this event.
 #[inline(always)]
 fn answer_of(event: Event, left: u64) -> Collect
-    ensures { result ≡ answer_of event.act event.logged left }
+    ensures { result ≡ answer_of (act_of event) (logged_of event) left }
 {
-    if let Some(CellRecord::Free { id }) = event.logged {
+    if let Event::Free { id } = event {
         return Collect::Deleted { id, left };
     }
-    let popped = matches!(event.act, Act::Skip { .. } | Act::Start { .. });
+    let popped = matches!(event, Event::Skip { .. } | Event::Start { .. });
     Collect::Did { popped, left }
 }

@@ -1,13 +1,14 @@
 //! Entries of the upkeep of log and pages.
-ghost use Rattle.std.specs.Prelude.{◌≡◌, ◌↔◌, true, OnOk, IsErrOf, Some};
+ghost use Rattle.std.specs.Prelude.{◌≡◌, ◌↔◌, true, OnOk, IsErrOf, Some, None};
 ghost use Rattle.plain_model.specs.History.{end_of, least_active};
 ghost use Rattle.core_store.specs.JournalView.{core_of};
 ghost use Rattle.core_store.specs.Upkeep.{IsUpkeep, with_upkeep};
+ghost use Rattle.core_store.specs.Notes.{entry_of_plain, logged_of_plain};
 ghost use Rattle.core_store.specs.Limited.{is_past_limit};
 
-use crate::act::Act;
 use crate::journal::Journal;
-use crate::note::Note;
+use crate::notes::PlainNote;
+use crate::plain_event::PlainEvent;
 use crate::room_refusal::RoomRefusal;
 use plain_model::Entry;
 
@@ -36,7 +37,7 @@ impl<const SLOTS: usize> Journal<SLOTS> {
         ensures entered { self.new ≡ with_upkeep SLOTS self.old Entry.Hidden }
         ensures same { core_of self.new ≡ core_of self.old }
     {
-        self.enter_upkeep(Entry::Hidden);
+        self.enter_upkeep(PlainEvent::Hidden);
     }
 
     /// Enters that a checkpoint was refused, since this client, the least active one, has a transaction, in the room that was
@@ -47,21 +48,20 @@ impl<const SLOTS: usize> Journal<SLOTS> {
         ensures entered { self.new ≡ with_upkeep SLOTS self.old (Entry.TurnBusy pass) }
         ensures same { core_of self.new ≡ core_of self.old }
     {
-        self.enter_upkeep(Entry::TurnBusy { pass });
+        self.enter_upkeep(PlainEvent::TurnBusy { pass });
     }
 
     /// Enters an entry of upkeep, which changes nothing else, in the room that was reserved.
-    fn enter_upkeep(&mut self, entry: Entry)
+    fn enter_upkeep(&mut self, event: PlainEvent)
         requires reserved { self.old.reserved ≡ true }
-        requires upkeep { IsUpkeep (end_of self.old.history) entry }
-        ensures entered { self.new ≡ with_upkeep SLOTS self.old entry }
+        requires upkeep { IsUpkeep (end_of self.old.history) (entry_of_plain event) }
+        requires none { logged_of_plain event ≡ None }
+        ensures entered { self.new ≡ with_upkeep SLOTS self.old (entry_of_plain event) }
         ensures same { core_of self.new ≡ core_of self.old }
     {
-        let note = Note {
-            entry,
-            logged: None,
+        let note = PlainNote {
+            event,
             left: self.tables.round.left(),
-            act: Act::Other,
         };
         self.trace.add(note);
     }

@@ -74,7 +74,10 @@ impl<const SLOTS: usize, D: Disk> Chronicle<Frame<SLOTS>> for JournalChronicle<S
 pub(crate) fn count_notes<const SLOTS: usize, D: Disk>(logged: &LoggedJournal<SLOTS, D>) -> u64
     ensures { result ≡ length (notes_of logged.now) }
 {
-    let noted = logged.journal().history().len() as u64;
+    let notes = logged.journal().history();
+    // One more can be counted.
+    notes.know_few();
+    let noted = notes.len() as u64;
     match logged.failed() {
         None => noted,
         Some(failed) => match failed.commit {

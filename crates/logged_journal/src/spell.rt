@@ -57,11 +57,9 @@ pub(crate) fn append_last<const SLOTS: usize>(
     ensures typed { IsLastTyped journal.now.notes }
     ensures marks { AreMarkedAfter SLOTS (last_logged journal.now.notes) marks.old marks.new }
 {
-    if let Some(note) = journal.history().last() {
-        if let Some(record) = &note.logged {
-            append_record::<SLOTS>(log, record);
-            marks.take(record);
-        }
+    if let Some(record) = journal.history().last_logged() {
+        append_record::<SLOTS>(log, &record);
+        marks.take(&record);
     }
 }
 

@@ -5,7 +5,7 @@ ghost use Rattle.latch_table.specs.Holds.{IsAlone};
 ghost use Rattle.latch_table.specs.Views.{first_station};
 ghost use Rattle.share_runs.specs.Passes.{IsLoneOf};
 
-use core_store::{Frame, Limits, Note};
+use core_store::{Frame, Limits, Note, Notes};
 use disk_model::{Disk, MemoryDisk};
 use framed_journal::FramedJournal;
 use journal_opening::open;
@@ -121,7 +121,7 @@ pub(crate) fn close<D: Disk>(
 }
 
 /// The notes of the journal.
-fn notes_of<D: Disk>(logged: &LoggedJournal<6, D>) -> &[Note] {
+fn notes_of<D: Disk>(logged: &LoggedJournal<6, D>) -> &Notes {
     logged.journal().history()
 }
 
@@ -140,10 +140,10 @@ fn is_of(note: &Note, client: u8) -> bool {
 
 /// How many entries are calls of this client.
 pub(crate) fn calls_of<D: Disk>(logged: &LoggedJournal<6, D>, client: u8) -> usize {
-    notes_of(logged)
-        .iter()
-        .filter(|note| is_of(note, client))
-        .count()
+    let notes = notes_of(logged);
+    // No more are counted than there are.
+    let _ = notes.len();
+    notes.iter().filter(|note| is_of(note, client)).count()
 }
 
 /// How many calls the disk has failed.

@@ -11,18 +11,18 @@ use Rattle.auditor.proofs.auditing.audit.Goals as goal
 
 pub returns-clause-live : goal.returns-clause-live
 returns-clause-live g c =
-    let last = cells_after_notes g.row.SLOTS (store_of c.args.opening.now) c.args.trace.now in
+    let last = cells_after_notes g.row.SLOTS (store_of c.args.opening.now) c.args.trace.now.list in
     let same = subst (λ (cs : List (PageCell g.row.SLOTS)). SameButCounts (map cell_of cs) last) (sym c.as_slice.ensures.value) c.in_ok-cells.ensures.cells in
     IfOk-weaker c.recount.result _ _ (λ r h. h ∙ live-same _ last same) c.recount.ensures.live
 
 pub returns-clause-zero : goal.returns-clause-zero
 returns-clause-zero g c =
-    let last = cells_after_notes g.row.SLOTS (store_of c.args.opening.now) c.args.trace.now in
+    let last = cells_after_notes g.row.SLOTS (store_of c.args.opening.now) c.args.trace.now.list in
     let same = subst (λ (cs : List (PageCell g.row.SLOTS)). SameButCounts (map cell_of cs) last) (sym c.as_slice.ensures.value) c.in_ok-cells.ensures.cells in
     IfOk-weaker c.recount.result _ _ (λ r h. h ∙ zero-same _ last (ids_of (length c.args.frames.now)) same) c.recount.ensures.zero
 
 pub returns-clause-differences : goal.returns-clause-differences
 returns-clause-differences g c =
-    let last = cells_after_notes g.row.SLOTS (store_of c.args.opening.now) c.args.trace.now in
+    let last = cells_after_notes g.row.SLOTS (store_of c.args.opening.now) c.args.trace.now.list in
     let same = subst (λ (cs : List (PageCell g.row.SLOTS)). SameButCounts (map cell_of cs) last) (sym c.as_slice.ensures.value) c.in_ok-cells.ensures.cells in
     IfOk-weaker c.recount.result _ _ (λ r h. h ∙ differences-same _ last c.args.frames.now same) c.recount.ensures.differences

@@ -23,7 +23,7 @@ audit-requires g c =
     let frames : AreFramesOf j c.frames.result.now = subst (λ (x : JournalView). AreFramesOf x c.frames.result.now) (sym same) c.frames.ensures in
     let sized = (c.history.ensures.consistent [] j.notes refl).sized in
     let ids : length c.opening.result.now ≡ 8 * length c.frames.result.now = opening-sized j.history.ids c.opening.result.now j.opening c.opening.ensures.cells sized ∙ sym frames.pages in
-    let fits : AllFit g.row.SLOTS (store_of c.opening.result.now) (logged_in c.history.result.now) = rw (c.opening.ensures.cells, c.history.ensures.notes) c.history.ensures.fit in
+    let fits : AllFit g.row.SLOTS (store_of c.opening.result.now) (logged_in c.history.result.now.list) = rw (c.opening.ensures.cells, c.history.ensures.notes) c.history.ensures.fit in
     (search rules, (search rules, (c.requires, (frames.few, (ids, (fits, λ page frame got. (frames.agree page frame got).rules))))))
 
 pub returns-clause-differences : goal.returns-clause-differences
@@ -35,7 +35,7 @@ returns-clause-differences g c =
     let consistent : AreConsistent g.row.SLOTS j.history.ids cells = c.history.ensures.consistent j.notes [] (sym (append-nil j.notes)) in
     let agree : AllAgree cells c.frames.result.now = subst (λ (n : ℕ). AllAgree (cells_after_notes n j.opening j.notes) c.frames.result.now) frames.size.0 frames.agree in
     let none = none-differ j.history.ids cells c.frames.result.now consistent agree frames.pages in
-    let here : differences_of (cells_after_notes g.row.SLOTS (store_of c.opening.result.now) c.history.result.now) c.frames.result.now ≡ [] = rw (c.opening.ensures.cells, c.history.ensures.notes) none in
+    let here : differences_of (cells_after_notes g.row.SLOTS (store_of c.opening.result.now) c.history.result.now.list) c.frames.result.now ≡ [] = rw (c.opening.ensures.cells, c.history.ensures.notes) none in
     IfOk-weaker c.audit.result _ _ (λ r h. h ∙ here) c.audit.ensures.differences
 
 -- the cells to which the notes lead are the journal's
@@ -44,8 +44,8 @@ returns-clause-live g c =
     let j = c.journal-journal.result.now in
     let same : c.journal-journal.result.now ≡ c.args.framed.now.journal = c.journal-journal.ensures.journal ∙ ap (λ (v : LoggedView g.row.D.Denot). v.journal) c.logged.ensures.logged in
     let frames : AreFramesOf j c.frames.result.now = subst (λ (x : JournalView). AreFramesOf x c.frames.result.now) (sym same) c.frames.ensures in
-    let cells : cells_after_notes g.row.SLOTS (store_of c.opening.result.now) c.history.result.now ≡ cells_of j =
-    ap (λ (cs : List StoredCell). cells_after_notes g.row.SLOTS cs c.history.result.now) c.opening.ensures.cells
+    let cells : cells_after_notes g.row.SLOTS (store_of c.opening.result.now) c.history.result.now.list ≡ cells_of j =
+    ap (λ (cs : List StoredCell). cells_after_notes g.row.SLOTS cs c.history.result.now.list) c.opening.ensures.cells
     ∙ ap (λ (ns : List Note). cells_after_notes g.row.SLOTS j.opening ns) c.history.ensures.notes
     ∙ sym (ap (λ (n : ℕ). cells_after_notes n j.opening j.notes) frames.size.0) in
     let here = ap live_in cells ∙ ap (λ (x : JournalView). live_in (cells_of x)) same in
@@ -57,8 +57,8 @@ returns-clause-zero g c =
     let same : c.journal-journal.result.now ≡ c.args.framed.now.journal = c.journal-journal.ensures.journal ∙ ap (λ (v : LoggedView g.row.D.Denot). v.journal) c.logged.ensures.logged in
     let frames : AreFramesOf j c.frames.result.now = subst (λ (x : JournalView). AreFramesOf x c.frames.result.now) (sym same) c.frames.ensures in
     let pages = length c.frames.result.now in
-    let cells : cells_after_notes g.row.SLOTS (store_of c.opening.result.now) c.history.result.now ≡ cells_of j =
-    ap (λ (cs : List StoredCell). cells_after_notes g.row.SLOTS cs c.history.result.now) c.opening.ensures.cells
+    let cells : cells_after_notes g.row.SLOTS (store_of c.opening.result.now) c.history.result.now.list ≡ cells_of j =
+    ap (λ (cs : List StoredCell). cells_after_notes g.row.SLOTS cs c.history.result.now.list) c.opening.ensures.cells
     ∙ ap (λ (ns : List Note). cells_after_notes g.row.SLOTS j.opening ns) c.history.ensures.notes
     ∙ sym (ap (λ (n : ℕ). cells_after_notes n j.opening j.notes) frames.size.0) in
     let here =

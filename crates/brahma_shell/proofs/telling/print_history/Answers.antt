@@ -17,19 +17,19 @@ print_notes-requires g c = subst (λ (ns : List Note). AllByRecursion IsNoCrash 
 pub returns-in-Ok-clause-ok : goal.returns-in-Ok-clause-ok
 returns-in-Ok-clause-ok g c =
     let entries = c.history.ensures.entries ∙ ap (λ (j : JournalView). j.history.entries) c.journal.ensures.journal in
-    let parts = history-parts c.args.logged.now c.history.result.now entries in
-    let same : text_of (entries_in c.history.result.now) ++ failed_text c.failed.result ≡ text_of (history_of c.args.logged.now).entries = ap (λ o. text_of (entries_in c.history.result.now) ++ failed_text o) c.failed.ensures.failed ∙ sym parts in
+    let parts = history-parts c.args.logged.now c.history.result.now.list entries in
+    let same : text_of (entries_in c.history.result.now.list) ++ failed_text c.failed.result ≡ text_of (history_of c.args.logged.now).entries = ap (λ o. text_of (entries_in c.history.result.now.list) ++ failed_text o) c.failed.ensures.failed ∙ sym parts in
     subst (λ text. OnOk c.print_failed.result (Appends (g.W.Sink.written c.args.out.now) (g.W.Sink.written c.print_failed.new.out) text)) same (ok-behind c.print_failed.result _ _ _ _ _ c.in-Ok.ensures.ok c.print_failed.ensures.ok)
 
 pub returns-in-Ok-clause-err : goal.returns-in-Ok-clause-err
 returns-in-Ok-clause-err g c =
     let entries = c.history.ensures.entries ∙ ap (λ (j : JournalView). j.history.entries) c.journal.ensures.journal in
-    let parts = history-parts c.args.logged.now c.history.result.now entries in
-    let same : text_of (entries_in c.history.result.now) ++ failed_text c.failed.result ≡ text_of (history_of c.args.logged.now).entries = ap (λ o. text_of (entries_in c.history.result.now) ++ failed_text o) c.failed.ensures.failed ∙ sym parts in
+    let parts = history-parts c.args.logged.now c.history.result.now.list entries in
+    let same : text_of (entries_in c.history.result.now.list) ++ failed_text c.failed.result ≡ text_of (history_of c.args.logged.now).entries = ap (λ o. text_of (entries_in c.history.result.now.list) ++ failed_text o) c.failed.ensures.failed ∙ sym parts in
     err-of_text c.print_failed.result _ _ _ _ _ _ same (err-behind c.print_failed.result _ _ _ _ _ _ _ _ c.in-Ok.ensures.later c.in-Ok.ensures.ok c.print_failed.ensures.err)
 
 pub returns-in-Err-clause-err : goal.returns-in-Err-clause-err
 returns-in-Err-clause-err g c =
     let entries = c.history.ensures.entries ∙ ap (λ (j : JournalView). j.history.entries) c.journal.ensures.journal in
     let e = c.in-Err.ensures.err in
-    (e.0, front-all c.args.logged.now c.history.result.now _ _ entries e.1, e.2)
+    (e.0, front-all c.args.logged.now c.history.result.now.list _ _ entries e.1, e.2)

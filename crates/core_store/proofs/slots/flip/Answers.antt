@@ -1,4 +1,4 @@
-use Rattle.std.proofs.Common.{rules, ◌≡◌, ℕ, ◌<◌, ◌≤◌, sym, ap, ◌∙◌, subst, arith, ⊎_elim}
+use Rattle.std.proofs.Common.{rules, ℕ, ◌<◌, ◌≤◌, sym, ap, ◌∙◌, subst, arith, ⊎_elim}
 use Rattle.cell_model.specs.Cells.{Cell as StoredCell, self_pointers, flipped}
 use Rattle.cell_page.specs.Format.{IsCell}
 use Rattle.cell_page.specs.Stored.{cell_of}

@@ -1,4 +1,4 @@
-use Rattle.std.proofs.Common.{ap, ◌∙◌, get_or}
+use Rattle.std.proofs.Common.{ap, ◌∙◌}
 use Rattle.cell_model.specs.Cells.{Cell as StoredCell, pointer_in}
 use Rattle.core_store.proofs.SlotStart.{old-of}
 use Rattle.core_store.proofs.SlotEdits.{same-pointer}

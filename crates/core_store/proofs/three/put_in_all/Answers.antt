@@ -1,4 +1,4 @@
-use Rattle.std.proofs.Common.{rules, ap, sym, subst, ◌∙◌, get_or, Option, Some}
+use Rattle.std.proofs.Common.{rules, ap, sym, subst, get_or, Option}
 use Rattle.std.specs.Global.{Vec}
 use Rattle.cell_page.specs.Format.{HasId}
 use Rattle.core_store.specs.declared.frame.Frame.{Frame}

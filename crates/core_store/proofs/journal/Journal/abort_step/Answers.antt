@@ -102,7 +102,7 @@ ended g c =
       limits = c.add-in-None.ensures.rest.0;
       marks = c.add-in-None.ensures.rest.1;
       reserved = c.add-in-None.ensures.reserved;
-      trace = c.add-in-None.ensures.items ∙ ap (λ (r : CellRecord). c.self.inside.trace.notes.items ++ client_note (Call c.args.pass Abort Done) (Some r) c.left-in-None.result ∷ []) end.logged;
+      trace = c.add-in-None.ensures.items ∙ ap (λ (r : CellRecord). c.self.inside.trace.notes.list ++ client_note (Call c.args.pass Abort Done) (Some r) c.left-in-None.result ∷ []) end.logged;
       left = c.left-in-None.ensures;
     }
 

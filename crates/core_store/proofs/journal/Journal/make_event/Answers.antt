@@ -1,4 +1,4 @@
-use Rattle.std.proofs.Common.{◌≡◌, ◌≤◌, ◌&&◌, false, List, ℕ, [], ◌∷◌, sym, ap, subst, ◌∙◌, arith, rules, refl, ⊎_elim}
+use Rattle.std.proofs.Common.{◌≡◌, ◌≤◌, ◌&&◌, false, List, length, ℕ, [], ◌∷◌, sym, ap, subst, ◌∙◌, arith, rules, refl, ⊎_elim}
 use Rattle.core_store.specs.declared.journal.Journal.TheInside.{Inside}
 use Rattle.core_store.specs.JournalView.{JournalView}
 use Rattle.core_store.specs.Queued.{is_none_queued}
@@ -36,12 +36,12 @@ abbrev left : (g : Over) (c : goal.After-collect_step g) → ℕ
 left g c = left_of g.row.SLOTS c.collect_step.new.self.round.view
 
 grows : (g : Over) (c : goal.After-collect_step g) → Grows c.self.inside (after g c) (collector_note c.collect_step.ensures.enters.event c.collect_step.ensures.enters.logged (left g c))
-grows g c = let e = c.collect_step.ensures.enters in entered c.self.inside (after g c) c.take_room.new.self e.event e.logged refl c.take_room.ensures.notes.0 c.take_room.ensures.rest e.noted
+grows g c = let e = c.collect_step.ensures.enters in entered c.self.inside (after g c) c.take_room.new.self e.event e.logged refl c.take_room.ensures.notes c.take_room.ensures.rest e.noted
 
 pub invariant_of-self-2 : goal.invariant_of-self-2
 invariant_of-self-2 g c =
     let room = on_ok c.take_room.result c.is_err.result c.is_err.ensures.value c.if-is_err.false c.take_room.ensures.room in
-    let long = c.take_room.ensures.notes.1 in
+    let long = ap length c.take_room.ensures.notes in
     let same = c.collect_step.ensures.owed in
     let noted = c.collect_step.ensures.enters.noted in
     (made c.self.inside (after g c) c.args.self.now c.args.held.now c.collect_step.new.held c.collect_step.ensures.enters.event c.collect_step.ensures.enters.logged (left g c) c.self.invariant c.self.view_is c.requires.agree (grows g c) c.collect_step.ensures.enters.collects c.requires.history c.requires.ready c.collect_step.ensures.owed).sound

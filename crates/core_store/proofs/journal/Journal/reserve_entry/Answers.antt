@@ -14,7 +14,7 @@ within g c = sym c.is_past_limit.ensures ∙ c.if-is_past_limit.false
 
 taken : (g : Over) (c : goal.After-reserve g) → HasTaken c.self.inside c.take_room.new.self c.reserve.new.self
 taken g c = record {
-  notes = c.take_room.ensures.notes.0;
+  notes = c.take_room.ensures.notes;
   limits = c.take_room.ensures.rest.0;
   marks = c.take_room.ensures.rest.1;
   room = (let room = on_ok c.take_room.result c.is_err.result c.is_err.ensures.value c.if-is_err.false c.take_room.ensures.room in let owed = c.owed.ensures in omega (arith, room, owed));

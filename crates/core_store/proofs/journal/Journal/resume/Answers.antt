@@ -26,7 +26,7 @@ module _ (g : Rattle.core_store.proofs.journal.Journal.resume.Given.Over) (c : g
       let t = c.in_ok-tables.tables in
       let frames = c.args.frames.now in
       opened-seen (8 * length frames) (cells_in frames) c.in_ok-opening.opening.items c.new.result c.args.limits t.ids t.queue.ids t.round.view
-      c.new.ensures.limits c.new.ensures.marks c.new.ensures.reserved c.new.ensures.notes.0 c.in_ok-opening.ensures tables.same_ids tables.queue tables.round
+      c.new.ensures.limits c.new.ensures.marks c.new.ensures.reserved c.new.ensures.notes c.in_ok-opening.ensures tables.same_ids tables.queue tables.round
 
 pub invariant_of-journal : goal.invariant_of-journal
 invariant_of-journal g c =
@@ -38,7 +38,7 @@ invariant_of-journal g c =
       placed =
           subst (λ (cells : List (Cell g.row.SLOTS)). AreByIds c.in_ok-tables.tables.ids cells) (sym c.in_ok-opening.ensures)
           (subst (λ (n : ℕ). AreByIds n (cells_in frames)) (sym (tables g c).same_ids) (opening-by_ids frames c.requires.pages));
-      room = (let owed = (tables g c).owed in let long = c.new.ensures.notes.1 in omega (arith, owed, long));
+      room = (let owed = (tables g c).owed in let long = ap length c.new.ensures.notes in omega (arith, owed, long));
       reserved = λ e. absurd (let none = c.new.ensures.reserved in cc);
     }
 

@@ -1,10 +1,11 @@
 use Rattle.std.proofs.Common.{rules}
+use Rattle.core_store.specs.Notes.{act_of, logged_of}
 use Rattle.core_store.proofs.tables.Tables.collect_step.Goals as goal
 
 pub returns-in-Queue-clause-enters : goal.returns-in-Queue-clause-enters
 returns-in-Queue-clause-enters g c = record {
-  event = c.begin_round.result.act;
-  logged = c.begin_round.result.logged;
+  event = act_of c.begin_round.result;
+  logged = logged_of c.begin_round.result;
   collects = c.begin_round.ensures.collects c.args.held.now;
   noted = c.enter.ensures.noted;
   told = c.enter.ensures.answer;

@@ -1,12 +1,11 @@
 use Rattle.std.proofs.Common.{rules, subst, sym, ap, ◌∙◌, List, [], get_or, set, refl}
-use Rattle.cell_page.specs.declared.cell.Cell.{Cell}
 use Rattle.cell_page.specs.Format.{page_of_id, place_of}
 use Rattle.core_store.specs.declared.frame.Frame.{Frame}
 use Rattle.core_store.specs.declared.three.HeldFrame.{HeldFrame}
 use Rattle.core_store.specs.Frames.{Agree, pages_held}
 use Rattle.core_store.specs.Inside.{frames_of_all}
 use Rattle.core_store.proofs.PagePlaces.{HasId-held}
-use Rattle.core_store.proofs.ThreeLaws.{page-in-all, page-put, there-put, behind-all, within-all, holds-in-all, AreThreeInside-set, AreThreeInside-in-all, pages-changed, pages-in-all, Agree-place, Agree-in-all}
+use Rattle.core_store.proofs.ThreeLaws.{page-put, there-put, behind-all, within-all, holds-in-all, AreThreeInside-set, AreThreeInside-in-all, pages-changed, pages-in-all, Agree-place, Agree-in-all}
 use Rattle.core_store.proofs.three.Three.put_cell.Goals as goal
 
 pub put_in_all-requires : goal.put_in_all-requires

@@ -10,10 +10,10 @@ use Rattle.logged_journal.proofs.logged.LoggedJournal.begin.Goals as goal
 
 pub invariant_of-logged : goal.invariant_of-logged
 invariant_of-logged g c =
-    let history = c.history-durable.ensures in
+    let history = c.history.ensures in
     let capacity = c.in_default.ensures.ok in
     let len = c.image_len.ensures in
-    let none = ap (λ (l : List Note). length l) (history.notes ∙ c.requires.notes) in
+    let none = c.len-durable.ensures ∙ ap (λ (l : List Note). length l) (history.notes ∙ c.requires.notes) in
     record {
       size = c.requires.size;
       own = c.requires.slots;

@@ -188,7 +188,7 @@ after g c = record {
   journal = c.apply-reply.new.self;
   log = c.force.new.self;
   disk = c.force.new.disk;
-  durable = length c.history.result.now;
+  durable = c.len-self-inside.result;
   marks = c.self.inside.marks;
   failed = c.self.inside.failed;
   log_full = c.self.inside.log_full;
@@ -237,7 +237,7 @@ committed g c =
           c.force.new.disk (λ area may. (keeps Pages (pages-apart log.area on.area)).no_more area may);
       long = λ area may. s.long area ((keeps Pages (pages-apart log.area on.area)).no_more area may);
       marks = refl;
-      all = ap (λ (l : List Note). length l) c.history.ensures.notes;
+      all = c.len-self-inside.ensures ∙ ap (λ (l : List Note). length l) c.history.ensures.notes;
       lasting = durable-all c.apply-reply.new.self (subst (λ (l : List Note). map (λ n. n.entry) l ≡ c.apply-reply.new.self.history.entries) c.history.ensures.notes c.history.ensures.entries) c.history.ensures.safe;
       running = running c.self.inside c.args.self.now c.self.view_is c.requires.running;
       others = (refl, refl);
@@ -262,7 +262,7 @@ invariant_of-self-2 g c =
     }
 
 pub returns-clause-done : goal.returns-clause-done
-returns-clause-done g c is = (done g c, ap (λ (l : List Note). length l) c.history.ensures.notes)
+returns-clause-done g c is = (done g c, c.len-self-inside.ensures ∙ ap (λ (l : List Note). length l) c.history.ensures.notes)
 
 pub returns-clause-does : goal.returns-clause-does
 returns-clause-does g c is =

@@ -93,9 +93,9 @@ invariant_of-self-2 g c =
             omega (arith, before, value, cause),
         subst (λ (o : Option FailedCall). IfSome o (λ f. Rose c.self.inside.opened f.faults × (f.faults ≤ g.D.Disk.faults c.force.new.disk))) (sym running) tt,
       );
-      kept = kept-forced g.D.Disk.may_leave v c.force.new.self c.force.new.disk (length c.history.result.now) c.max-self-inside.result c.self.invariant.kept running stands
+      kept = kept-forced g.D.Disk.may_leave v c.force.new.self c.force.new.disk c.len-self-inside.result c.max-self-inside.result c.self.invariant.kept running stands
           (subst (λ (l : List Note). map (λ n. n.entry) l ≡ c.self.inside.journal.history.entries) c.history.ensures.notes c.history.ensures.entries) c.history.ensures.safe
-          (c.force.ensures.log ∙ was-ok c.force.result (forced log) (failed log) succeeded) (ap (λ (l : List Note). length l) c.history.ensures.notes)
+          (c.force.ensures.log ∙ was-ok c.force.result (forced log) (failed log) succeeded) (c.len-self-inside.ensures ∙ ap (λ (l : List Note). length l) c.history.ensures.notes)
           (subst (λ (w : LoggedView g.row.D.Denot). bytes_counted w + 5 ≤ most_bytes) (sym c.self.view_is) c.requires.bounded)
           (omega (arith, peak-is)) (omega (arith, peak-is, used-is, owed-is))
           (on-ok c.force.result _ succeeded (c.force.ensures.on stands.batches reached)) (on-ok c.force.result _ succeeded (c.force.ensures.images stands.batches reached (omega (arith, bounded))))

@@ -19,8 +19,8 @@ invariant_of-self g c =
       own = ap (λ (k : JournalView). k.history.slots) c.enter_hidden.ensures.entered ∙ c.self.invariant.own;
       spelling = c.self.invariant.spelling;
       counted = c.self.invariant.counted;
-      kept = kept-all g.D.Disk.may_leave (record v { journal = j }) (length c.history.result.now)
+      kept = kept-all g.D.Disk.may_leave (record v { journal = j }) c.len-self-inside.result
           (subst (λ (k : JournalView). IsKept g.D.Disk.may_leave (record v { journal = k })) (sym c.enter_hidden.ensures.entered) (kept-entry g.D.Disk.may_leave g.row.SLOTS v Hidden c.self.invariant.kept running tt))
           running (subst (λ (l : List Note). map (λ n. n.entry) l ≡ j.history.entries) c.history.ensures.notes c.history.ensures.entries) c.history.ensures.safe empty
-          (ap (λ (l : List Note). length l) c.history.ensures.notes);
+          (c.len-self-inside.ensures ∙ ap (λ (l : List Note). length l) c.history.ensures.notes);
     }
