@@ -1,22 +1,25 @@
 -- What the program answers, by the command that its words name.
 use Rattle.std.proofs.Common.{◌≡◌, ◌⊎◌, ⊎_elim, inl, inr, ◌≤◌, ◌*◌, ℕ, Bool, true, false, List, [], ◌∷◌, Option, Some, None, refl, sym, ap, subst, ◌∙◌, arith}
-use Rattle.std.specs.Prelude.{IfSome, codes, bytes_eq, nat_le, nat_lt, ◌&&◌, if◌then◌else◌, option_and_then, option_map}
+use Rattle.std.specs.Prelude.{IfSome, is_some, codes, bytes_eq, nat_le, nat_lt, ◌&&◌, if◌then◌else◌, option_and_then, option_map}
 use Rattle.std.proofs.lemmas.Bool.{leb-true, ltb-true}
 use Rattle.disk_model.specs.declared.area.Area.{Area}
 use Rattle.disk_model.specs.Areas.{Bytes}
 use Rattle.disk_model.specs.Told.{IsImage}
+use Rattle.disk_model.specs.Time.{LeavesOnlyImages}
+use Rattle.opened_images.specs.Opened.{Opened, OpensTo}
+use Rattle.store_opening.specs.declared.open_refusal.OpenRefusal.TheVariants.{Memory}
 use Rattle.disk_model.proofs.Moments.{no_call}
 use Rattle.store_opening.specs.Looks.{IsLookedAt}
 use Rattle.script_lines.specs.Numbers.{number_of, pages_of}
 use Rattle.brahma_shell.specs.declared.commands.Command.{Command}
 use Rattle.brahma_shell.specs.declared.commands.Command.TheVariants.{Init, Replay, Run, Gen, Audit}
-use Rattle.brahma_shell.specs.declared.gen_words.Asked.{Asked}
+use Rattle.gen_options.specs.declared.reading.Asked.{Asked}
 use Rattle.brahma_shell.specs.declared.ended.Ended.{Ended}
 use Rattle.brahma_shell.specs.declared.ended.Ended.TheVariants.{Shut, Kept}
 use Rattle.logged_journal.specs.View.{LoggedView}
-use Rattle.brahma_shell.specs.GenWords.{asked_of}
-use Rattle.brahma_shell.specs.Commands.{command_of}
-use Rattle.brahma_shell.specs.Ended.{disk_in}
+use Rattle.gen_options.specs.Options.{asked_of}
+use Rattle.brahma_shell.specs.Commands.{AskOptions, command_of}
+use Rattle.brahma_shell.specs.Ended.{disk_in, shut_in}
 use Rattle.brahma_shell.specs.Top.{IsStatusOfReplay, GoesLater, Outside, Ends, AlwaysOpens, Unopened, Replayed, Audited, Generated, Made}
 use Rattle.brahma_shell.specs.Ran.{Ran}
 use Rattle.brahma_shell.specs.Answered.{CanBeDone, Answered}
@@ -162,6 +165,32 @@ pages-within (word ∷ []) p e = absurd (one-word (bytes_eq word (codes "replay"
 pages-within (word ∷ number ∷ []) p e = within (number_of number) p (two-words (bytes_eq word (codes "init")) (pages_of number) p (sym e))
 pages-within (word ∷ number ∷ other ∷ words) p e = absurd (more-words (bytes_eq word (codes "gen")) (asked_of (number ∷ other ∷ words)) p (sym e))
 
+-- ---- no memory to read the options of `gen`
+
+of-options : (b : Bool) (o : Option Asked) (c : Command) → (if b then option_map Gen o else None) ≡ Some c → (a : Asked) × (c ≡ Gen a)
+of-options true None c e = absurd (cc (e))
+of-options true (Some a) c e = (a, cc (e))
+of-options false o c e = absurd (cc (e))
+
+-- options ask for no other command
+options-gen : (words : List (List ℕ)) (c : Command) → AskOptions words → command_of words ≡ Some c → (a : Asked) × (c ≡ Gen a)
+options-gen [] c ask e = absurd ask
+options-gen (word ∷ []) c ask e = absurd ask
+options-gen (word ∷ number ∷ []) c ask e = absurd ask
+options-gen (word ∷ number ∷ other ∷ words) c ask e = of-options (bytes_eq word (codes "gen")) (asked_of (number ∷ other ∷ words)) c e
+
+options-init : (words : List (List ℕ)) (pages : ℕ) → AskOptions words → command_of words ≡ Some (Init pages) → ⊥
+options-init words pages ask e = let g = options-gen words (Init pages) ask e in absurd (cc (g.1))
+
+options-replay : (words : List (List ℕ)) → AskOptions words → command_of words ≡ Some Replay → ⊥
+options-replay words ask e = let g = options-gen words Replay ask e in absurd (cc (g.1))
+
+pub options-run : (words : List (List ℕ)) → AskOptions words → command_of words ≡ Some Run → ⊥
+options-run words ask e = let g = options-gen words Run ask e in absurd (cc (g.1))
+
+options-audit : (words : List (List ℕ)) → AskOptions words → command_of words ≡ Some Audit → ⊥
+options-audit words ask e = let g = options-gen words Audit ask e in absurd (cc (g.1))
+
 module _ {S D : Type 0} (content : D → Area → Option (List ℕ)) (may_leave : D → Area → List ℕ → Type 0) (moment : D → ℕ) (left_since : D → ℕ → Bytes → Type 0)
     (words : List (List ℕ)) (script later : S) (disk : D) (before after : Outside) (status : ℕ) (ended : Ended D) (goes : GoesLater before after)
     (stay : (d : D) (area : Area) → IfSome (content d area) (may_leave d area)) (counts : (d : D) (t : ℕ) (image : Bytes) → t ≤ moment d → IsImage may_leave d image → left_since d t image) where
@@ -172,7 +201,8 @@ module _ {S D : Type 0} (content : D → Area → Option (List ℕ)) (may_leave 
   -- the words have no reading
   pub asks-nothing : ((d : D) (image : Bytes) → left_since d (moment d) image → IsImage may_leave d image) → command_of words ≡ None → status ≡ 2 → later ≡ script → ended ≡ Shut disk → Ends before after [] (codes "usage\n") → Answered content may_leave moment left_since words script later disk before after status ended
   asks-nothing only_now none two same back ends = record {
-    usage = (λ _. none, λ _. two);
+    usage = λ _. none;
+    no_reading = λ _. inl two;
     statuses = inl two;
     goes_later = goes;
     only_looks = λ other image reads closed. subst (λ (e : Ended D). IsLookedAt content may_leave moment left_since disk (disk_in e)) (sym back) (not-asked only_now);
@@ -189,11 +219,48 @@ module _ {S D : Type 0} (content : D → Area → Option (List ℕ)) (may_leave 
     only_refused = λ tell seven. absurd (omega (arith, two, seven));
   }
 
+  -- there is no memory to read the options of `gen`
+  pub asks-starved : ((d : D) (image : Bytes) → left_since d (moment d) image → IsImage may_leave d image) → AskOptions words → status ≡ 8 → later ≡ script → ended ≡ Shut disk → Ends before after [] (codes "refused: memory\n") → Answered content may_leave moment left_since words script later disk before after status ended
+  asks-starved only_now ask eight same back ends =
+      let looked = subst (λ (e : Ended D). IsLookedAt content may_leave moment left_since disk (disk_in e)) (sym back) (not-asked only_now) in
+      let unopened : Unopened content may_leave moment left_since disk before after status ended = record {
+        refusal = Memory;
+        refused = record {
+          refused = λ image reads. tt;
+          unwritten = inr looked;
+          only_looks = λ image reads closed. looked;
+        };
+        told = eight;
+        printed = ends;
+        shut = ap (λ (e : Ended D). is_some (shut_in e)) back;
+        failed = λ six. absurd (omega (arith, eight, six));
+        moments = λ cells image reads opens. subst (λ (e : Ended D). LeavesOnlyImages moment left_since disk (disk_in e) (λ other. IsImage may_leave disk other ⊎ Opened 6 other (OpensTo cells))) (sym back) (no_call may_leave (λ other. IsImage may_leave disk other ⊎ Opened 6 other (OpensTo cells)) only_now (λ other may. inl may));
+      } in
+      record {
+        usage = λ two. absurd (omega (arith, eight, two));
+        no_reading = λ none. inr (record { options = ask; told = eight; unread = (same, back); printed = ends });
+        statuses = inr (inr (inr (inr (inr (inr (inr (inl eight)))))));
+        goes_later = goes;
+        only_looks = λ other image reads closed. looked;
+        unread = λ two. absurd (omega (arith, eight, two));
+        made = λ pages e. absurd (options-init words pages ask e);
+        replayed = λ e. absurd (options-replay words ask e);
+        ran = λ e. absurd (options-run words ask e);
+        audited = λ e. absurd (options-audit words ask e);
+        generated = λ a e. (same, inl unopened);
+        makes_open = λ pages e. absurd (options-init words pages ask e);
+        stays_open = λ tell ids opens other. subst (λ (e : Ended D). AlwaysOpens may_leave ids (disk_in e)) (sym back) opens;
+        complete = λ tell command e can reads writes faults. inr (inl eight);
+        refuses = λ image reads closed ask. unopened;
+        only_refused = λ tell seven. absurd (omega (arith, eight, seven));
+      }
+
   pub asks-init : (pages : ℕ) → command_of words ≡ Some (Init pages) → later ≡ script → Made may_leave moment left_since disk pages before after status ended → Answered content may_leave moment left_since words script later disk before after status ended
   asks-init pages asked same made =
       let is = of-init status made.statuses in
       record {
-        usage = (λ two. absurd (not-usage status is two), λ none. absurd (none-some (command_of words) (Init pages) none asked));
+        usage = λ two. absurd (not-usage status is two);
+        no_reading = λ none. absurd (none-some (command_of words) (Init pages) none asked);
         statuses = inr is;
         goes_later = goes;
         only_looks = λ other. absurd (other pages asked);
@@ -213,7 +280,8 @@ module _ {S D : Type 0} (content : D → Area → Option (List ℕ)) (may_leave 
   pub asks-replay : command_of words ≡ Some Replay → IsStatusOfReplay status → (later ≡ script) × Unopened content may_leave moment left_since disk before after status ended ⊎ Replayed content may_leave script later disk before after status ended
       → Answered content may_leave moment left_since words script later disk before after status ended
   asks-replay asked is replayed = record {
-    usage = (λ two. absurd (not-usage status is two), λ none. absurd (none-some (command_of words) Replay none asked));
+    usage = λ two. absurd (not-usage status is two);
+    no_reading = λ none. absurd (none-some (command_of words) Replay none asked);
     statuses = inr is;
     goes_later = goes;
     only_looks = λ other image reads closed. ⊎_elim (λ u. u.1.refused.only_looks image reads closed) (λ r. absurd (closed r.run.opening (r.opened image reads))) replayed;
@@ -237,7 +305,8 @@ module _ {S D : Type 0} (content : D → Area → Option (List ℕ)) (may_leave 
   asks-audit asked statuses same audited =
       let is = of-audit status statuses in
       record {
-        usage = (λ two. absurd (not-usage status is two), λ none. absurd (none-some (command_of words) Audit none asked));
+        usage = λ two. absurd (not-usage status is two);
+        no_reading = λ none. absurd (none-some (command_of words) Audit none asked);
         statuses = inr is;
         goes_later = goes;
         only_looks = λ other image reads closed. ⊎_elim (λ u. u.refused.only_looks image reads closed) (λ a. absurd (closed a.cells (a.opened image reads))) audited;
@@ -262,7 +331,8 @@ module _ {S D : Type 0} (content : D → Area → Option (List ℕ)) (may_leave 
   asks-gen a asked statuses same generated =
       let is = of-gen status statuses in
       record {
-        usage = (λ two. absurd (not-usage status is two), λ none. absurd (none-some (command_of words) (Gen a) none asked));
+        usage = λ two. absurd (not-usage status is two);
+        no_reading = λ none. absurd (none-some (command_of words) (Gen a) none asked);
         statuses = inr is;
         goes_later = goes;
         only_looks = λ other image reads closed. ⊎_elim (λ u. u.refused.only_looks image reads closed) (λ g. absurd (closed g.0.journal.opening (g.2.opened image reads))) generated;
@@ -284,7 +354,8 @@ module _ {S D : Type 0} (content : D → Area → Option (List ℕ)) (may_leave 
   pub asks-run : command_of words ≡ Some Run → IsStatusOfReplay status → (later ≡ script) × Unopened content may_leave moment left_since disk before after status ended ⊎ ((v : LoggedView D) × (ended ≡ Kept v) × Ran content may_leave disk before after status v)
       → Answered content may_leave moment left_since words script later disk before after status ended
   asks-run asked is ran = record {
-    usage = (λ two. absurd (not-usage status is two), λ none. absurd (none-some (command_of words) Run none asked));
+    usage = λ two. absurd (not-usage status is two);
+    no_reading = λ none. absurd (none-some (command_of words) Run none asked);
     statuses = inr is;
     goes_later = goes;
     only_looks = λ other image reads closed. ⊎_elim (λ u. u.1.refused.only_looks image reads closed) (λ r. absurd (closed r.0.journal.opening (r.2.opened image reads))) ran;

@@ -1,5 +1,5 @@
 -- What the program answers.
-use Rattle.std.specs.Prelude.{◌≡◌, ◌⊎◌, ◌↔◌, ◌*◌, ℕ, List, [], Option, Some, None, codes, ⊤}
+use Rattle.std.specs.Prelude.{◌≡◌, ◌⊎◌, ◌*◌, ℕ, List, [], Option, Some, None, codes, ⊤}
 use Rattle.disk_model.specs.declared.area.Area.{Area}
 use Rattle.disk_model.specs.Areas.{Bytes}
 use Rattle.disk_model.specs.Causes.{Rose}
@@ -10,8 +10,8 @@ use Rattle.brahma_shell.specs.declared.commands.Command.{Command}
 use Rattle.brahma_shell.specs.declared.commands.Command.TheVariants.{Init, Replay, Run, Gen, Audit}
 use Rattle.brahma_shell.specs.declared.ended.Ended.{Ended}
 use Rattle.brahma_shell.specs.declared.ended.Ended.TheVariants.{Shut, Kept}
-use Rattle.brahma_shell.specs.declared.gen_words.Asked.{Asked}
-use Rattle.brahma_shell.specs.Commands.{command_of}
+use Rattle.gen_options.specs.declared.reading.Asked.{Asked}
+use Rattle.brahma_shell.specs.Commands.{AskOptions, command_of}
 use Rattle.brahma_shell.specs.Ended.{disk_in}
 use Rattle.brahma_shell.specs.Top.{Tell, IsStatus, GoesLater, IsDoneOrFull, HasOnlyLines, Outside, Ends, Unopened, Replayed, Audited, Made, Generated, AlwaysOpens}
 use Rattle.brahma_shell.specs.ClientLines.{HasOnlyClients}
@@ -31,10 +31,19 @@ CanBeDone may_leave disk left Run = (ids : ℕ) × AlwaysOpens may_leave ids dis
 CanBeDone may_leave disk left (Gen asked) = (ids : ℕ) × AlwaysOpens may_leave ids disk
 CanBeDone may_leave disk left Audit = (ids : ℕ) × AlwaysOpens may_leave ids disk
 
+-- there was no memory to read the options of `gen`: nothing is read, and the disk is asked for nothing
+pub record Starves {S D : Type 0} (words : List (List ℕ)) (script later : S) (disk : D) (before after : Outside) (status : ℕ) (ended : Ended D) : Type 0 where
+  pub options : AskOptions words
+  pub told : status ≡ 8
+  pub unread : (later ≡ script) × (ended ≡ Shut disk)
+  pub printed : Ends before after [] (codes "refused: memory\n")
+
 -- the program was asked by these words, and ended with this status: by what each command says
 pub record Answered {S D : Type 0} (content : D → Area → Option (List ℕ)) (may_leave : D → Area → List ℕ → Type 0) (moment : D → ℕ) (left_since : D → ℕ → Bytes → Type 0)
     (words : List (List ℕ)) (script later : S) (disk : D) (before after : Outside) (status : ℕ) (ended : Ended D) : Type 0 where
-  pub usage : (status ≡ 2) ↔ (command_of words ≡ None)
+  pub usage : status ≡ 2 → command_of words ≡ None
+  -- words that have no reading are refused as such, or there was no memory to tell
+  pub no_reading : command_of words ≡ None → (status ≡ 2) ⊎ Starves words script later disk before after status ended
   pub statuses : IsStatus status
   pub goes_later : GoesLater before after
   -- where the disk holds no store that opens, and none is made, the disk is only looked at: each image, at each moment and at the

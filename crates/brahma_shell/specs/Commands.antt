@@ -1,7 +1,7 @@
 -- What the words behind the program's name ask.
-use Rattle.std.specs.Prelude.{ℕ, if◌then◌else◌, List, [], ◌∷◌, Option, Some, None, bytes_eq, codes, option_map}
+use Rattle.std.specs.Prelude.{◌≡◌, ℕ, if◌then◌else◌, List, [], ◌∷◌, Option, Some, None, bytes_eq, codes, option_map}
 use Rattle.script_lines.specs.Numbers.{pages_of}
-use Rattle.brahma_shell.specs.GenWords.{asked_of}
+use Rattle.gen_options.specs.Options.{asked_of}
 use Rattle.brahma_shell.specs.declared.commands.Command.{Command}
 use Rattle.brahma_shell.specs.declared.commands.Command.TheVariants.{Init, Replay, Run, Gen, Audit}
 
@@ -27,3 +27,10 @@ command_of [] = None
 command_of (word ∷ []) = command_of_word word
 command_of (word ∷ number ∷ []) = command_of_two word number
 command_of (word ∷ number ∷ other ∷ words) = command_of_more word (number ∷ other ∷ words)
+
+-- the words are `gen` with options behind it, whose reading takes memory
+abbrev pub AskOptions : List (List ℕ) → Type 0
+AskOptions [] = ⊥
+AskOptions (word ∷ []) = ⊥
+AskOptions (word ∷ number ∷ []) = ⊥
+AskOptions (word ∷ number ∷ other ∷ words) = word ≡ codes "gen"

@@ -1,10 +1,12 @@
 //! What the words ask the program to do.
-ghost use Rattle.std.specs.Prelude.{◌≡◌, Option, map, string_bytes};
-ghost use Rattle.brahma_shell.specs.Commands.{command_of, command_of_word, command_of_two, command_of_more};
+ghost use Rattle.std.specs.Prelude.{◌≡◌, IfOk, OnErr, Option, map, string_bytes, codes};
+ghost use Rattle.brahma_shell.specs.Commands.{AskOptions, command_of, command_of_word, command_of_two, command_of_more};
 
-use crate::gen_words::{Asked, asked_of};
 use crate::words::Words;
+use gen_options::{Asked, asked_of};
+use plain_model::Memory;
 use script_lines::pages_of;
+use std::alloc::Global;
 
 /// What the words ask the program to do.
 #[derive(Clone, Copy, PartialEq, Eq, Debug)]
@@ -46,26 +48,31 @@ fn command_of_two(word: &[u8], number: &[u8]) -> Option<Command>
     }
 }
 
-/// The command that a word names with more than one word behind it.
-fn command_of_more(word: &[u8], words: &[String]) -> Option<Command>
-    ensures { result ≡ command_of_more word.now (map string_bytes words.now) }
+/// The command that a word names with more than one word behind it. Those of `gen` are options, whose reading takes memory.
+fn command_of_more(alloc: Global, word: &[u8], words: &[String]) -> Result<Option<Command>, Memory>
+    ensures value { IfOk result (λ command. command ≡ command_of_more word.now (map string_bytes words.now)) }
+    ensures memory { OnErr result (word.now ≡ codes "gen") }
 {
     match word {
-        b"gen" => Some(Command::Gen(asked_of(words)?)),
-        _ => None,
+        b"gen" => match asked_of(alloc, words)? {
+            Some(asked) => Ok(Some(Command::Gen(asked))),
+            None => Ok(None),
+        },
+        _ => Ok(None),
     }
 }
 
 impl Command {
-    /// What the words ask, where they have a reading.
-    pub fn of(words: &Words) -> Option<Command>
-        ensures { result ≡ command_of words.now }
+    /// What the words ask, where they have a reading. Only the options of `gen` take memory.
+    pub fn of(alloc: Global, words: &Words) -> Result<Option<Command>, Memory>
+        ensures value { IfOk result (λ command. command ≡ command_of words.now) }
+        ensures memory { OnErr result (AskOptions words.now) }
     {
         match words.items() {
-            [word] => command_of_word(word.as_bytes()),
-            [word, number] => command_of_two(word.as_bytes(), number.as_bytes()),
-            [word, words @ ..] => command_of_more(word.as_bytes(), words),
-            [] => None,
+            [word] => Ok(command_of_word(word.as_bytes())),
+            [word, number] => Ok(command_of_two(word.as_bytes(), number.as_bytes())),
+            [word, words @ ..] => command_of_more(alloc, word.as_bytes(), words),
+            [] => Ok(None),
         }
     }
 }

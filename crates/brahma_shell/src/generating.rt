@@ -15,7 +15,6 @@ ghost use Rattle.brahma_shell.specs.Top.{IsJustOpened, Unopened, Generated, outs
 
 use crate::ended::Ended;
 use crate::gc;
-use crate::gen_words::Asked;
 use crate::nowhere::Nowhere;
 use crate::refusing::refuse;
 use crate::replay::{Stop, obey};
@@ -25,6 +24,7 @@ use crate::store::Store;
 use crate::tally::tally_of;
 use call_generator::{Generator, Turn};
 use disk_model::Disk;
+use gen_options::Asked;
 use outside_io::Sink;
 use plain_model::Call;
 use script_lines::{Line, generated_line, write_all, write_last};

@@ -18,6 +18,8 @@ mod made;
 #[cfg(test)]
 mod openings;
 #[cfg(test)]
+mod options;
+#[cfg(test)]
 mod pages;
 #[cfg(test)]
 mod plain_machine;

@@ -69,8 +69,8 @@ fn call(
     sink: &mut MemorySink,
     disk: MemoryDisk,
 ) -> (u8, MemoryDisk) {
-    match Command::of(words) {
-        Some(Command::Run) => (NO_STATUS, disk),
+    match Command::of(alloc, words) {
+        Ok(Some(Command::Run)) => (NO_STATUS, disk),
         _ => {
             let (status, ended) = command(alloc, words, source, sink, disk);
             (status, ended.disk())

@@ -2,54 +2,61 @@ use Rattle.std.proofs.Common.{refl, sym, ◌∙◌, arith}
 use mir.Syntax.{of_param}
 use Rattle.brahma_shell.specs.declared.commands.Command.TheVariants.{Init, Replay, Gen, Audit}
 use Rattle.brahma_shell.specs.Commands.{command_of}
-use Rattle.brahma_shell.proofs.AnswerLemmas.{asks-nothing, asks-init, asks-replay, asks-gen, asks-audit, pages-within, named}
+use Rattle.brahma_shell.proofs.AnswerLemmas.{asks-nothing, asks-starved, asks-init, asks-replay, asks-gen, asks-audit, pages-within, named}
 use Rattle.brahma_shell.proofs.FewLemmas.{gen-few}
 use Rattle.brahma_shell.proofs.top.command.Goals as goal
 
 pub make_store-requires : goal.make_store-requires
 make_store-requires g c =
-    let at = c.in-Some-Init in
+    let at = c.in-Ok-Some-Init in
     let send = c.type_bounds.send-D in
-    (record { owned = send.owned; leaving = λ k. send.leaving (λ _. k (of_param 1)) }, pages-within c.args.words.now at.pages (sym (named c.of.result (command_of c.args.words.now) at.field-0 (Init at.pages) c.of.ensures at.is at.field-0-is)))
+    (record { owned = send.owned; leaving = λ k. send.leaving (λ _. k (of_param 1)) }, pages-within c.args.words.now at.pages (sym (named at.field-0 (command_of c.args.words.now) at.field-0-0 (Init at.pages) at.ensures.value at.field-0-is at.field-0-0-is)))
 
-pub returns-in-Some-Init : goal.returns-in-Some-Init
-returns-in-Some-Init g c =
-    let at = c.in-Some-Init in
-    let asked = named c.of.result (command_of c.args.words.now) at.field-0 (Init at.pages) c.of.ensures at.is at.field-0-is in
+pub returns-in-Ok-Some-Init : goal.returns-in-Ok-Some-Init
+returns-in-Ok-Some-Init g c =
+    let at = c.in-Ok-Some-Init in
+    let asked = named at.field-0 (command_of c.args.words.now) at.field-0-0 (Init at.pages) at.ensures.value at.field-0-is at.field-0-0-is in
     let made = c.make_store.ensures in
     asks-init g.D.Disk.content g.D.Disk.may_leave g.D.Disk.moment g.D.Disk.left_since _ _ _ _ _ _ _ _ (record { reads = omega arith; writes = made.out_later; disk = made.disk_later }) g.D.Disk.reads_may_stay g.D.Disk.counts_now at.pages asked refl
     (made.made (g.R.Source.left c.args.script.now) (g.R.Source.faults c.args.script.now))
 
-pub returns-in-Some-Replay : goal.returns-in-Some-Replay
-returns-in-Some-Replay g c =
-    let at = c.in-Some-Replay in
-    let asked = named c.of.result (command_of c.args.words.now) at.field-0 Replay c.of.ensures at.is at.field-0-is in
+pub returns-in-Ok-Some-Replay : goal.returns-in-Ok-Some-Replay
+returns-in-Ok-Some-Replay g c =
+    let at = c.in-Ok-Some-Replay in
+    let asked = named at.field-0 (command_of c.args.words.now) at.field-0-0 Replay at.ensures.value at.field-0-is at.field-0-0-is in
     let r = c.replay_script.ensures in
     asks-replay g.D.Disk.content g.D.Disk.may_leave g.D.Disk.moment g.D.Disk.left_since _ _ _ _ _ _ _ _ r.later g.D.Disk.reads_may_stay g.D.Disk.counts_now asked r.statuses r.replayed
 
 pub generate_calls-requires : goal.generate_calls-requires
 generate_calls-requires g c =
-    let at = c.in-Some-Gen in
+    let at = c.in-Ok-Some-Gen in
     let send = c.type_bounds.send-D in
-    (record { owned = send.owned; leaving = λ k. send.leaving (λ _. k (of_param 1)) }, gen-few c.args.words.now at.asked (named c.of.result (command_of c.args.words.now) at.field-0 (Gen at.asked) c.of.ensures at.is at.field-0-is))
+    (record { owned = send.owned; leaving = λ k. send.leaving (λ _. k (of_param 1)) }, gen-few c.args.words.now at.asked (named at.field-0 (command_of c.args.words.now) at.field-0-0 (Gen at.asked) at.ensures.value at.field-0-is at.field-0-0-is))
 
-pub returns-in-Some-Gen : goal.returns-in-Some-Gen
-returns-in-Some-Gen g c =
-    let at = c.in-Some-Gen in
-    let asked = named c.of.result (command_of c.args.words.now) at.field-0 (Gen at.asked) c.of.ensures at.is at.field-0-is in
+pub returns-in-Ok-Some-Gen : goal.returns-in-Ok-Some-Gen
+returns-in-Ok-Some-Gen g c =
+    let at = c.in-Ok-Some-Gen in
+    let asked = named at.field-0 (command_of c.args.words.now) at.field-0-0 (Gen at.asked) at.ensures.value at.field-0-is at.field-0-0-is in
     let r = c.generate_calls.ensures in
     asks-gen g.D.Disk.content g.D.Disk.may_leave g.D.Disk.moment g.D.Disk.left_since _ _ _ _ _ _ _ _ (record { reads = omega arith; writes = r.out_later; disk = r.disk_later }) g.D.Disk.reads_may_stay g.D.Disk.counts_now at.asked asked r.statuses refl
     (r.generated (g.R.Source.left c.args.script.now) (g.R.Source.faults c.args.script.now))
 
-pub returns-in-Some-Audit : goal.returns-in-Some-Audit
-returns-in-Some-Audit g c =
-    let at = c.in-Some-Audit in
-    let asked = named c.of.result (command_of c.args.words.now) at.field-0 Audit c.of.ensures at.is at.field-0-is in
+pub returns-in-Ok-Some-Audit : goal.returns-in-Ok-Some-Audit
+returns-in-Ok-Some-Audit g c =
+    let at = c.in-Ok-Some-Audit in
+    let asked = named at.field-0 (command_of c.args.words.now) at.field-0-0 Audit at.ensures.value at.field-0-is at.field-0-0-is in
     let a = c.audit_store.ensures in
     asks-audit g.D.Disk.content g.D.Disk.may_leave g.D.Disk.moment g.D.Disk.left_since _ _ _ _ _ _ _ _ (record { reads = omega arith; writes = a.out_later; disk = a.disk_later }) g.D.Disk.reads_may_stay g.D.Disk.counts_now asked a.statuses refl
     (a.audited (g.R.Source.left c.args.script.now) (g.R.Source.faults c.args.script.now))
 
-pub returns-in-None : goal.returns-in-None
-returns-in-None g c =
-    asks-nothing g.D.Disk.content g.D.Disk.may_leave g.D.Disk.moment g.D.Disk.left_since _ _ _ _ _ _ _ _ (record { reads = omega arith; writes = c.write_last.ensures.later; disk = omega arith })
-    g.D.Disk.reads_may_stay g.D.Disk.counts_now g.D.Disk.only_now (sym c.of.ensures ∙ c.in-None.is) refl refl refl c.write_last.ensures.ends
+pub returns-in-Ok-None : goal.returns-in-Ok-None
+returns-in-Ok-None g c =
+    let last = c.write_last.ensures in
+    asks-nothing g.D.Disk.content g.D.Disk.may_leave g.D.Disk.moment g.D.Disk.left_since _ _ _ _ _ _ _ _ (record { reads = omega arith; writes = last.later; disk = omega arith })
+    g.D.Disk.reads_may_stay g.D.Disk.counts_now g.D.Disk.only_now (sym c.in-Ok-None.ensures.value ∙ c.in-Ok-None.field-0-is) refl refl refl last.ends
+
+pub returns-in-Err : goal.returns-in-Err
+returns-in-Err g c =
+    let last = c.write_last-in-Err.ensures in
+    asks-starved g.D.Disk.content g.D.Disk.may_leave g.D.Disk.moment g.D.Disk.left_since _ _ _ _ _ _ _ _ (record { reads = omega arith; writes = last.later; disk = omega arith })
+    g.D.Disk.reads_may_stay g.D.Disk.counts_now g.D.Disk.only_now c.in-Err.ensures.memory refl refl refl last.ends

@@ -1,0 +1,12 @@
+pub mod Names
+pub mod WordViews
+pub mod Rows
+pub mod Turns
+pub mod Ends
+pub mod Decided
+pub mod LastWords
+pub mod NextWords
+pub mod ParseLaw
+pub mod Found
+pub mod FewClients
+pub mod Built
