@@ -1,10 +1,13 @@
 //! Runs whose audits were worked out by hand.
 use crate::opened::open_fresh;
 use crate::steps::{Step, begin, commit, make, run, store};
-use core_store::{AbortStep, Limits};
-use disk_model::MemoryDisk;
+use auditor::{Difference, audit};
+use cell_page::{Cell, Page};
+use core_store::{AbortStep, Frame, Limits};
+use disk_model::{Disk, MemoryDisk};
+use framed_journal::FramedJournal;
 use plain_model::Reply;
-use std::alloc::Global;
+use std::alloc::{AllocError, Global};
 use std::process::Abort;
 use std::test::Fail;
 
@@ -77,4 +80,47 @@ fn a_store_on_three_pages(rt: HostRuntime) -> Result<(), Fail> {
         Step::Audit(2, 0),
     ];
     run_fresh(&rt, rt.alloc(), &steps)
+}
+
+/// Whether an audit of cells that no note changed, in a page whose counts are wrong, tells just these. The journal has no note.
+fn tells_the_wrong_count<D: Disk>(
+    alloc: Global,
+    journal: &FramedJournal<6, D>,
+) -> Result<bool, AllocError> {
+    let notes = journal.logged().journal().history();
+    if !notes.is_empty() {
+        return Ok(false);
+    }
+    let mut page = Page::<6>::fresh(0);
+    page.put_cell(Cell::new_object(1));
+    let opening = [
+        Cell::new_object(1),
+        Cell::free(2),
+        Cell::free(3),
+        Cell::free(4),
+        Cell::free(5),
+        Cell::free(6),
+        Cell::free(7),
+        Cell::free(8),
+    ];
+    let report = audit(alloc, &opening, notes, &[Frame { page }])?;
+    let wrong = Difference {
+        id: 1,
+        kept: 0,
+        found: 4_294_967_296,
+    };
+    Ok(report.differences.items() == [wrong].as_slice())
+}
+
+/// The same of a store that has just been opened, which has no note.
+fn is_told_of_a_fresh_store(alloc: Global) -> Result<bool, Fail> {
+    let journal = open_fresh(alloc, MemoryDisk::new(alloc), 1, Limits::GREATEST)?;
+    Ok(tells_the_wrong_count(alloc, &journal)?)
+}
+
+#[test]
+fn a_wrong_count_is_told(rt: HostRuntime) -> Result<(), Fail> {
+    let told = is_told_of_a_fresh_store(rt.alloc())?;
+    assert!(rt; told);
+    Ok(())
 }
