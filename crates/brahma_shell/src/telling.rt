@@ -20,8 +20,8 @@ use plain_model::{Call, Entry, Reply};
 use script_lines::{call_line, delete_line, stored_line, turn_busy_line, write_all, write_last};
 use std::alloc::Global;
 
-/// Writes that the collector deleted the object, as one piece. It stands apart, so that a step of the collector that deletes nothing
-/// clears no line.
+/// Writes that the collector deleted the object, as one piece. It stands apart, so that a step of the collector that deletes
+/// nothing clears no line.
 #[inline(never)]
 pub(crate) fn print_deletion<W: Sink>(out: &mut W, id: u32) -> Result<(), Stop>
     ensures ok { OnOk result (Appends (W.written out.old) (W.written out.new) (line_of (Entry.Delete id))) }

@@ -52,7 +52,8 @@ client_of g = slice_index_or g.clients (chosen g) (new_client 0)
 abbrev pub source_of : ℕ → Option ℕ
 source_of number = if number == 8 then None else Some number
 
--- the call whose kind was drawn as this one, of sixteen. The first argument is drawn from the number behind x, and each further one from the next. Beside the call stands the last number that was drawn from
+-- the call whose kind was drawn as this one, of sixteen. The first argument is drawn from the number behind x, and each further
+-- one from the next. Beside the call stands the last number that was drawn from
 abbrev pub drawn_call : (kind x : ℕ) → Call × ℕ
 drawn_call kind x =
     let x1 = next_number x in
@@ -66,7 +67,8 @@ drawn_call kind x =
     else if nat_le kind 14 then (Commit, x)
     else (Abort, x)
 
--- what a client asks that has made so many calls since its transaction began: to begin one, where it is in none; to commit behind 64 calls; else what is drawn
+-- what a client asks that has made so many calls since its transaction began: to begin one, where it is in none; to commit behind
+-- 64 calls; else what is drawn
 abbrev pub call_of_client : Option ℕ → ℕ → Call × ℕ
 call_of_client None x = (Begin, x)
 call_of_client (Some calls) x = if nat_le 64 calls then (Commit, x) else drawn_call (drawn (next_number x) 16) (next_number x)

@@ -25,6 +25,7 @@ ConsistentAfterLaw = (slots ids : ℕ) (cells : List Cell) (records : List (Opti
 abbrev pub OneMoreLaw : Type 0
 OneMoreLaw = (slots : ℕ) (cells : List Cell) (records : List (Option Record)) (r : Record) → cells_after slots cells (records ++ Some r ∷ []) ≡ after_record slots (cells_after slots cells records) r
 
--- why a pointer is made strong only where its target is another object: here no strong pointer leads out of the target, but the one to itself would be a cycle
+-- why a pointer is made strong only where its target is another object: here no strong pointer leads out of the target, but the
+-- one to itself would be a cycle
 abbrev pub SelfPointerLaw : Type 0
 SelfPointerLaw = (cells : List Cell) × AreConsistent 1 2 cells × Fits cells (Strengthen 2 0 2) × HasNoStrongOut cells 2 × (HasNoStrongCycle (after_record 1 cells (Strengthen 2 0 2)) → ⊥)

@@ -150,7 +150,8 @@ fails-here test whole n e log (k ∷ kept) here fail next a at all once =
     above : (m l : ℕ) → m ≤ l → l ≢ m → m + 1 ≤ l
     above m l h ne = grind arith
 
--- Entries that ascend from a place on, each at its place, none but such as pass the test and each of these once, are the notes that pass from there on
+-- Entries that ascend from a place on, each at its place, none but such as pass the test and each of these once, are the notes
+-- that pass from there on
 pub in-order : (test : Note → Bool) (whole log : List Note) (n : ℕ) (kept : List (ℕ × Note)) → drop n whole ≡ log → AscendFrom n kept → AreAt whole kept → AllPass test kept → KeepsPassing test whole n kept → map (λ k. k.1) kept ≡ filter test log
 in-order test whole [] n [] is a at all once = refl
 in-order test whole [] n (k ∷ kept) is a at all once =

@@ -15,8 +15,8 @@ at_slot (at.Test id slot) other = at.Test id other
 at_slot (at.Out «from» slot) other = at.Out «from» other
 at_slot r other = r
 
--- it is a look at a slot at which there is nothing to do: one that holds no strong pointer, in the sweep a null one, or at a green
--- object one to no object that is to be tested
+-- it is a look at a slot at which there is nothing to do: one that holds no strong pointer, in the sweep a null one, or at a
+-- green object one to no object that is to be tested
 abbrev pub IsIdleAt : List Cell → RoundView → RoundAt → Type 0
 IsIdleAt cells r (at.Look id slot) = is_counted_strong cells (pointer_at cells id slot) ≡ false
 IsIdleAt cells r (at.Cut id slot) = (pointer_at cells id slot).target ≡ 0

@@ -66,7 +66,8 @@ joined-front slots w None place l = ap (λ (xs : List ℕ). slice_index xs place
 joined-front slots w (Some id) place l =
     ap (λ (xs : List ℕ). slice_index (xs ++ id ∷ []) place) (moved-list slots w) ∙ get_or_append_left w.list (id ∷ []) 0 place l
 
--- where the slot in hand isn't strong, and slots that aren't there are not, all that is strong behind the next one was behind this one
+-- where the slot in hand isn't strong, and slots that aren't there are not, all that is strong behind the next one was behind
+-- this one
 pub behind-next : (slots : ℕ) (cells : List Cell) (w : Walk) (joins : Option ℕ) (id slot : ℕ) (written : List (ℕ × ℕ)) → next w ≡ red.Look id slot → (IsStrong cells id slot → ⊥) → ((k : ℕ) → slots ≤ k → IsStrong cells id k → ⊥)
     → ((place k : ℕ) → place < length w.list → IsBehind w place k → IsStrong cells (slice_index w.list place) k → Contains written (slice_index w.list place, k))
     → (place k : ℕ) → IsBehind (joined_by (moved slots w) joins) place k → IsStrong cells (slice_index (joined_by (moved slots w) joins).list place) k → Contains written (slice_index (joined_by (moved slots w) joins).list place, k)

@@ -1,4 +1,5 @@
--- The references, the queue and the round that tables stand for, and what the transactions owe, beside what a change of one transaction is told by.
+-- The references, the queue and the round that tables stand for, and what the transactions owe, beside what a change of one
+-- transaction is told by.
 use Rattle.std.proofs.Common.{◌≡◌, ℕ, ◌&&◌, ◌==◌, Bool, not, List, [], refl, sym, ap, ◌∙◌, subst, Option, Some, None}
 use Rattle.std.specs.Prelude.{IfSome}
 use Rattle.green_walk.specs.declared.green_at.Test.{Test}

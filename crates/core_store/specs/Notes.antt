@@ -1,4 +1,5 @@
--- The notes of a journal as they are kept: those of the collector in one row, all others in another, and a row that tells the order.
+-- The notes of a journal as they are kept: those of the collector in one row, all others in another, and a row that tells the
+-- order.
 use Rattle.std.specs.Prelude.{◌≡◌, ℕ, ◌≤◌, List, [], ◌∷◌, length, Option, Some, None, vec_capacity}
 use Rattle.std.specs.Global.{Vec}
 use Rattle.plain_model.specs.declared.calls.Call.{Call}

@@ -36,8 +36,8 @@ impl<const SLOTS: usize> Tables<SLOTS> {
         }
     }
 
-    /// Makes the looks that come next, over the slots of one object where it is at a slot. Tells the event that comes behind them,
-    /// or `None`, and then it has got further. All pages are held.
+    /// Makes the looks that come next, over the slots of one object where it is at a slot. Tells the event that comes behind
+    /// them, or `None`, and then it has got further. All pages are held.
     #[inline(always)]
     fn look_at(&mut self, held: &Three<SLOTS>, at: RoundAt) -> Option<RoundAt>
         requires standing { IsStanding (view_of self.old) held.now }

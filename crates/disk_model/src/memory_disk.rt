@@ -17,10 +17,9 @@ use std::marker::Model;
 /// Four areas in memory, a list of the calls that are to fail, and a number of calls after which each
 /// one fails.
 ///
-/// It keeps what was there for good when it was made or last lost power and all that was done since, so
-/// that it can lose power: what is left is fixed by a number. A sync copies no bytes. Calls of `len`, `read_at`, `write_at`, `cut` and `sync`
-/// are counted together, from 1 on, up to 2^64 - 1, where the count stands still. A call that fails
-/// changes nothing but the counts.
+/// It keeps what was there for good when it was made or last lost power and all that was done since, so that it can lose power:
+/// what is left is fixed by a number. A sync copies no bytes. Calls of `len`, `read_at`, `write_at`, `cut` and `sync` are counted
+/// together, from 1 on, up to 2^64 - 1, where the count stands still. A call that fails changes nothing but the counts.
 #[derive(Debug, Drop)]
 pub struct MemoryDisk {
     alloc: Global,

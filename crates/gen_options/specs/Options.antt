@@ -1,4 +1,5 @@
--- What the words behind `gen` ask: three options, each given once with its value, as `--NAME VALUE` or `--NAME=VALUE`, in any order. A last `--` may end them.
+-- What the words behind `gen` ask: three options, each given once with its value, as `--NAME VALUE` or `--NAME=VALUE`, in any
+-- order. A last `--` may end them.
 use Rattle.std.specs.Prelude.{ℕ, ◌*◌, ◌==◌, ◌||◌, Bool, nat_le, if◌then◌else◌, List, [], ◌∷◌, map, Option, Some, None, option_and_then, option_map, bytes_eq, codes}
 use Rattle.std.specs.List.{list_any, list_all, filter, before_first, after_first}
 use Rattle.script_lines.specs.Numbers.{seed_of, clients_of, transactions_of}
@@ -21,7 +22,8 @@ abbrev pub none_behind : List (List ℕ) → Option (List Given)
 none_behind [] = Some []
 none_behind (word ∷ words) = None
 
--- the options that the words give. A word without `=` is the name of one, and the word behind it is its value, whatever that is; behind `--` none may stand
+-- the options that the words give. A word without `=` is the name of one, and the word behind it is its value, whatever that is;
+-- behind `--` none may stand
 abbrev pub options_of : Option (List ℕ) → List (List ℕ) → Option (List Given)
 options_of None [] = Some []
 options_of None (word ∷ words) =

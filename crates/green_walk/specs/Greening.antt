@@ -101,7 +101,8 @@ started slots j w =
 abbrev pub waits : Greening → ℕ → Bool
 waits g id = has g.live id && not (has g.green id)
 
--- the slot may hold a strong pointer to the flipped object that is to become weak: its object waits, and it held such a pointer when it was copied, unless the copies are out of date
+-- the slot may hold a strong pointer to the flipped object that is to become weak: its object waits, and it held such a pointer
+-- when it was copied, unless the copies are out of date
 abbrev pub may_lead_to : Greening → ℕ → CopiedSlot → Bool
 may_lead_to g flipped s = waits g s.id && (not g.current || (s.target == flipped))
 
@@ -172,7 +173,8 @@ next g = asked_at (settled g) (settled g).stage
 abbrev pub greened : Greening → ℕ → Greening
 greened g id = record g { green = g.green ++ id ∷ [] }
 
--- the walk of green objects is at this slot of the object at this place, or where the object has no such slot at the first slot of the next object
+-- the walk of green objects is at this slot of the object at this place, or where the object has no such slot at the first slot
+-- of the next object
 abbrev pub moved_to : Greening → ℕ → ℕ → Greening
 moved_to g place slot = record g { stage = if slot == g.slots then AtOut (place + 1) 0 else AtOut place slot; test = None }
 
@@ -187,7 +189,8 @@ found_at_seed g (Seed id) Strong = walking (greened g id)
 found_at_seed g (Seed id) (Made made) = record (greened g id) { stage = AtInto id g.copied; test = None }
 found_at_seed g _ what = g
 
--- after the answer at a slot of a green object: nothing was to be done, or the pointer was made strong and its target became green
+-- after the answer at a slot of a green object: nothing was to be done, or the pointer was made strong and its target became
+-- green
 abbrev pub found_at_out : Greening → ℕ → ℕ → Found → Greening
 found_at_out g place slot (Made to) = moved (greened g to) place slot
 found_at_out g place slot _ = moved g place slot

@@ -45,7 +45,8 @@ pub data IsLive (w : Walk) (Seed : ℕ → Type 0) : ℕ → Type 0 where
 
 -- ---- on the way to it
 
--- the new ids are the old ones and more, all of them named by the slots and of the list; each of the list that the slots name is there
+-- the new ids are the old ones and more, all of them named by the slots and of the list; each of the list that the slots name is
+-- there
 pub record Adds (list slots old new : List ℕ) : Type 0 where
   pub more : List ℕ
   pub grown : new ≡ old ++ more

@@ -35,7 +35,8 @@ pub record IsNextNaming (slots : List CopiedSlot) (id «from» place : ℕ) : Ty
   pub names : place < length slots → target_at slots place ≡ id
   pub none : (k : ℕ) → «from» ≤ k → k < place → target_at slots k ≢ id
 
--- each slot from there on that isn't null leads to the next one that names the same object, and each object to the first one of them
+-- each slot from there on that isn't null leads to the next one that names the same object, and each object to the first one of
+-- them
 pub record AreLinked (slots : List CopiedSlot) («from» limit : ℕ) (first next : List ℕ) : Type 0 where
   pub firsts : (k : ℕ) → «from» ≤ k → k < length slots → target_at slots k ≢ 0 → target_at slots k ≤ limit → IsNextNaming slots (target_at slots k) «from» (slice_index first (target_at slots k))
   pub nexts : (k : ℕ) → «from» ≤ k → k < length slots → target_at slots k ≢ 0 → target_at slots k ≤ limit → IsNextNaming slots (target_at slots k) (k + 1) (slice_index next k)

@@ -34,7 +34,8 @@ module _ {D : Type 0} (slots : ℕ) (v : View Note Origin (Frame slots)) (old ne
     log = (let log = hand.log in (log.0, log.1, log.2 ∙ sym goes.notes, within-after goes.marks log.0 log.3));
   }
 
-  -- Where it entered an entry that speaks for the hold or for none, and changes the hold's pages alone, that may be told by an append.
+  -- Where it entered an entry that speaks for the hold or for none, and changes the hold's pages alone, that may be told by an
+  -- append.
   pub is-next : (pages : ℕ) (e : Entry) → GoesOnWith slots test old new (Some e) marked → (speaker_of e ≡ None) ⊎ (speaker_of e ≡ Some v.station.name) → ((k : ℕ) → frame_of v.hands.pages k ≡ None → test k ≡ false)
       → IsNext (account D slots) pages v new
   is-next pages e goes speaks own =

@@ -36,8 +36,8 @@ fn away<J, F>(alloc: Global, count: usize) -> Result<Vec<Content<J, F>>, AllocEr
 }
 
 impl<F: Drop, J: Chronicle<F> + Drop> Latches<J, F> {
-    /// A table over this chronicle and the frame of each page, all of which the first hold has in hand: it has all words. That hold
-    /// is the main one and has the name 0.
+    /// A table over this chronicle and the frame of each page, all of which the first hold has in hand: it has all words. That
+    /// hold is the main one and has the name 0.
     pub fn new_in_hand(
         alloc: Global,
         chronicle: &J,

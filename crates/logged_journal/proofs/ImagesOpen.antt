@@ -85,7 +85,8 @@ opened-size j notes entries core safe opens own =
     (let sized = opens.after.sized in omega (arith, sized, ids))
 
 module _ (law : BehindCheckpointLaw) (j : JournalView) (notes : List Note) (entries later : List Entry) (core : Core) (h : History) (image : Bytes) where
-  -- an image with the records of a safe journal opens to a cell for each id and one at 0, and to a graph that a crash may leave, where nothing was promised since
+  -- an image with the records of a safe journal opens to a cell for each id and one at 0, and to a graph that a crash may leave,
+  -- where nothing was promised since
   opens-own : AreOfStore j.history.slots j notes → IsRestartable (opening_of j) entries (logged_in notes) core → IsUnpromised later → moment_after (start_of j.history) (entries ++ later) ≡ end_of h
       → HasRecords j notes image → OpensAfter j.history.slots h image
   opens-own facts safe unpromised ends has =

@@ -1,5 +1,5 @@
--- Where a log that has ended goes on with what events logged and with images of pages, the image of the disk opens to the cells that the
--- events make.
+-- Where a log that has ended goes on with what events logged and with images of pages, the image of the disk opens to the cells
+-- that the events make.
 use Rattle.std.proofs.Common.{◌≡◌, ℕ, ◌+◌, ◌-◌, ◌*◌, ◌<◌, ◌≤◌, false, List, [], ◌++◌, Option, refl, sym, ap, subst, ◌∙◌, lit<, arith}
 use Rattle.std.proofs.lemmas.List.{append-nil}
 use Rattle.std.proofs.lemmas.Nat.{mod_below, div_below}

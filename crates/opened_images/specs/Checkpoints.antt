@@ -64,7 +64,8 @@ abbrev pub GoOnFromLaw : Type 0
 GoOnFromLaw = (slots : ℕ) (cells : List Cell) («first» later : List (Option StoredRecord)) → unended_after_all [] «first» ≡ [] → GoOnFrom slots cells «first» later
 
 -- Where a log began anew behind first records, which had ended, and goes on with what events logged and with images of pages, the
--- image opens to what the cells at the beginning are after the first records and the events, and after the undo of what has not ended.
+-- image opens to what the cells at the beginning are after the first records and the events, and after the undo of what has not
+-- ended.
 abbrev pub BehindCheckpointLaw : Type 0
 BehindCheckpointLaw =
     (slots pages : ℕ) (image : Bytes) (area : Area) (before : List ℕ) (earlier later : List (List (Record slots)))

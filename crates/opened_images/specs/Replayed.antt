@@ -39,7 +39,8 @@ pub record IsDamagedPage {slots : ℕ} (area : List ℕ) (rs : List (Record slot
 
 -- ---- cells
 
--- The record fits each cell of the store whose page has no later image, where these records came before it and these come after it.
+-- The record fits each cell of the store whose page has no later image, where these records came before it and these come after
+-- it.
 abbrev pub FitsCellsOf : {slots : ℕ} → ℕ → List ℕ → List (Record slots) → Record slots → List (Record slots) → Type 0
 FitsCellsOf {slots} pages area before (OfCells r) later =
     (id : ℕ) → 1 ≤ id → id ≤ 8 * pages → has_image id (items_of later) ≡ false → FitsAt (record_of r) id (cell_after slots area before id)

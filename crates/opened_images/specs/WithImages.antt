@@ -61,9 +61,9 @@ pub record MakesCells {slots : ℕ} (pages : ℕ) (area : List ℕ) (rs : List (
   pub fit : AllFitCells pages area [] rs []
   pub are : cells ≡ cells_of_log slots pages area rs
 
--- Where a log that has ended goes on with what events logged and with images of pages, these fit its cells, each image is that page of
--- the cells as they are there, and in the pages area each page without an image in the log is as when the log ended, the log makes the
--- cells that the events make.
+-- Where a log that has ended goes on with what events logged and with images of pages, these fit its cells, each image is that
+-- page of the cells as they are there, and in the pages area each page without an image in the log is as when the log ended, the
+-- log makes the cells that the events make.
 abbrev pub MakesCellsLaw : Type 0
 MakesCellsLaw =
     (slots pages : ℕ) (before area : List ℕ) (earlier : List (List (Record slots))) (later : List (Record slots)) (events : List (Option CellRecord)) (cells : List Cell)
@@ -75,8 +75,8 @@ MakesCellsLaw =
     → AreConsistent slots (8 * pages) (cells_after slots cells (stored_records events))
     → MakesCells pages area (all_of earlier ++ later) (cells_after slots cells (stored_records events))
 
--- And where they stand in one batch for each part of them, and what has not ended can be undone, the image of the disk opens to these
--- cells after that undo.
+-- And where they stand in one batch for each part of them, and what has not ended can be undone, the image of the disk opens to
+-- these cells after that undo.
 abbrev pub GoesOnWithImagesLaw : Type 0
 GoesOnWithImagesLaw =
     (slots pages : ℕ) (image : Bytes) (area : Area) (before : List ℕ) (earlier later : List (List (Record slots))) (events : List (Option CellRecord)) (cells : List Cell)

@@ -40,23 +40,23 @@ pub fn logs_go_on_with_images()
     ensures opens { GoesOnWithImagesLaw }
 {}
 
-/// A page that no record of a log concerns stands in place as the cells are after the log. Where the last record that concerns a page is
-/// an image of it, that image is the page of these cells.
+/// A page that no record of a log concerns stands in place as the cells are after the log. Where the last record that concerns a
+/// page is an image of it, that image is the page of these cells.
 pub fn marks_tell_of_pages()
     ensures unchanged { UnchangedLaw }
     ensures current { CurrentLaw }
 {}
 
-/// A page that has an image in the log may have any bytes in place, and its bytes stand in the log. A page that is spelled in place
-/// stands there.
+/// A page that has an image in the log may have any bytes in place, and its bytes stand in the log. A page that is spelled in
+/// place stands there.
 pub fn pages_are_written_behind_images()
     ensures any_bytes { AnyBytesLaw }
     ensures copy { CopyLaw }
     ensures stands { SpelledLaw }
 {}
 
-/// Where all pages stand in place and no transaction is active, the log may begin anew with its first batch alone. What follows opens to
-/// the same cells as it would behind the old log.
+/// Where all pages stand in place and no transaction is active, the log may begin anew with its first batch alone. What follows
+/// opens to the same cells as it would behind the old log.
 pub fn logs_begin_anew()
     ensures anew { BeginsAnewLaw }
     ensures from { GoOnFromLaw }

@@ -9,7 +9,8 @@ use Rattle.cell_page.specs.declared.cell.Cell.{Cell}
 use Rattle.cell_page.specs.Format.{IsSlotCount, IsPage, AreTyped, Spells, page_size, page_bytes}
 use Rattle.page_area.specs.Place.{bytes_of_page}
 
--- in this pages area a write of so many pages, from this one on, was cut off: it may have any bytes in them, and is as before elsewhere
+-- in this pages area a write of so many pages, from this one on, was cut off: it may have any bytes in them, and is as before
+-- elsewhere
 abbrev pub AreTorn : (slots «first» count : ℕ) → List ℕ → List ℕ → Type 0
 AreTorn slots «first» count before now = Torn (page_size slots * «first») (page_size slots * count) before now
 

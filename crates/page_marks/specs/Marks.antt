@@ -30,7 +30,8 @@ pub record AreMarkedBy {slots : ℕ} (r : Record slots) (before now : List PageM
   pub as_many : length now ≡ length before
   pub each : (page : ℕ) (d : PageMark) → page < length before → slice_index_or now page d ≡ mark_by page r (slice_index_or before page d)
 
--- the marks are those of the records: a page is changed where one concerns it, and its image is current where the last such one is an image of it
+-- the marks are those of the records: a page is changed where one concerns it, and its image is current where the last such one
+-- is an image of it
 abbrev pub AreMarks : {slots : ℕ} → List (Record slots) → List PageMark → Type 0
 AreMarks rs marks = (page : ℕ) (d : PageMark) → page < length marks → slice_index_or marks page d ≡ record { changed = is_changed page rs; current = is_current page rs }
 
@@ -39,8 +40,8 @@ pub record AreMarkedByAll {slots : ℕ} (rs : List (Record slots)) (before now :
   pub as_many : length now ≡ length before
   pub more : (earlier : List (Record slots)) → AreMarks earlier before → AreMarks (earlier ++ rs) now
 
--- With these bytes in the pages area, these batches are the first one of such a store's log and those of a log that has ended, which
--- makes these cells, and these are the marks of its records.
+-- With these bytes in the pages area, these batches are the first one of such a store's log and those of a log that has ended,
+-- which makes these cells, and these are the marks of its records.
 pub record IsMarkedBegun (slots pages : ℕ) (area : List ℕ) (batches : List (List ℕ)) (cells : List Cell) (marks : List PageMark) : Type 0 where
   pub begun : IsBegun slots pages area batches cells
   pub marked : AreMarks (all_of begun.0) marks

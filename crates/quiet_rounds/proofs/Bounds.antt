@@ -51,7 +51,8 @@ pub record IsWalked (n : ℕ) (w : Walk) : Type 0 where
   pub few : w.place * 6 + w.slot ≤ 6 * length w.list
   pub events : n ≤ w.place * 6 + w.slot + length w.copies
 
--- so many events came: behind the verdict one for each slot of a condemned object and one for each that was freed, and the score of the green walk
+-- so many events came: behind the verdict one for each slot of a condemned object and one for each that was freed, and the score
+-- of the green walk
 pub record IsSwept (n : ℕ) (w : Walk) (s : Sweep) (slot : ℕ) (g : Greening) : Type 0 where
   pub within : slot < 6
   pub few : s.emptied * 6 + slot ≤ 6 * length s.list

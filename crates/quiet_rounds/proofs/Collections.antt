@@ -1,4 +1,5 @@
--- A collection beside which no client is active uses up the queue, and takes as many rounds as there were objects without strong pointers.
+-- A collection beside which no client is active uses up the queue, and takes as many rounds as there were objects without strong
+-- pointers.
 use Rattle.std.proofs.Common.{◌≡◌, ◌≢◌, ℕ, ◌+◌, ◌≤◌, List, [], ◌∷◌, length, Option, None, true, refl, sym, ap, subst, arith, ⊎_elim}
 use Rattle.std.specs.Prelude.{Contains, if◌then◌else◌}
 use Rattle.std.specs.Option.{option_map_or}

@@ -52,7 +52,8 @@ without_strong-like cells new y k = (
   λ u. record { live = k.live ∙ u.live; not_root = u.not_root; zero = k.strong u.live ∙ u.zero },
 )
 
--- behind the verdict the other objects are without strong pointers exactly where they were at the start, and those of the round that are no more in it were freed
+-- behind the verdict the other objects are without strong pointers exactly where they were at the start, and those of the round
+-- that are no more in it were freed
 record IsBehind (began cells : List Cell) (w : Walk) : Type 0 where
   others : (y : ℕ) → (Contains w.list y → ⊥) → IsWithoutStrong cells y ↔ IsWithoutStrong began y
   gone : (y : ℕ) → Contains w.list y → (Contains w.left y → ⊥) → is_live cells y ≡ false

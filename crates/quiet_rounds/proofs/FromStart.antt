@@ -1,4 +1,5 @@
--- Before its verdict a quiet round only makes pointers weak that lead out of its objects, and each of its objects is strongly dominated by the first.
+-- Before its verdict a quiet round only makes pointers weak that lead out of its objects, and each of its objects is strongly
+-- dominated by the first.
 use Rattle.std.proofs.Common.{◌≡◌, ◌≢◌, ℕ, Bool, true, false, not, cond, if◌then◌else◌, ◌==◌, List, [], ◌∷◌, refl, sym, ap, ◌∙◌, subst, Option, Some, arith, ⊎_elim, ne_eqb, true≢false, eq-eqb}
 use Rattle.std.specs.Prelude.{Contains, ◌&&◌}
 use Rattle.std.specs.Option.{option_map_or, unwrap_or}

@@ -133,7 +133,8 @@ module _ (cells : List Cell) (slots : ℕ) (w : Walk) (s : Sweep) where
 
   -- ---- the walk of the green objects begins
 
-  -- a strong pointer out of an object that isn't green is in a slot that is still to be looked at, and that may lead to the flipped object
+  -- a strong pointer out of an object that isn't green is in a slot that is still to be looked at, and that may lead to the
+  -- flipped object
   pub strong-leads : (g : Greening) (flipped : ℕ) (rest : List CopiedSlot) → IsQuietSweep cells slots w s (record g { stage = AtInto flipped rest }) → next_of_sweep s ≡ sweep.End → ((c : CopiedSlot) → Contains rest c → Contains g.copied c)
       → (id slot : ℕ) → Contains w.left id → (Contains g.green id → ⊥) → is_counted_strong cells (pointer_at cells id slot) ≡ true
       → ((pointer_at cells id slot).target ≡ flipped) × (c : CopiedSlot) × Contains rest c × (c.id ≡ id) × (c.slot ≡ slot) × (may_lead_to g flipped c ≡ true)

@@ -58,7 +58,8 @@ same-back same id = record { live = sym (same id).live; object = sym (same id).o
 
 -- ---- at a moment of the round
 
--- behind the verdict: the chosen objects of the list are those that nothing leads to from outside, all others are as at the start, and chosen ones are live only until they are freed
+-- behind the verdict: the chosen objects of the list are those that nothing leads to from outside, all others are as at the
+-- start, and chosen ones are live only until they are freed
 pub record IsStayed (start cells : List Cell) (list chosen waiting : List ℕ) : Type 0 where
   pub chosen_are : (id : ℕ) → Contains chosen id → Contains list id × (IsLedFrom start list id → ⊥)
   pub all_chosen : (id : ℕ) → Contains list id → (IsLedFrom start list id → ⊥) → Contains chosen id

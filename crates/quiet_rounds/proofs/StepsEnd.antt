@@ -84,7 +84,8 @@ some-more n = omega arith
 no-more : (n : ℕ) → n + 1 ≤ n + 1
 no-more n = omega arith
 
--- an event of no pop lowers what is left, and one that takes an object out of the queue comes where nothing is left and leaves at most a whole round
+-- an event of no pop lowers what is left, and one that takes an object out of the queue comes where nothing is left and leaves at
+-- most a whole round
 pop-left : (slots ids : ℕ) (u v : RoundView) (which : Act) (logged : Option CellRecord) → Proceeds slots ids u which logged v → is_pop which ≡ true → (left_of slots u ≡ 0) × (left_of slots v + 1 ≤ most_events slots ids)
 pop-left slots ids _ _ _ _ (skip id) q = (refl, some-more (left_of slots (Walking (opened ids 0))))
 pop-left slots ids _ _ _ _ (start id) q = (refl, no-more (left_of slots (Walking (opened ids 0))))

@@ -39,7 +39,8 @@ abbrev pub CopiedLaw : Type 0
 CopiedLaw =
     (slots : ℕ) (w : Walk) (id : ℕ) (c : Cell slots) → round_of (copied w id (copy_of_seen {slots = slots} (record { slots = c.slots; strong = c.strong; weak = c.weak }))) ≡ with_copy (round_of w) id (cell_of c)
 
--- the round after a touch has the same and more marks, and until an object is removed it has that of the object where a copy could be wrong
+-- the round after a touch has the same and more marks, and until an object is removed it has that of the object where a copy
+-- could be wrong
 pub record Touches (old new : Walk) (id : ℕ) : Type 0 where
   pub others : round_of new ≡ record (round_of old) { touched = new.touched }
   pub grown : (x : ℕ) → Contains old.touched x → Contains new.touched x

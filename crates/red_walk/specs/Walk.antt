@@ -86,7 +86,8 @@ removed w id = record w { left = without w.left id }
 
 -- ---- how much is left
 
--- how many looks and copies may still be asked for: one look for each slot of each object, also of those that may still join, and one copy of each
+-- how many looks and copies may still be asked for: one look for each slot of each object, also of those that may still join, and
+-- one copy of each
 abbrev pub work_left : ℕ → Walk → ℕ
 work_left slots w = ((w.limit - w.place) * slots - w.slot) + (w.limit - length w.copies)
 

@@ -1,4 +1,5 @@
--- While a commit is forced, its record may be durable and the commit not yet answered: then it counts as one that the disk failed.
+-- While a commit is forced, its record may be durable and the commit not yet answered: then it counts as one that the disk
+-- failed.
 use Rattle.std.proofs.Common.{◌≡◌, ℕ, List, [], ◌∷◌, ◌++◌, false, refl, sym, ap, ◌∙◌, subst, append-nil, Option, Some, None, inr}
 use Rattle.std.specs.Prelude.{cond}
 use Rattle.std.specs.Option.{option_map_or}

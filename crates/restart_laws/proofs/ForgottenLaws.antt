@@ -1,4 +1,5 @@
--- A sound journal stays sound where the collector's work is forgotten: no round is open, and the queue has all objects that no strong pointer leads to.
+-- A sound journal stays sound where the collector's work is forgotten: no round is open, and the queue has all objects that no
+-- strong pointer leads to.
 use Rattle.std.proofs.Common.{◌≡◌, ℕ, List, None, refl, inl}
 use Rattle.plain_model.specs.ActiveTransaction.{ActiveTransaction}
 use Rattle.store_model.specs.Core.{Ref, Core}

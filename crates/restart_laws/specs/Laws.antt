@@ -36,7 +36,8 @@ GraphLaw = (cells : List Cell) → IsGraph (graph_of cells) × ((id : ℕ) → o
 
 -- ---- what a store opens to
 
--- in a sound journal every active transaction can be undone, and what is left is consistent and stands for what the root reaches in the committed graph
+-- in a sound journal every active transaction can be undone, and what is left is consistent and stands for what the root reaches
+-- in the committed graph
 abbrev pub RestartLaw : Type 0
 RestartLaw = (c : Core) → IsSound c → IsSettled c.moment → HavePlaces c.moment.state.slots (told c.moment) → Opens c.moment c.cells (told c.moment)
 
@@ -52,7 +53,8 @@ OpenedLaw = (ids slots : ℕ) (cells : List Cell) → AreConsistent slots ids ce
 abbrev pub EarlierLaw : Type 0
 EarlierLaw = (slots : ℕ) (cells : List Cell) (earlier records : List (Option Record)) → unended_after_all [] earlier ≡ [] → opened slots cells (earlier ++ records) ≡ opened slots (cells_after slots cells earlier) records
 
--- with the records of its undo, a log tells of no transaction that hasn't ended, and opens to the same cells without a further undo
+-- with the records of its undo, a log tells of no transaction that hasn't ended, and opens to the same cells without a further
+-- undo
 abbrev pub ReopenLaw : Type 0
 ReopenLaw =
     (slots : ℕ) (cells : List Cell) (records : List (Option Record)) → (undo : List (Option Record)) → undo ≡ map Some (restart_records slots (cells_after slots cells records) (unended_after_all [] records))
@@ -119,14 +121,16 @@ EventLaw =
     → IsSound d → d.moment ≡ next c.moment e → d.cells ≡ option_map_or (after_record start.moment.state.slots c.cells) logged c.cells
     → IsRestartable start (entries ++ e ∷ []) (records ++ logged ∷ []) d
 
--- where a crash keeps just the records of a restartable journal, and nothing was promised since, the store opens to a graph that a crash may leave
+-- where a crash keeps just the records of a restartable journal, and nothing was promised since, the store opens to a graph that
+-- a crash may leave
 abbrev pub CrashLaw : Type 0
 CrashLaw =
     (start c : Core) (entries : List Entry) (records : List (Option Record)) → IsRestartable start entries records c → (later : List Entry) → IsUnpromised later
     → Opens c.moment (cells_after start.moment.state.slots start.cells records) (unended_after_all [] records)
     × IsCrashConsistent (moment_after start.moment (entries ++ later)) (graph_of (opened start.moment.state.slots start.cells records))
 
--- where its commit's record is kept too, but the commit wasn't answered, the same holds of the history in which the disk failed that commit
+-- where its commit's record is kept too, but the commit wasn't answered, the same holds of the history in which the disk failed
+-- that commit
 abbrev pub ForceLaw : Type 0
 ForceLaw =
     (start c : Core) (entries : List Entry) (records : List (Option Record)) → IsRestartable start entries records c → is_stopped c.moment ≡ false → (pass : ℕ) (t : ActiveTransaction) → transaction_of c.moment.state pass ≡ Some t → t.aborting ≡ false
@@ -144,7 +148,8 @@ LocalFitsLaw =
     (cells : List Cell) (r : Record) → IsExact cells → Fits cells r → ((y : ℕ) → is_live cells y ≡ true → ((cell_at cells y).strong + 1 < 2 ^ 32) × ((cell_at cells y).weak + 1 < 2 ^ 32))
     → (x : ℕ) → x ≢ 0 → FitsAt r x (cell_at cells x)
 
--- so each cell that starts as it was, or whose page has an image, is in the end what all records make of it, where each image is of the cells as they are there
+-- so each cell that starts as it was, or whose page has an image, is in the end what all records make of it, where each image is
+-- of the cells as they are there
 abbrev pub ImageLaw : Type 0
 ImageLaw =
     (slots : ℕ) (items : List Item) (cells : List Cell) → IsExact cells → AllFit slots cells (records_in items) → AreImages slots cells items → (x : ℕ) → x ≢ 0 → (c : Cell) → (c ≡ cell_at cells x) ⊎ (has_image x items ≡ true)

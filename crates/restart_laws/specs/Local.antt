@@ -1,4 +1,5 @@
--- What a record does to one cell, and when it fits it, by the record and that cell alone; and what a log with images of pages makes of a cell.
+-- What a record does to one cell, and when it fits it, by the record and that cell alone; and what a log with images of pages
+-- makes of a cell.
 use Rattle.std.specs.Prelude.{◌≡◌, ◌≢◌, ℕ, ◌+◌, ◌-◌, ◌*◌, ◌^◌, ◌<◌, ◌≤◌, ◌==◌, ◌&&◌, ◌||◌, nat_le, Bool, true, false, cond, List, [], ◌∷◌, length, fold, Option, Some, slice_index_or}
 use Rattle.cell_model.specs.Cells.{Cell, null, blank_cell, cell_at, pointer_in, relink, other_strength, pays, flipped, self_pointers}
 use Rattle.cell_model.specs.Records.{Record, Make, Store, Pay, Undo, UndoPay, Weaken, Strengthen, Flip, CutDead, Free, HasNoPointer, after_record}

@@ -14,13 +14,15 @@ use Rattle.restart_laws.specs.Restored.{restart_records, restored, CanRestart}
 use Rattle.restart_laws.specs.Told.{told, HavePlaces}
 use Rattle.restart_laws.specs.Settled.{IsSettled}
 
--- from one moment to the next the record tells of the transactions just what the reference machine says, and it fits what was told before
+-- from one moment to the next the record tells of the transactions just what the reference machine says, and it fits what was
+-- told before
 pub record StaysTold (m n : Moment) (logged : Option Record) : Type 0 where
   pub tells : told n ≡ option_map_or (unended_after (told m)) logged (told m)
   pub fits : IfSome logged (FitsUnended (told m))
 
--- a store whose cells are these, and whose transactions that haven't ended are these, opens: no store rule is broken before they are undone, each of
--- their changes can be undone, the records of that fit, no store rule is broken afterwards, and the graph is one that a crash at this moment may leave
+-- a store whose cells are these, and whose transactions that haven't ended are these, opens: no store rule is broken before they
+-- are undone, each of their changes can be undone, the records of that fit, no store rule is broken afterwards, and the graph is
+-- one that a crash at this moment may leave
 pub record Opens (m : Moment) (cells : List Cell) (us : List (ℕ × Unended)) : Type 0 where
   pub before : AreConsistent m.state.slots m.state.ids cells
   pub can : CanRestart m.state.slots cells us
@@ -28,7 +30,8 @@ pub record Opens (m : Moment) (cells : List Cell) (us : List (ℕ × Unended)) :
   pub after : AreConsistent m.state.slots m.state.ids (restored m.state.slots cells us)
   pub graph : IsCrashConsistent m (graph_of (restored m.state.slots cells us))
 
--- a journal that began so, and had these entries and logged these records, is now this one, and a crash with just these records is safe
+-- a journal that began so, and had these entries and logged these records, is now this one, and a crash with just these records
+-- is safe
 pub record IsRestartable (start : Core) (entries : List Entry) (records : List (Option Record)) (c : Core) : Type 0 where
   pub sound : IsSound c
   pub settled : IsSettled c.moment

@@ -66,7 +66,8 @@ abbrev pub CanStand : List Cell → Place → ℕ → Type 0
 CanStand cells (Slot slot) value = value ≢ 0 → is_live cells value ≡ true
 CanStand cells _ value = Unit {0}
 
--- a change can be undone: its cell is live and has what the transaction left there, and what stood there before can stand there again
+-- a change can be undone: its cell is live and has what the transaction left there, and what stood there before can stand there
+-- again
 pub record CanBeUndone (cells : List Cell) (c : Change) : Type 0 where
   pub live : is_live cells c.id ≡ true
   pub left : IsThere cells c.id c.place c.new

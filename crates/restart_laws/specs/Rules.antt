@@ -20,7 +20,8 @@ pub record IsFirstBroken (cells : List Cell) (rule id : ℕ) : Type 0 where
   pub lower_kept : (r x : ℕ) → r < rule → BreaksRule cells r x → ⊥
   pub least : (x : ℕ) → x < id → BreaksRule cells rule x → ⊥
 
--- what pages tell by themselves: there is a cell for each id and none for 0, a free cell is empty, and each live cell has so many slots
+-- what pages tell by themselves: there is a cell for each id and none for 0, a free cell is empty, and each live cell has so many
+-- slots
 pub record AreOfPages (slots ids : ℕ) (cells : List Cell) : Type 0 where
   pub none : is_live cells 0 ≡ false
   pub sized : length cells ≡ suc ids

@@ -14,9 +14,9 @@ use disk_model::Disk;
 
 /// Makes the disk anew as a fresh store of so many pages, whatever it held. It takes no memory.
 ///
-/// At `Ok` the disk reads as a fresh store, for good. At each moment a loss of power leaves the old store (of whose
-/// super area the last bytes may be gone), or no store, or the fresh one, whatever it answers. [`InitRefusal::Disk`] comes only where the disk's count of faults
-/// rose in this call.
+/// At `Ok` the disk reads as a fresh store, for good. At each moment a loss of power leaves the old store (of whose super area
+/// the last bytes may be gone), or no store, or the fresh one, whatever it answers. [`InitRefusal::Disk`] comes only where the
+/// disk's count of faults rose in this call.
 ///
 /// At `Ok` the log of a fresh store stands on the disk too, in log area A with its first batch alone, and the pages area has
 /// the fresh pages.

@@ -100,7 +100,8 @@ crash_line pick operands = None
 abbrev pub lone_line : List ℕ → Option Line
 lone_line word = if bytes_eq word (codes "turn") then Some line.Turn else None
 
--- what the line of a client, of the collector, of the page cleaner, of the power or of the log asks, by its first field and those behind it
+-- what the line of a client, of the collector, of the page cleaner, of the power or of the log asks, by its first field and those
+-- behind it
 abbrev pub line_of_party : List ℕ → List (List ℕ) → Option Line
 line_of_party party [] = lone_line party
 line_of_party party (verb ∷ operands) =
@@ -138,7 +139,8 @@ abbrev pub IsOfStore : ℕ → Line → Type 0
 IsOfStore ids (line.Clean page) = 8 * page < ids
 IsOfStore ids other = Unit {0}
 
--- in a store with so many ids the line of this number, counted from 1, is within both limits and in the grammar, and the page that it names is one of the store's
+-- in a store with so many ids the line of this number, counted from 1, is within both limits and in the grammar, and the page
+-- that it names is one of the store's
 pub record IsAccepted (ids number : ℕ) (bytes : List ℕ) : Type 0 where
   pub within_line : length bytes ≤ max_line
   pub within_script : number ≤ max_lines

@@ -12,7 +12,8 @@ abbrev pub begins_with_line_feed : List ℕ → Bool
 begins_with_line_feed [] = false
 begins_with_line_feed (b ∷ bs) = b == line_feed
 
--- the lines of a text: each ends with a line feed, which the last one may lack, and a carriage return directly before a line feed is no part of its line
+-- the lines of a text: each ends with a line feed, which the last one may lack, and a carriage return directly before a line feed
+-- is no part of its line
 abbrev pub lines_of : List ℕ → List (List ℕ)
 lines_of [] = []
 lines_of (b ∷ bs) =

@@ -13,9 +13,9 @@ use logged_journal::LoggedJournal;
 use std::alloc::Global;
 use std::marker::Model;
 
-/// A store whose first hold stays the only one. Between calls that has all words, the log's and each page's: so the journal and all
-/// frames stay in its hand. It takes each client's number for its name before it works for that client, and tells of each entry by a
-/// store to the length word.
+/// A store whose first hold stays the only one. Between calls that has all words, the log's and each page's: so the journal and
+/// all frames stay in its hand. It takes each client's number for its name before it works for that client, and tells of each
+/// entry by a store to the length word.
 ///
 /// A [`crate::Pass`] has no word between calls. No pass is made of this store, so nobody is there to meet a word.
 #[derive(Drop)]

@@ -17,8 +17,8 @@ use logged_journal::{CollectRefusal, Stopped};
 use plain_model::{Call, Reply};
 
 impl<const SLOTS: usize, D: Disk> LoneStore<SLOTS, D> {
-    /// Does the client's call, adds its entry and answers what the entry says. What it changed joins the log with it, and a commit
-    /// is answered when it is there for good. No other pass is out, so the answer is never that one has a word.
+    /// Does the client's call, adds its entry and answers what the entry says. What it changed joins the log with it, and a
+    /// commit is answered when it is there for good. No other pass is out, so the answer is never that one has a word.
     ///
     /// `Reply::Stopped` comes exactly where the disk failed a call before, `Reply::LogFull` exactly where the call would
     /// be done and what it needs would go past the log's limit. Both do nothing. `Reply::DiskFault` comes of a commit alone,

@@ -63,8 +63,8 @@ impl<const SLOTS: usize, D: Disk> LoneStore<SLOTS, D> {
         answer
     }
 
-    /// Makes the page of this number last in place, as the same call of a journal with its frames does. In a store of at most three
-    /// pages the page words are given back for that long.
+    /// Makes the page of this number last in place, as the same call of a journal with its frames does. In a store of at most
+    /// three pages the page words are given back for that long.
     pub fn clean(&mut self, page: u16) -> Upkeep
         requires page { 8 * page < self.old.journal.history.ids }
         ensures does { DoesCleanOn SLOTS D.faults D.may_leave self.old self.new page result }
@@ -121,9 +121,9 @@ impl<const SLOTS: usize, D: Disk> LoneStore<SLOTS, D> {
         answer
     }
 
-    /// Turns the log, unless a client has a transaction: a checkpoint, behind which it begins anew. It does what the same call of a
-    /// journal with its frames does. In a store of at most three pages it takes memory for their frames, and the page words are given
-    /// back for that long.
+    /// Turns the log, unless a client has a transaction: a checkpoint, behind which it begins anew. It does what the same call of
+    /// a journal with its frames does. In a store of at most three pages it takes memory for their frames, and the page words are
+    /// given back for that long.
     pub fn turn(&mut self, alloc: Global) -> Upkeep
         ensures does { DoesTurnOn SLOTS D.faults D.may_leave self.old self.new result }
 

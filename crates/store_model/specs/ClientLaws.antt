@@ -56,7 +56,8 @@ SetLaw =
     (c : Core) → IsSound c → (pass : ℕ) (t : ActiveTransaction) → transaction_of c.moment.state pass ≡ Some t → (id : ℕ) → t.aborting ≡ false → Contains t.registers (Some id) → (old value : ℕ) → blocks_owning c.moment.state pass id ≡ None → Fits c.cells (Pay pass id old value)
     → IsSound (after_transaction c pass (set_by t id value) (after_record c.moment.state.slots c.cells (Pay pass id old value)) c.refs)
 
--- the journal stays sound where a client stores an id from a register, or 0, into a slot; the objects that the record concerns are marked as touched, where they were copied
+-- the journal stays sound where a client stores an id from a register, or 0, into a slot; the objects that the record concerns
+-- are marked as touched, where they were copied
 abbrev pub StoreLaw : Type 0
 StoreLaw =
     (c : Core) → IsSound c → (pass : ℕ) (t : ActiveTransaction) → transaction_of c.moment.state pass ≡ Some t → (id slot old target : ℕ) (old_strong bit strong : Bool) (more : List Ref) → t.aborting ≡ false → Contains t.registers (Some id) → (target ≢ 0 → Contains t.registers (Some target)) → blocks_owning c.moment.state pass id ≡ None
@@ -74,14 +75,16 @@ MakeLaw = (c : Core) → IsSound c → (pass : ℕ) (t : ActiveTransaction) → 
 
 -- ---- undoes and ends
 
--- the journal stays sound where the last slot write of a client that isn't undone is undone, by what the client saw there before the write
+-- the journal stays sound where the last slot write of a client that isn't undone is undone, by what the client saw there before
+-- the write
 abbrev pub UndoLaw : Type 0
 UndoLaw =
     (c : Core) → IsSound c → (pass : ℕ) (t : ActiveTransaction) → transaction_of c.moment.state pass ≡ Some t → (earlier later : List Write) (id value slot : ℕ) (from_strong bit : Bool) (to : ℕ) → t.writes ≡ earlier ++ record { id = id; place = Slot slot; value = value } ∷ later
     → count_by can_be_undone t.writes - c.moment.undone pass ≡ count_by can_be_undone earlier + 1 → to ≡ slot_in (applied c.moment.state.slots c.moment.state.committed earlier) id slot → Fits c.cells (Undo pass id slot value from_strong to bit)
     → IsTouched c.round id → (value ≢ 0 → IsTouched c.round value) → (to ≢ 0 → IsTouched c.round to) → IsSound (after_undo c pass (after_record c.moment.state.slots c.cells (Undo pass id slot value from_strong to bit)))
 
--- the journal stays sound where the last payload write of a client that isn't undone is undone, by what the client saw there before the write
+-- the journal stays sound where the last payload write of a client that isn't undone is undone, by what the client saw there
+-- before the write
 abbrev pub UndoPayLaw : Type 0
 UndoPayLaw =
     (c : Core) → IsSound c → (pass : ℕ) (t : ActiveTransaction) → transaction_of c.moment.state pass ≡ Some t → (earlier later : List Write) (id value to : ℕ) → t.writes ≡ earlier ++ record { id = id; place = Payload; value = value } ∷ later
@@ -92,7 +95,8 @@ UndoPayLaw =
 abbrev pub CommitLaw : Type 0
 CommitLaw = (c : Core) → IsSound c → (pass : ℕ) (t : ActiveTransaction) → transaction_of c.moment.state pass ≡ Some t → (left : List Ref) (queue : List ℕ) → AreLeftReferences c.refs pass left → IsQueueLeft c left queue → t.aborting ≡ false → IsSound (committed_core c pass t left queue)
 
--- the journal stays sound where an abort ends, all writes of the client being undone; its references go, and the queue takes what would be known to nobody
+-- the journal stays sound where an abort ends, all writes of the client being undone; its references go, and the queue takes what
+-- would be known to nobody
 abbrev pub AbortLaw : Type 0
 AbortLaw =
     (c : Core) → IsSound c → (pass : ℕ) (t : ActiveTransaction) → transaction_of c.moment.state pass ≡ Some t → (left : List Ref) (queue : List ℕ) → AreLeftReferences c.refs pass left → IsQueueLeft c left queue → count_by can_be_undone t.writes - c.moment.undone pass ≡ 0 → IsSound (aborted_core c pass left queue)

@@ -24,7 +24,8 @@ RequeueLaw = (c : Core) → IsSound c → (id : ℕ) (rest : List ℕ) → c.que
 abbrev pub StartLaw : Type 0
 StartLaw = (c : Core) → IsSound c → (id : ℕ) (rest : List ℕ) → c.queue ≡ id ∷ rest → c.round ≡ None → IsSound (after_look c rest (Some (opened_round id)))
 
--- the journal stays sound where a round opens that condemns the first object of the queue at once, since nothing points to it and no client holds or names it
+-- the journal stays sound where a round opens that condemns the first object of the queue at once, since nothing points to it and
+-- no client holds or names it
 abbrev pub CondemnLaw : Type 0
 CondemnLaw =
     (c : Core) → IsSound c → (id : ℕ) (rest : List ℕ) → c.queue ≡ id ∷ rest → c.round ≡ None → (cell_at c.cells id).strong ≡ 0 → (cell_at c.cells id).weak ≡ 0
@@ -94,7 +95,8 @@ StrengthenLaw = (c : Core) → IsSound c → (r : Round) → c.round ≡ Some r 
 abbrev pub FlipLaw : Type 0
 FlipLaw = (c : Core) → IsSound c → (r : Round) → c.round ≡ Some r → IsQuiet r → (id : ℕ) → Fits c.cells (Flip id) → IsWellLaid c.cells (Flip id) → IsSound (after_change c (after_record c.moment.state.slots c.cells (Flip id)))
 
--- the journal stays sound where the round closes, and those of its objects that have neither a strong pointer nor a name join the queue
+-- the journal stays sound where the round closes, and those of its objects that have neither a strong pointer nor a name join the
+-- queue
 abbrev pub EndLaw : Type 0
 EndLaw =
     (c : Core) → IsSound c → (r : Round) → c.round ≡ Some r → (more : List ℕ) → IsOnce more → ((x : ℕ) → Contains more x → Contains r.list x) → ((x : ℕ) → Contains r.list x → (cell_at c.cells x).strong ≡ 0 → is_named c.refs x ≡ false → Contains more x)

@@ -22,7 +22,8 @@ HasStrongIn cells id = (source : ℕ) × (slot : ℕ) × IsStrongAt cells source
 abbrev pub IsLed : List Cell → ℕ → Type 0
 IsLed cells id = (id ≡ root) ⊎ StrongPath cells root id
 
--- where strong pointers form no cycle, and each live cell but the root's has a strong pointer to it, strong pointers lead from the root to each live cell
+-- where strong pointers form no cycle, and each live cell but the root's has a strong pointer to it, strong pointers lead from
+-- the root to each live cell
 abbrev pub LedLaw : Type 0
 LedLaw = (cells : List Cell) → HasNoStrongCycle cells → ((id : ℕ) → is_live cells id ≡ true → id ≢ root → HasStrongIn cells id) → (id : ℕ) → is_live cells id ≡ true → IsLed cells id
 

@@ -38,8 +38,8 @@ pub fn gain<const SLOTS: usize>(cell: &mut Cell<SLOTS>, bit: bool)
     ensures model { cell_of cell.new ≡ gains bit (cell_of cell.old) }
     ensures id { cell.new.id ≡ cell.old.id }
 
-    // All but the two counts stays, also in a free cell and in one that breaks the rules, and so do the pointer bits that belong to
-    // no slot.
+    // All but the two counts stays, also in a free cell and in one that breaks the rules, and so do the pointer bits that belong
+    // to no slot.
     ensures others { cell.new ≡ record cell.old { strong = cell.new.strong; weak = cell.new.weak } }
 
     // An object goes on to obey the rules.

@@ -9,8 +9,8 @@ use crate::object_lock::ObjectLock;
 use std::alloc::{AllocError, Global};
 use std::marker::Model;
 
-/// For how many locks room is asked for at the opening, which is as many as a store has ids at most. Memory that holds no lock yet
-/// costs nothing, and no lock is ever copied.
+/// For how many locks room is asked for at the opening, which is as many as a store has ids at most. Memory that holds no lock
+/// yet costs nothing, and no lock is ever copied.
 const FIRST_ROOM: usize = 8_192;
 
 /// The locks of the objects that are held.
