@@ -1,0 +1,390 @@
+#!/usr/bin/env python3
+"""Loses power at each disk call of the program, and lets each one fail. It is run by hand, and is no part of the gate.
+
+    bench/power_loss.py [--losses N] [--scripts M] [--seed S] [--program PATH]
+
+A library that is loaded before the C library's own keeps a trace of the calls that the program makes on the four files and their
+folder: reads, writes, cuts and syncs. It ends the program at the Kth of them, for K from 1 on until the program ends by itself: while a
+store is made from nothing and over another one, while a script is replayed that has every line, while a store is opened whose last
+transactions had not ended, while an audit is made, while a client works on a thread, while generated calls are done, and while M (five,
+without it) scripts are replayed that are drawn as those of damage.py are.
+
+From the trace N (ten, without it) contents of the four files are drawn as a power loss at that call may leave them. What the last sync of
+a file made last is there. Of the writes and cuts behind it, and of the call at which power was lost, each is done, not done or done
+in part, or anything is in its range. Each such store has to open to the effect of the commits that were answered, or of these and the
+one that was under way, with counts that are right; behind `init` there may be what was there before, no store, or a fresh one. (A client
+on a thread has its lines printed at the end, so some first ones of its commits have to be there; behind generated calls only the counts
+are looked at.)
+
+Then the Kth call fails once in place of a loss of power, and the program goes on: it has to end with status 6, with the lines that it
+had written until then, `fault` for a commit that failed, and `refused: disk`. What it leaves, and what a power loss may leave
+behind it, has to open in the same way. And at last each call is interrupted once and each read and write goes a few bytes at a time,
+which may change nothing.
+
+What else comes is printed with its K, and the status is then 1.
+"""
+import os
+import random
+import re
+import struct
+
+import damage
+import stores
+
+SHIM = r"""
+#define _GNU_SOURCE
+#include <dlfcn.h>
+#include <errno.h>
+#include <stdint.h>
+#include <stdlib.h>
+#include <string.h>
+#include <sys/stat.h>
+#include <sys/types.h>
+#include <unistd.h>
+#include <fcntl.h>
+
+enum { READ, WRITE, CUT, SYNC };
+enum { FOLDER = 4, OTHER = 5 };
+static const char *const NAMES[] = {"brahma.pages", "brahma.loga", "brahma.logb", "brahma.super"};
+
+static long loses, fails, calls;
+static int shortens, interrupted, trace = -1;
+static ssize_t (*next_read)(int, void *, size_t, off64_t);
+static ssize_t (*next_write)(int, const void *, size_t, off64_t);
+static int (*next_cut)(int, off64_t);
+static int (*next_data_sync)(int);
+static int (*next_sync)(int);
+
+static long number(const char *name) {
+    const char *told = getenv(name);
+    return told ? atol(told) : 0;
+}
+
+__attribute__((constructor)) static void begin(void) {
+    next_read = dlsym(RTLD_NEXT, "pread64");
+    next_write = dlsym(RTLD_NEXT, "pwrite64");
+    next_cut = dlsym(RTLD_NEXT, "ftruncate64");
+    next_data_sync = dlsym(RTLD_NEXT, "fdatasync");
+    next_sync = dlsym(RTLD_NEXT, "fsync");
+    loses = number("LOSES");
+    fails = number("FAILS");
+    shortens = number("SHORTENS");
+    if (getenv("TRACE")) trace = open(getenv("TRACE"), O_WRONLY | O_CREAT | O_APPEND | O_CLOEXEC, 0600);
+}
+
+/* Which of the four files this is, or the folder, or none of them. */
+static int file_of(int fd) {
+    char link[64], path[4096], *at = link;
+    struct stat told;
+    if (fstat(fd, &told) == 0 && S_ISDIR(told.st_mode)) return FOLDER;
+    strcpy(link, "/proc/self/fd/");
+    at += strlen(link);
+    if (fd >= 100) *at++ = '0' + fd / 100;
+    if (fd >= 10) *at++ = '0' + fd / 10 % 10;
+    *at++ = '0' + fd % 10;
+    *at = 0;
+    ssize_t length = readlink(link, path, sizeof path - 1);
+    if (length < 0) return OTHER;
+    path[length] = 0;
+    const char *name = strrchr(path, '/');
+    for (int file = 0; file < 4; file++)
+        if (name && strcmp(name + 1, NAMES[file]) == 0) return file;
+    return OTHER;
+}
+
+static void put(const void *bytes, size_t length) {
+    const char *left = bytes;
+    while (trace >= 0 && length > 0) {
+        ssize_t done = write(trace, left, length);
+        if (done < 0) _exit(98);
+        left += done;
+        length -= done;
+    }
+}
+
+/* Traces a call that begins. Tells whether it fails at once, with errno set. */
+static int begins(int kind, int file, uint64_t at, const void *bytes, uint64_t length) {
+    if (file == OTHER) return 0;
+    if (shortens && !interrupted) {
+        interrupted = 1;
+        errno = EINTR;
+        return 1;
+    }
+    interrupted = 0;
+    if (!shortens) {
+        uint8_t what[2] = {kind, file};
+        uint64_t where[2] = {at, length};
+        put(what, 2);
+        put(where, 16);
+        if (kind == WRITE) put(bytes, length);
+    }
+    calls++;
+    if (calls == loses) _exit(97);
+    if (calls == fails) {
+        put("f", 1);
+        errno = EIO;
+        return 1;
+    }
+    return 0;
+}
+
+/* Traces that a call ended. */
+static long long ended(int file, long long answer) {
+    if (file != OTHER && !shortens) put("d", 1);
+    return answer;
+}
+
+static size_t few(int file, size_t length) { return shortens && file != OTHER && length > 7 ? 7 : length; }
+
+ssize_t pread64(int fd, void *into, size_t length, off64_t at) {
+    int file = file_of(fd);
+    if (begins(READ, file, at, 0, length)) return -1;
+    return ended(file, next_read(fd, into, few(file, length), at));
+}
+
+ssize_t pwrite64(int fd, const void *bytes, size_t length, off64_t at) {
+    int file = file_of(fd);
+    if (begins(WRITE, file, at, bytes, length)) return -1;
+    return ended(file, next_write(fd, bytes, few(file, length), at));
+}
+
+int ftruncate64(int fd, off64_t length) {
+    int file = file_of(fd);
+    if (begins(CUT, file, length, 0, 0)) return -1;
+    return ended(file, next_cut(fd, length));
+}
+
+int fdatasync(int fd) {
+    int file = file_of(fd);
+    if (begins(SYNC, file, 0, 0, 0)) return -1;
+    return ended(file, next_data_sync(fd));
+}
+
+int fsync(int fd) {
+    int file = file_of(fd);
+    if (begins(SYNC, file, 0, 0, 0)) return -1;
+    return ended(file, next_sync(fd));
+}
+
+ssize_t pread(int fd, void *into, size_t length, off_t at) { return pread64(fd, into, length, at); }
+ssize_t pwrite(int fd, const void *bytes, size_t length, off_t at) { return pwrite64(fd, bytes, length, at); }
+int ftruncate(int fd, off_t length) { return ftruncate64(fd, length); }
+"""
+
+# What a client does on a thread.
+CLIENT = b"""1 begin
+1 make 1
+1 store 0 0 1
+1 set 1 5
+1 commit
+1 begin
+1 read 0 0 1
+1 make 2
+1 store 1 0 2
+1 store 0 1 2
+1 commit
+1 begin
+1 store 0 0 -
+1 set 0 7
+1 commit
+"""
+
+LOST = 97
+WRITE, CUT, SYNC = 1, 2, 3
+NO_STORE = (7, b"refused: no store\n")
+
+
+class Area:
+    """What a file's last sync made last, and the writes and cuts behind it."""
+
+    def __init__(self, content):
+        self.lasting, self.behind = content, []
+
+    def content(self):
+        """What the file has where all of them are done."""
+        content = self.lasting
+        for change in self.behind:
+            content = done(content, *change)
+        return content
+
+    def left(self, draw):
+        """What a power loss may leave."""
+        content, way = self.lasting, draw.randrange(4)
+        first = draw.randrange(len(self.behind) + 1)
+        for count, (at, data) in enumerate(self.behind):
+            # All of them, some first ones, each as it falls, or anything where they wrote.
+            if way == 0 or way == 1 and count < first or way == 2 and draw.random() < 0.5:
+                content = done(content, at, data)
+            elif way == 1 and count == first or way == 2 and draw.random() < 0.5:
+                content = in_part(content, at, data, draw)
+            elif way == 3 and data is not None:
+                content = done(content, at, draw.randbytes(draw.randrange(len(data) + 1)))
+        return content
+
+
+def done(content, at, data):
+    """A content behind a write of these bytes, or, without bytes, behind a cut."""
+    if data is None:
+        return content[:at]
+    return content[:at].ljust(at, b"\0") + data + content[at + len(data):]
+
+
+def in_part(content, at, data, draw):
+    """A content behind a part of a write or a cut."""
+    if data is None:
+        return content[: draw.randrange(min(at, len(content)), len(content) + 1)]
+    start, end = sorted(draw.randrange(len(data) + 1) for _ in range(2))
+    return done(content, at + start, data[start:end])
+
+
+def traced(path, areas):
+    """The files as a trace left them that began with these, and how many calls it has."""
+    found = [Area(areas.get(name, b"")) for name in stores.FILES]
+    with open(path, "rb") as file:
+        trace = file.read()
+    place = calls = 0
+    while place < len(trace):
+        kind, at_file = trace[place], trace[place + 1]
+        at, length = struct.unpack_from("=QQ", trace, place + 2)
+        place += 18
+        data = trace[place: place + length] if kind == WRITE else None
+        place += length if kind == WRITE else 0
+        ended = trace[place: place + 1]
+        place += 1
+        calls += 1
+        if at_file < len(found):
+            area = found[at_file]
+            if kind in (WRITE, CUT):
+                area.behind.append((at, data))
+            elif kind == SYNC and ended == b"d":
+                area.lasting, area.behind = area.content(), []
+    return found, calls
+
+
+def drawn(found, draw):
+    """The four files as a power loss may leave them. An empty one may as well not be there."""
+    left = {name: area.left(draw) for name, area in zip(stores.FILES, found)}
+    return {name: content for name, content in left.items() if content or draw.random() < 0.5}
+
+
+class Losses:
+    """Runs that lose power, or whose disk fails."""
+
+    def __init__(self, runs, losses, seed):
+        self.runs, self.losses, self.seed = runs, losses, seed
+        self.trace = os.path.join(os.path.dirname(runs.disk), "trace")
+
+    def run(self, areas, words, script, **told):
+        """The status and the output of a run on a store that was so, the files by its trace, and its calls."""
+        if os.path.exists(self.trace):
+            os.remove(self.trace)
+        self.runs.lay(areas)
+        status, output = self.runs.run(words, script, TRACE=self.trace, **told)
+        return status, output, *traced(self.trace, areas)
+
+    def fronts(self, areas, script):
+        """What each number of the script's first lines prints, but for the line at the end, and what is reachable behind it."""
+        lines = script.splitlines(keepends=True)
+        found = []
+        for count in range(len(lines) + 1):
+            front = b"".join(lines[:count])
+            self.runs.lay(areas)
+            output = self.runs.run(["replay"], front)[1].splitlines(keepends=True)
+            found.append((b"".join(output[:-1]), self.runs.seen_behind(areas, front)))
+        return found
+
+    def allowed(self, areas, words, script):
+        """A function from what was written to what may be reachable then, or none where all stores are allowed that open."""
+        if words[0] == "init":
+            seen = [self.runs.seen_behind(it, b"") for it in (areas, self.runs.made({}, (words, b"")))]
+            return lambda _: [*seen, NO_STORE]
+        if words[0] == "gen":
+            return None
+        if words[0] == "audit":
+            script = b""
+        fronts = self.fronts(areas, script)
+        seen = [now for _, now in fronts]
+        if words[0] == "run":
+            return lambda _: seen
+        return lambda output: [it for at, (text, _) in enumerate(fronts) if text == output for it in seen[at: at + 2]]
+
+    def fault_of(self, areas, may_be):
+        """What is wrong with a store, if anything."""
+        self.runs.lay(areas)
+        now = self.runs.seen()
+        if may_be is not None and now not in may_be:
+            return "opens to %r" % (now,)
+        return None if now == NO_STORE and may_be else self.runs.fault_of_audit()
+
+    def faults_of(self, found, what, may_be):
+        """What is wrong with stores that a power loss may leave."""
+        faults = []
+        for loss in range(self.losses):
+            draw = random.Random("%d %s %d" % (self.seed, what, loss))
+            fault = self.fault_of(drawn(found, draw), may_be)
+            if fault:
+                faults.append("%s, loss %d: %s" % (what, loss, fault))
+        return faults
+
+    def lose_each(self, areas, words, script, allowed):
+        """Loses power at each call. How many there are, and what was wrong."""
+        faults, at = [], 0
+        while True:
+            at += 1
+            status, output, found, _ = self.run(areas, words, script, LOSES=str(at))
+            if status != LOST:
+                return at - 1, faults
+            what = "%s, power lost at call %d" % (" ".join(words), at)
+            faults += self.faults_of(found, what, allowed and allowed(output))
+
+    def fail_each(self, areas, words, script, allowed, calls):
+        """Lets each call fail. What was wrong."""
+        faults = []
+        for at in range(1, calls + 1):
+            what = "%s, call %d fails" % (" ".join(words), at)
+            status, output, found, _ = self.run(areas, words, script, FAILS=str(at))
+            written = re.sub(rb"([0-9]+ commit: fault\n)?refused: disk\n\Z", b"", output)
+            if status != 6 or written == output:
+                faults.append("%s: status %d with %r" % (what, status, output))
+                continue
+            may_be = allowed and allowed(written)
+            left = self.runs.held()
+            fault = self.fault_of(left, may_be)
+            faults += ["%s: %s" % (what, fault)] if fault else []
+            faults += self.faults_of(found, what, may_be)
+        return faults
+
+    def try_each(self, areas, words, script):
+        """Loses power at each call of a run, lets each fail, and interrupts them. How many runs were wrong."""
+        allowed = self.allowed(areas, words, script)
+        wanted = self.run(areas, words, script)
+        calls, faults = self.lose_each(areas, words, script, allowed)
+        faults += self.fail_each(areas, words, script, allowed, calls)
+        if self.run(areas, words, script, SHORTENS="1")[:2] != wanted[:2]:
+            faults.append("%s: differs where calls are interrupted" % " ".join(words))
+        for fault in faults:
+            print(fault)
+        print("%s: status %d, calls: %d, wrong: %d" % (" ".join(words), wanted[0], calls, len(faults)), flush=True)
+        return len(faults)
+
+
+def lose_all(words, runs):
+    """Loses power in each command."""
+    losses = Losses(runs, words.losses, words.seed)
+    fresh = runs.made({}, (["init", "2"], b""))
+    unended = runs.made(fresh, (["replay"], stores.SCRIPT + stores.UNENDED))
+    drawn_scripts = [damage.script(random.Random("script %d %d" % (words.seed, at))) for at in range(words.scripts)]
+    return sum([
+        losses.try_each({}, ["init", "2"], b""),
+        losses.try_each(unended, ["init", "2"], b""),
+        losses.try_each(fresh, ["replay"], stores.SCRIPT),
+        losses.try_each(unended, ["replay"], stores.SCRIPT),
+        losses.try_each(unended, ["audit"], b""),
+        losses.try_each(fresh, ["run"], CLIENT),
+        losses.try_each(fresh, stores.GENERATED, b""),
+        *(losses.try_each(fresh, ["replay"], script) for script in drawn_scripts),
+    ])
+
+
+if __name__ == "__main__":
+    stores.on_stores(__doc__.split("\n")[0], SHIM, lose_all, ("--losses", 10), ("--scripts", 5), ("--seed", 1))
