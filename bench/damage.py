@@ -19,11 +19,11 @@ import sys
 import tempfile
 from concurrent.futures import ThreadPoolExecutor
 
+from stores import FILES, SOUND
+
 HERE = os.path.dirname(os.path.abspath(__file__))
-FILES = ("brahma.pages", "brahma.loga", "brahma.logb", "brahma.super")
 STORED = re.compile(rb"stored( [0-9]+)+\n")
 REFUSED = re.compile(rb"refused: (no store|version [0-9]+|page [0-9]+ at [0-9]+|log [AB] at [0-9]+|object [0-9]+ rule [1-5])\n")
-SOUND = re.compile(rb"audit: pages [0-9]+ live [0-9]+ zero [0-9]+ differences 0\n")
 SECONDS = 10
 BASES = 24
 

@@ -21,7 +21,8 @@ had written until then, `fault` for a commit that failed, and `refused: disk`. W
 behind it, has to open in the same way. And at last each call is interrupted once and each read and write goes a few bytes at a time,
 which may change nothing.
 
-What else comes is printed with its K, and the status is then 1.
+Without any of this each run has to end with status 0, and to have such calls. What else comes is printed with its K, and the status is
+then 1.
 """
 import os
 import random
@@ -238,11 +239,11 @@ def in_part(content, at, data, draw):
 
 
 def traced(path, areas):
-    """The files as a trace left them that began with these, and how many calls it has."""
+    """The files as a trace left them that began with these."""
     found = [Area(areas.get(name, b"")) for name in stores.FILES]
     with open(path, "rb") as file:
         trace = file.read()
-    place = calls = 0
+    place = 0
     while place < len(trace):
         kind, at_file = trace[place], trace[place + 1]
         at, length = struct.unpack_from("=QQ", trace, place + 2)
@@ -251,14 +252,13 @@ def traced(path, areas):
         place += length if kind == WRITE else 0
         ended = trace[place: place + 1]
         place += 1
-        calls += 1
         if at_file < len(found):
             area = found[at_file]
             if kind in (WRITE, CUT):
                 area.behind.append((at, data))
             elif kind == SYNC and ended == b"d":
                 area.lasting, area.behind = area.content(), []
-    return found, calls
+    return found
 
 
 def drawn(found, draw):
@@ -275,12 +275,12 @@ class Losses:
         self.trace = os.path.join(os.path.dirname(runs.disk), "trace")
 
     def run(self, areas, words, script, **told):
-        """The status and the output of a run on a store that was so, the files by its trace, and its calls."""
+        """The status and the output of a run on a store that was so, and the files by its trace."""
         if os.path.exists(self.trace):
             os.remove(self.trace)
         self.runs.lay(areas)
         status, output = self.runs.run(words, script, TRACE=self.trace, **told)
-        return status, output, *traced(self.trace, areas)
+        return (status, output), traced(self.trace, areas)
 
     def fronts(self, areas, script):
         """What each number of the script's first lines prints, but for the line at the end, and what is reachable behind it."""
@@ -326,23 +326,23 @@ class Losses:
                 faults.append("%s, loss %d: %s" % (what, loss, fault))
         return faults
 
-    def lose_each(self, areas, words, script, allowed):
-        """Loses power at each call. How many there are, and what was wrong."""
+    def lose_each(self, areas, words, script, allowed, wanted):
+        """Loses power at each call. How many there are, and what was wrong: at last the program has to end by itself, as it is wanted."""
         faults, at = [], 0
         while True:
             at += 1
-            status, output, found, _ = self.run(areas, words, script, LOSES=str(at))
-            if status != LOST:
-                return at - 1, faults
+            ended, found = self.run(areas, words, script, LOSES=str(at))
             what = "%s, power lost at call %d" % (" ".join(words), at)
-            faults += self.faults_of(found, what, allowed and allowed(output))
+            if ended[0] != LOST:
+                return at - 1, faults if ended == wanted and at > 1 else [*faults, "%s: ends with %r" % (what, ended)]
+            faults += self.faults_of(found, what, allowed and allowed(ended[1]))
 
     def fail_each(self, areas, words, script, allowed, calls):
         """Lets each call fail. What was wrong."""
         faults = []
         for at in range(1, calls + 1):
             what = "%s, call %d fails" % (" ".join(words), at)
-            status, output, found, _ = self.run(areas, words, script, FAILS=str(at))
+            (status, output), found = self.run(areas, words, script, FAILS=str(at))
             written = re.sub(rb"([0-9]+ commit: fault\n)?refused: disk\n\Z", b"", output)
             if status != 6 or written == output:
                 faults.append("%s: status %d with %r" % (what, status, output))
@@ -357,14 +357,14 @@ class Losses:
     def try_each(self, areas, words, script):
         """Loses power at each call of a run, lets each fail, and interrupts them. How many runs were wrong."""
         allowed = self.allowed(areas, words, script)
-        wanted = self.run(areas, words, script)
-        calls, faults = self.lose_each(areas, words, script, allowed)
+        wanted, _ = self.run(areas, words, script)
+        calls, faults = self.lose_each(areas, words, script, allowed, wanted)
         faults += self.fail_each(areas, words, script, allowed, calls)
-        if self.run(areas, words, script, SHORTENS="1")[:2] != wanted[:2]:
-            faults.append("%s: differs where calls are interrupted" % " ".join(words))
+        if wanted[0] != 0 or self.run(areas, words, script, SHORTENS="1")[0] != wanted:
+            faults.append("%s: status %d, or differs where calls are interrupted" % (" ".join(words), wanted[0]))
         for fault in faults:
             print(fault)
-        print("%s: status %d, calls: %d, wrong: %d" % (" ".join(words), wanted[0], calls, len(faults)), flush=True)
+        print("%s: calls: %d, wrong: %d" % (" ".join(words), calls, len(faults)), flush=True)
         return len(faults)
 
 

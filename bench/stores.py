@@ -70,12 +70,12 @@ GENERATED = ["gen", "--seed", "5", "--clients", "3", "--txns", "6"]
 
 SOUND = re.compile(rb"audit: pages [0-9]+ live [0-9]+ zero [0-9]+ differences 0\n")
 
-
 # What the transaction wrote that had not ended is undone by the next opening.
 UNENDED = b"1 begin\n1 set 0 4\n1 make 1\n1 store 0 2 1\n2 begin\n2 commit\n"
 
 # Reads the root and the objects that it names.
 LOOK = b"64 begin\n64 get 0\n" + b"".join(b"64 read 0 %d %d\n64 get %d\n" % (at, at + 1, at + 1) for at in range(6)) + b"64 abort\ncrash 0\ngc all\n"
+
 
 class Stores:
     """Runs of one program in a folder that has a store or none, with a library loaded before the C library's own where that is asked."""
