@@ -33,6 +33,13 @@ impl<D: Disk, P: Eprint + Drop + Send> ProgressDisk<D, P> {
             reader,
         }
     }
+
+    /// The disk under it.
+    pub fn disk(&self) -> &D
+        ensures { result.now ≡ self.now }
+    {
+        &self.disk
+    }
 }
 
 /// Tells the reader, if there is one, that so many syncs were done, where that number gets a line.

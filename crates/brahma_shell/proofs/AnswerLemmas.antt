@@ -83,13 +83,6 @@ not-usage status is e =
 of-init : (status : ℕ) → (status ≡ 0) ⊎ ((status ≡ 5) ⊎ (status ≡ 6)) → IsStatusOfReplay status
 of-init status is = ⊎_elim (λ h. inl h) (λ is. ⊎_elim (λ h. inr (inr (inr (inl h)))) (λ h. inr (inr (inr (inr (inl h))))) is) is
 
-of-audit : (status : ℕ) → (status ≡ 0) ⊎ ((status ≡ 5) ⊎ ((status ≡ 6) ⊎ ((status ≡ 7) ⊎ (status ≡ 8)))) → IsStatusOfReplay status
-of-audit status is =
-    ⊎_elim (λ h. inl h)
-    (λ is. ⊎_elim (λ h. inr (inr (inr (inl h))))
-    (λ is. ⊎_elim (λ h. inr (inr (inr (inr (inl h)))))
-    (λ is. ⊎_elim (λ h. inr (inr (inr (inr (inr (inl h)))))) (λ h. inr (inr (inr (inr (inr (inr (inl h))))))) is) is) is) is
-
 of-gen : (status : ℕ) → (status ≡ 0) ⊎ ((status ≡ 5) ⊎ ((status ≡ 6) ⊎ ((status ≡ 7) ⊎ ((status ≡ 8) ⊎ (status ≡ 9))))) → IsStatusOfReplay status
 of-gen status is = ⊎_elim (λ h. inl h) (λ is. inr (inr (inr is))) is
 
@@ -227,6 +220,7 @@ module _ {S D : Type 0} (content : D → Area → Option (List ℕ)) (may_leave 
         refusal = Memory;
         refused = record {
           refused = λ image reads. tt;
+          for_good = λ of. absurd of;
           unwritten = inr looked;
           only_looks = λ image reads closed. looked;
         };
@@ -300,10 +294,10 @@ module _ {S D : Type 0} (content : D → Area → Option (List ℕ)) (may_leave 
     only_refused = λ tell seven image reads. ⊎_elim (λ u. unopened-closed content may_leave moment left_since disk before after status ended u.1 seven image reads) (λ r. absurd (r.only_untold seven tell)) replayed;
   }
 
-  pub asks-audit : command_of words ≡ Some Audit → (status ≡ 0) ⊎ ((status ≡ 5) ⊎ ((status ≡ 6) ⊎ ((status ≡ 7) ⊎ (status ≡ 8)))) → later ≡ script → Unopened content may_leave moment left_since disk before after status ended ⊎ Audited content may_leave disk before after status ended
+  pub asks-audit : command_of words ≡ Some Audit → (status ≡ 0) ⊎ ((status ≡ 5) ⊎ ((status ≡ 6) ⊎ ((status ≡ 7) ⊎ ((status ≡ 8) ⊎ (status ≡ 9))))) → later ≡ script → Unopened content may_leave moment left_since disk before after status ended ⊎ Audited content may_leave disk before after status ended
       → Answered content may_leave moment left_since words script later disk before after status ended
   asks-audit asked statuses same audited =
-      let is = of-audit status statuses in
+      let is = of-gen status statuses in
       record {
         usage = λ two. absurd (not-usage status is two);
         no_reading = λ none. absurd (none-some (command_of words) Audit none asked);

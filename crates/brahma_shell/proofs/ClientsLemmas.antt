@@ -18,18 +18,18 @@ use Rattle.core_store.specs.declared.frame.Frame.{Frame}
 use Rattle.core_store.specs.declared.note.Note.{Note}
 use Rattle.logged_journal.specs.View.{LoggedView, history_of}
 use Rattle.latch_table.specs.Rule.{AreAt, IsWhole, KeepsEachOnce}
-use Rattle.journal_chronicle.specs.Clients.{begins_or_ends, has_by}
+use Rattle.journal_chronicle.specs.Clients.{begins_or_ends, has_by, speaker_of}
 use Rattle.journal_chronicle.specs.Clients as clients
 use Rattle.journal_chronicle.specs.View.{account, origin_of, notes_of, history_after, has_transaction}
 use Rattle.shared_store.specs.Passes.{Known}
 use Rattle.client_pass.specs.declared.ends.WorkEnd.{WorkEnd}
 use Rattle.client_pass.specs.declared.ends.WorkEnd.TheVariants.{Finished}
 use Rattle.client_pass.specs.declared.script.ClientScript.{ClientScript}
-use Rattle.client_pass.specs.Attempts.{Answered, call_in, calls_in, has_after, ending, IsCompleted, IsGivenUp, IsTried, Attempts}
+use Rattle.client_pass.specs.Attempts.{calls_in, Attempts}
 use Rattle.client_pass.specs.Workings.{calls_of}
-use Rattle.client_pass.specs.Runs.{IsNobody, DoesScript, RunsScripts}
+use Rattle.client_pass.specs.Runs.{IsNobody, IsOfCollector, DoesScript, RunsScripts}
 use Rattle.client_pass.proofs.EndLemmas.{attempts-no_transaction, nobody-no_transaction}
-use Rattle.client_pass.proofs.KeptLemmas.{calls-of_log, nobody-calls}
+use Rattle.client_pass.proofs.KeptLemmas.{calls-of_log, nobody-calls, log-holds}
 use Rattle.client_scripts.specs.Scripts.{AreScripts, AreOfLines}
 use Rattle.script_lines.specs.declared.grammar.Line.{Line}
 use Rattle.brahma_shell.specs.Ran.{BeginAttempts, ClientsDo}
@@ -51,6 +51,11 @@ each-such : (P Q : ClientScript → Type 0) (scripts : List ClientScript) → ((
 each-such P Q [] more all = tt
 each-such P Q (s ∷ scripts) more all = (more s all.0, each-such P Q scripts more all.1)
 
+-- what holds of the notes' entries
+of-notes : (P : Entry → Type 0) (notes : List Note) → AllByRecursion (λ (n : Note). P n.entry) notes → AllByRecursion P (map (λ n. n.entry) notes)
+of-notes P [] all = tt
+of-notes P (n ∷ notes) all = (all.0, of-notes P notes all.1)
+
 module _ {D : Type 0} (w : LoggedView D) (old behind new : Known 6) (scripts : List ClientScript) (end : WorkEnd) (frames : List (Frame 6)) (fresh : old.knowledge.entries ≡ []) (runs : RunsScripts old behind scripts end) (only : OnlyPeeks behind new)
     (whole : IsWhole (account D 6) new w frames) (history : history_after 6 (origin_of w) (notes_of w) ≡ history_of w) where
   kept-all : new.knowledge.entries ≡ runs.kept
@@ -71,6 +76,10 @@ module _ {D : Type 0} (w : LoggedView D) (old behind new : Known 6) (scripts : L
   none-told : (client : ℕ) → IsNobody client scripts → calls_in client (history_of w).entries ≡ []
   none-told client none = sym (ap (calls_in client) entries-told) ∙ nobody-calls client (notes_of w) runs.kept at-places each-once (runs.nobody client none)
 
+  others-told : AllByRecursion (λ e. speaker_of e ≡ None → IsOfCollector e) (history_of w).entries
+  others-told = subst (AllByRecursion (λ (e : Entry). speaker_of e ≡ None → IsOfCollector e)) entries-told
+      (of-notes (λ (e : Entry). speaker_of e ≡ None → IsOfCollector e) (notes_of w) (log-holds (λ (n : Note). speaker_of n.entry ≡ None → IsOfCollector n.entry) (notes_of w) runs.kept at-places each-once runs.collected))
+
   module _ (asked : List Line) (each : AreScripts scripts) (of : AreOfLines asked scripts) where
     pub clients-began : ClientsDo BeginAttempts asked (history_of w).entries
     clients-began = record {
@@ -79,6 +88,7 @@ module _ {D : Type 0} (w : LoggedView D) (old behind new : Known 6) (scripts : L
       of_lines = of;
       made = each-such (DoesScript behind runs.kept end) (λ s. BeginAttempts s.txns (calls_in s.pass (history_of w).entries)) scripts (λ s d. subst (BeginAttempts s.txns) (calls-told s.pass) d.begun) runs.scripts_done;
       nobody = none-told;
+      collected = others-told;
     }
 
     pub clients-did : end ≡ Finished → ClientsDo Attempts asked (history_of w).entries
@@ -88,6 +98,7 @@ module _ {D : Type 0} (w : LoggedView D) (old behind new : Known 6) (scripts : L
       of_lines = of;
       made = each-such (DoesScript behind runs.kept end) (λ s. Attempts s.txns (calls_in s.pass (history_of w).entries)) scripts (λ s d. subst (Attempts s.txns) (calls-told s.pass) (d.finished done).0) runs.scripts_done;
       nobody = none-told;
+      collected = others-told;
     }
 
   -- a client that some script names has none, and no other client made a call

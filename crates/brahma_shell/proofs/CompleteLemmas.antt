@@ -48,6 +48,7 @@ refused-closed refusal.NoStore image seven r = refused_laws.refused 6 image _ (i
 refused-closed (refusal.UnknownVersion byte) image seven r = refused_laws.refused 6 image _ (inl refl) r (λ it. it)
 refused-closed (refusal.Unsound id rule) image seven r = refused_laws.refused 6 image _ (inl refl) r (λ it. it)
 refused-closed refusal.Memory image seven r = absurd (omega (arith, seven))
+refused-closed refusal.LogFull image seven r = absurd (omega (arith, seven))
 
 module _ {D : Type 0} (content : D → Area → Option (List ℕ)) (may_leave : D → Area → List ℕ → Type 0) (stay : (disk : D) (area : Area) → IfSome (content disk area) (may_leave disk area)) where
   stays : (o : Option (List ℕ)) (c : List ℕ) (P : List ℕ → Type 0) → o ≡ Some c → IfSome o P → P c
@@ -118,6 +119,7 @@ module _ {D : Type 0} (content : D → Area → Option (List ℕ)) (may_leave : 
       cases (refusal.UnknownVersion byte) e = seven (u.told ∙ ap status_of_refusal e)
       cases (refusal.Unsound id rule) e = seven (u.told ∙ ap status_of_refusal e)
       cases refusal.Memory e = inr (inl (u.told ∙ ap status_of_refusal e))
+      cases refusal.LogFull e = inr (inr (u.told ∙ ap status_of_refusal e))
 
 -- ---- a replay
 

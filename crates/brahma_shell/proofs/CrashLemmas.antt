@@ -116,6 +116,7 @@ module _ {D : Type 0} (content : D → Area → Option (List ℕ)) (tell : Tell 
         none (refusal.UnknownVersion byte) image cells o r is = let e = one_outcome size image _ _ o r in absurd (cc (e))
         none (refusal.Unsound id rule) image cells o r is = let e = one_outcome size image _ _ o r in absurd (cc (e))
         none refusal.Memory image cells o r is = absurd (omega (arith, is))
+        none refusal.LogFull image cells o r is = absurd (omega (arith, is))
 
     -- a store that is opened again has as many ids as before
     pub same-size : (h : History) (cells : List Cell) → IsSlotCount 6 → EachImage may_leave old (OpensAfter 6 h) → ReadsAs content 6 new cells → length cells ≡ h.ids + 1

@@ -1,5 +1,5 @@
 -- What becomes a store of one pass, and what is left where there is no memory for it.
-use Rattle.std.proofs.Common.{◌≡◌, ℕ, List, Option, None, inl, ap, arith}
+use Rattle.std.proofs.Common.{◌≡◌, ℕ, List, Option, None, inl, sym, ap, ◌∙◌, arith}
 use Rattle.std.specs.Option.{option_map_or, option_and_then}
 use Rattle.disk_model.specs.declared.area.Area.{Area}
 use Rattle.disk_model.specs.Areas.{Bytes}
@@ -22,6 +22,7 @@ module _ {D : Type 0} (content : D → Area → Option (List ℕ)) (may_leave : 
   pub refuses-memory : (now : D) → RefusesToOpen content may_leave moment left_since 6 disk Memory now
   refuses-memory now = record {
     refused = λ image reads. tt;
+    for_good = λ of_store. absurd of_store;
     unwritten = inl tt;
     only_looks = λ image reads shut. absurd (shut v.journal.opening (opened.opens image reads));
   }
@@ -30,4 +31,5 @@ module _ {D : Type 0} (content : D → Area → Option (List ℕ)) (may_leave : 
   memory-fault now is = record {
     later = (let e : faults now ≡ faults v.disk = ap faults is in let a = opened.counted.0 in let b = opened.counted.1 in omega arith);
     failed = λ e. absurd (cc);
+    kept = λ _. ap faults is ∙ sym opened.counted.0 ∙ opened.unfailed;
   }

@@ -47,7 +47,7 @@ use Rattle.brahma_shell.proofs.PointLemmas.{ids_of_point}
 use Rattle.brahma_shell.proofs.ReplayLemmas.{HasLine, HasLine-whole, HasLine-last}
 use Rattle.brahma_shell.proofs.JoinLemmas.{IsNextOf, ids-joined, FollowsAll-joined, FollowsUpTo-joined, FollowsRead-joined, FollowsPart-joined, FollowsTo-joined, HasFollowed-joined, HasFollowed-crashed, FollowsAll-crashed, FollowsToCrash-here, FollowsPart-done}
 use Rattle.brahma_shell.proofs.RunLemmas.{first_run, extended, reopened, StandsAt, stands-first, last-extended, next-of, text-extended, legal-extended, exit-extended, stored-extended, text-reopened, stands-again, exit-standing, stored-standing}
-use Rattle.brahma_shell.proofs.RunEnds.{AtEnd, AtLoss, ends-done, ends-refused, ends-read, ends-write, ends-memory, ends-limit, ends-fault, ends-lost-disk, ends-lost-memory, ends-lost-store}
+use Rattle.brahma_shell.proofs.RunEnds.{AtEnd, AtLoss, ends-done, ends-refused, ends-read, ends-write, ends-memory, ends-limit, ends-fault, ends-lost-disk, ends-lost-memory, ends-lost-room, ends-lost-store}
 use Rattle.brahma_shell.proofs.TopLemmas.{EndsWith-after, FollowsPart-all}
 
 -- ---- between two stretches
@@ -381,6 +381,7 @@ module _ {D : Type 0} (content : D → Area → Option (List ℕ)) (may_leave : 
         cases (refusal.UnknownVersion i) f e u = ends-lost-store content may_leave script later disk b a r now k (then-running running) (refusal.UnknownVersion i) refl (u refl) (at (open_refusal_line (refusal.UnknownVersion i)) e)
         cases (refusal.Unsound i j) f e u = ends-lost-store content may_leave script later disk b a r now k (then-running running) (refusal.Unsound i j) refl (u refl) (at (open_refusal_line (refusal.Unsound i j)) e)
         cases refusal.Memory f e u = ends-lost-memory content may_leave script later disk b a r now k (then-running running) (at (codes "refused: memory\n") e)
+        cases refusal.LogFull f e u = ends-lost-room content may_leave script later disk b a r now k (then-running running) (at (codes "refused: log\n") e)
 
     -- ---- the store is opened again
 

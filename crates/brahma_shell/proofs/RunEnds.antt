@@ -64,7 +64,8 @@ module _ {S D : Type 0} (content : D → Area → Option (List ℕ)) (may_leave 
     store = λ e. absurd (omega (arith, e));
     memory = λ e _. absurd (omega (arith, e));
     memory_crash = λ e _. absurd (omega (arith, e));
-    limit = λ e. absurd (omega (arith, e));
+    limit = λ e _. absurd (omega (arith, e));
+    limit_crash = λ e _. absurd (omega (arith, e));
     marked = both-unmarked v.journal.marks.trace v.log_full 0 trace log (λ e. omega (arith, e));
     failed = λ some. absurd (none-failed r running some);
   }
@@ -93,7 +94,8 @@ module _ {S D : Type 0} (content : D → Area → Option (List ℕ)) (may_leave 
     store = λ e. absurd (omega (arith, e));
     memory = λ e _. absurd (omega (arith, e));
     memory_crash = λ e _. absurd (omega (arith, e));
-    limit = λ e. absurd (omega (arith, e));
+    limit = λ e _. absurd (omega (arith, e));
+    limit_crash = λ e _. absurd (omega (arith, e));
     marked = both-unmarked v.journal.marks.trace v.log_full 3 trace log (λ e. omega (arith, e));
     failed = λ some. absurd (none-failed r running some);
   }
@@ -122,7 +124,8 @@ module _ {S D : Type 0} (content : D → Area → Option (List ℕ)) (may_leave 
     store = λ e. absurd (omega (arith, e));
     memory = λ e _. absurd (omega (arith, e));
     memory_crash = λ e _. absurd (omega (arith, e));
-    limit = λ e. absurd (omega (arith, e));
+    limit = λ e _. absurd (omega (arith, e));
+    limit_crash = λ e _. absurd (omega (arith, e));
     marked = both-unmarked v.journal.marks.trace v.log_full 4 trace log (λ e. omega (arith, e));
     failed = λ some. absurd (none-failed r running some);
   }
@@ -151,7 +154,8 @@ module _ {S D : Type 0} (content : D → Area → Option (List ℕ)) (may_leave 
     store = λ e. absurd (omega (arith, e));
     memory = λ e _. absurd (omega (arith, e));
     memory_crash = λ e _. absurd (omega (arith, e));
-    limit = λ e. absurd (omega (arith, e));
+    limit = λ e _. absurd (omega (arith, e));
+    limit_crash = λ e _. absurd (omega (arith, e));
     marked = both-unmarked v.journal.marks.trace v.log_full 5 trace log (λ e. omega (arith, e));
     failed = λ _. inl refl;
   }
@@ -180,7 +184,8 @@ module _ {S D : Type 0} (content : D → Area → Option (List ℕ)) (may_leave 
     store = λ e. absurd (omega (arith, e));
     memory = λ _ _. (follows, text);
     memory_crash = λ _ e. absurd (cc);
-    limit = λ e. absurd (omega (arith, e));
+    limit = λ e _. absurd (omega (arith, e));
+    limit_crash = λ e _. absurd (omega (arith, e));
     marked = both-unmarked v.journal.marks.trace v.log_full 8 trace log (λ e. omega (arith, e));
     failed = λ some. absurd (none-failed r running some);
   }
@@ -209,7 +214,8 @@ module _ {S D : Type 0} (content : D → Area → Option (List ℕ)) (may_leave 
     store = λ e. absurd (omega (arith, e));
     memory = λ e _. absurd (omega (arith, e));
     memory_crash = λ e _. absurd (omega (arith, e));
-    limit = λ _. (follows, which);
+    limit = λ _ _. (follows, which);
+    limit_crash = λ _ e. absurd (cc);
     marked = (λ _. refl, λ _. ⊎_elim (λ h. inl h.marked.0) (λ h. inr h.marked.1) which);
     failed = λ some. absurd (none-failed r running some);
   }
@@ -238,7 +244,8 @@ module _ {S D : Type 0} (content : D → Area → Option (List ℕ)) (may_leave 
     store = λ e. absurd (omega (arith, e));
     memory = λ e _. absurd (omega (arith, e));
     memory_crash = λ e _. absurd (omega (arith, e));
-    limit = λ e. absurd (omega (arith, e));
+    limit = λ e _. absurd (omega (arith, e));
+    limit_crash = λ e _. absurd (omega (arith, e));
     marked = both-unmarked v.journal.marks.trace v.log_full 6 trace log (λ e. omega (arith, e));
     failed = λ _. inr refl;
   }
@@ -267,7 +274,8 @@ module _ {S D : Type 0} (content : D → Area → Option (List ℕ)) (may_leave 
     store = λ e. absurd (omega (arith, e));
     memory = λ e _. absurd (omega (arith, e));
     memory_crash = λ e _. absurd (omega (arith, e));
-    limit = λ e. absurd (omega (arith, e));
+    limit = λ e _. absurd (omega (arith, e));
+    limit_crash = λ e _. absurd (omega (arith, e));
     marked = tt;
     failed = λ some. absurd (none-failed r running some);
   }
@@ -285,7 +293,7 @@ module _ {S D : Type 0} (content : D → Area → Option (List ℕ)) (may_leave 
     statuses = inr (inr (inr (inr (inr (inr (inl refl))))));
     complete = λ only reads writes faults. inl (inr (inl refl));
     only_untold = λ e _. absurd (omega (arith, e));
-    handed = λ _. inr (inr refl);
+    handed = λ _. inr (inr (inl refl));
     lost = λ e. absurd (omega (arith, e));
     done = λ e. absurd (omega (arith, e));
     refused = λ e. absurd (omega (arith, e));
@@ -296,7 +304,38 @@ module _ {S D : Type 0} (content : D → Area → Option (List ℕ)) (may_leave 
     store = λ e. absurd (omega (arith, e));
     memory = λ _ e. absurd (cc);
     memory_crash = λ _ _. at;
-    limit = λ e. absurd (omega (arith, e));
+    limit = λ e _. absurd (omega (arith, e));
+    limit_crash = λ e _. absurd (omega (arith, e));
+    marked = tt;
+    failed = λ some. absurd (none-failed r running some);
+  }
+
+  -- its log had no room to go on there
+  pub ends-lost-room : (now : D) → AtLoss content may_leave disk now r → r.failed ≡ None → EndsAtCrash before after r (codes "refused: log\n") → Replayed content may_leave script later disk before after 9 (Shut now)
+  ends-lost-room now k running at = record {
+    run = r;
+    opened = k.opened;
+    legal = k.legal;
+    same_ids = k.same_ids;
+    size = k.size;
+    journal = tt;
+    exit = k.exit;
+    statuses = inr (inr (inr (inr (inr (inr (inr refl))))));
+    complete = λ only reads writes faults. inl (inr (inr refl));
+    only_untold = λ e _. absurd (omega (arith, e));
+    handed = λ _. inr (inr (inr refl));
+    lost = λ e. absurd (omega (arith, e));
+    done = λ e. absurd (omega (arith, e));
+    refused = λ e. absurd (omega (arith, e));
+    read = λ e. absurd (omega (arith, e));
+    write = λ e. absurd (omega (arith, e));
+    failed_disk = λ e. absurd (omega (arith, e));
+    disk_crash = λ e _. absurd (omega (arith, e));
+    store = λ e. absurd (omega (arith, e));
+    memory = λ e _. absurd (omega (arith, e));
+    memory_crash = λ e _. absurd (omega (arith, e));
+    limit = λ _ e. absurd (cc);
+    limit_crash = λ _ _. at;
     marked = tt;
     failed = λ some. absurd (none-failed r running some);
   }
@@ -325,7 +364,8 @@ module _ {S D : Type 0} (content : D → Area → Option (List ℕ)) (may_leave 
     store = λ _. (e, seven, at);
     memory = λ e _. absurd (omega (arith, e));
     memory_crash = λ e _. absurd (omega (arith, e));
-    limit = λ e. absurd (omega (arith, e));
+    limit = λ e _. absurd (omega (arith, e));
+    limit_crash = λ e _. absurd (omega (arith, e));
     marked = tt;
     failed = λ some. absurd (none-failed r running some);
   }

@@ -109,5 +109,6 @@ StopsAll faults g s old new = (turns : List Turn) → Generates g turns → Stop
 abbrev pub tally_text : Tally → ℕ → List ℕ
 tally_text t stored = generated_line t.commits t.aborts t.busy t.deleted stored
 
+-- what `gen` prints of a history at its end
 abbrev pub generated_text : History → List ℕ
 generated_text h = tally_text (tally_of h.entries) (length (end_of h).state.stored)

@@ -13,8 +13,9 @@ use Rattle.logged_journal.specs.View.{LoggedView, history_of}
 use Rattle.script_lines.specs.declared.grammar.Line.{Line}
 use Rattle.script_lines.specs.Output.{AppendsFront, refused_line}
 use Rattle.client_pass.specs.declared.script.ClientScript.{ClientScript}
-use Rattle.client_pass.specs.Attempts.{Answered, Attempts, Begun, calls_in}
-use Rattle.client_pass.specs.Runs.{IsNobody}
+use Rattle.client_pass.specs.Attempts.{Deed, Attempts, Begun, calls_in}
+use Rattle.journal_chronicle.specs.Clients.{speaker_of}
+use Rattle.client_pass.specs.Runs.{IsNobody, IsOfCollector}
 use Rattle.client_scripts.specs.Scripts.{AreScripts, AreOfLines}
 use Rattle.brahma_shell.specs.ClientLines.{ReadsAll, ReadsSome, Refuses, HasOnlyClients}
 use Rattle.brahma_shell.specs.Log.{WasLogFull}
@@ -24,16 +25,18 @@ use Rattle.brahma_shell.specs.Top.{IsJustOpened, IsOfReplay, IsDoneOrFull, Outsi
 
 -- ---- the clients
 
--- each client of the lines made its calls so, in their order, and nobody else made one
-pub record ClientsDo (Does : List (List TransactionCall) → List Answered → Type 0) (asked : List Line) (entries : List Entry) : Type 0 where
+-- each client of the lines made its calls and undos so, in their order, and nobody else made any
+pub record ClientsDo (Does : List (List TransactionCall) → List Deed → Type 0) (asked : List Line) (entries : List Entry) : Type 0 where
   pub scripts : List ClientScript
   pub each : AreScripts scripts
   pub of_lines : AreOfLines asked scripts
   pub made : AllByRecursion (λ s. Does s.txns (calls_in s.pass entries)) scripts
   pub nobody : (client : ℕ) → IsNobody client scripts → calls_in client entries ≡ []
+  -- and all else was the collector's
+  pub collected : AllByRecursion (λ e. speaker_of e ≡ None → IsOfCollector e) entries
 
 -- these are the attempts at the client's transactions, or the beginning of such
-abbrev pub BeginAttempts : List (List TransactionCall) → List Answered → Type 0
+abbrev pub BeginAttempts : List (List TransactionCall) → List Deed → Type 0
 BeginAttempts transactions made = Begun (Attempts transactions) made
 
 -- the whole script was read, and each client began what its lines ask

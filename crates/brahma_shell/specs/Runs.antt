@@ -34,6 +34,7 @@ abbrev pub after_event : Point → Event → Point
 after_event p (Noted n) = after_note p n
 after_event p (Reopened ids cells) = start_with (opened_history p.slots ids cells) cells
 
+-- the point after events, one after another
 abbrev pub after_events : Point → List Event → Point
 after_events p events = fold after_event p events
 

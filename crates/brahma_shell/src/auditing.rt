@@ -54,7 +54,7 @@ pub(crate) fn audit_store<W: Sink, D: Disk>(alloc: Global, out: &mut W, disk: D)
         (outside left reads (W.written out.old) (W.faults out.old) (D.faults disk))
         (outside left reads (W.written out.new) (W.faults out.new) (D.faults (disk_in result.1)))
         result.0 result.1 }
-    ensures statuses { (result.0 ≡ 0) ⊎ ((result.0 ≡ 5) ⊎ ((result.0 ≡ 6) ⊎ ((result.0 ≡ 7) ⊎ (result.0 ≡ 8)))) }
+    ensures statuses { (result.0 ≡ 0) ⊎ ((result.0 ≡ 5) ⊎ ((result.0 ≡ 6) ⊎ ((result.0 ≡ 7) ⊎ ((result.0 ≡ 8) ⊎ (result.0 ≡ 9))))) }
     ensures out_later { W.faults out.old ≤ W.faults out.new }
     ensures disk_later { D.faults disk ≤ D.faults (disk_in result.1) }
 {

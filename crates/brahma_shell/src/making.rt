@@ -4,6 +4,7 @@ ghost use Rattle.brahma_shell.specs.Ended.{disk_in};
 ghost use Rattle.brahma_shell.specs.Top.{Made, outside};
 
 use crate::ended::Ended;
+use crate::opened::SLOTS;
 use crate::status::{DISK_FAULT, DONE, WRITE_FAULT};
 use disk_model::Disk;
 use outside_io::Sink;
@@ -21,7 +22,7 @@ pub(crate) fn make_store<W: Sink, D: Disk>(out: &mut W, disk: D, pages: u16) -> 
     ensures disk_later { D.faults disk ≤ D.faults (disk_in result.1) }
 {
     let mut disk = disk;
-    if init(&mut disk, pages).is_err() {
+    if init::<_, SLOTS>(&mut disk, pages).is_err() {
         write_last(out, b"refused: disk\n");
         return (DISK_FAULT, Ended::Shut(disk));
     }

@@ -3,7 +3,7 @@ ghost use Rattle.std.specs.Prelude.{◌≡◌, ◌≤◌, []};
 ghost use Rattle.script_lines.specs.Output.{EndsWith, open_refusal_line};
 ghost use Rattle.brahma_shell.specs.Top.{status_of_refusal};
 
-use crate::status::{DISK_FAULT, OUT_OF_MEMORY, STORE_REFUSED};
+use crate::status::{DISK_FAULT, LIMIT, OUT_OF_MEMORY, STORE_REFUSED};
 use outside_io::Sink;
 use script_lines::{open_refusal_line, write_last};
 use store_opening::OpenRefusal;
@@ -15,6 +15,7 @@ fn status_of(refusal: &OpenRefusal) -> u8
     match refusal {
         OpenRefusal::Disk => DISK_FAULT,
         OpenRefusal::Memory => OUT_OF_MEMORY,
+        OpenRefusal::LogFull => LIMIT,
         OpenRefusal::Damaged { .. } => STORE_REFUSED,
         OpenRefusal::NoStore => STORE_REFUSED,
         OpenRefusal::UnknownVersion { .. } => STORE_REFUSED,

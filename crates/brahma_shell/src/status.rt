@@ -24,5 +24,5 @@ pub(crate) const STORE_REFUSED: u8 = 7;
 /// Out of memory.
 pub(crate) const OUT_OF_MEMORY: u8 = 8;
 
-/// The history is full, or the log.
+/// The history is full, or the log; or the log has no room to go on where a store is opened.
 pub(crate) const LIMIT: u8 = 9;

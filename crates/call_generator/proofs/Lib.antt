@@ -1,2 +1,3 @@
 pub mod WaitingLaws
 pub mod TurnLaws
+pub mod RangeLaws

@@ -35,6 +35,7 @@ abbrev pub waiting_from : ℕ → List Client → List ℕ
 waiting_from index [] = []
 waiting_from index (c ∷ cs) = if has_left c then index ∷ waiting_from (index + 1) cs else waiting_from (index + 1) cs
 
+-- the indices of the clients with a transaction left, ascending
 abbrev pub waiting : List Client → List ℕ
 waiting clients = waiting_from 0 clients
 
@@ -52,6 +53,10 @@ client_of g = slice_index_or g.clients (chosen g) (new_client 0)
 abbrev pub source_of : ℕ → Option ℕ
 source_of number = if number == 8 then None else Some number
 
+-- a slot is drawn of the first so many
+abbrev pub drawn_slots : ℕ
+drawn_slots = 6
+
 -- the call whose kind was drawn as this one, of sixteen. The first argument is drawn from the number behind x, and each further
 -- one from the next. Beside the call stands the last number that was drawn from
 abbrev pub drawn_call : (kind x : ℕ) → Call × ℕ
@@ -59,9 +64,9 @@ drawn_call kind x =
     let x1 = next_number x in
     let x2 = next_number x1 in
     let x3 = next_number x2 in
-    if nat_le kind 2 then (Read (drawn x1 8) (drawn x2 6) (1 + drawn x3 7), x3)
+    if nat_le kind 2 then (Read (drawn x1 8) (drawn x2 drawn_slots) (1 + drawn x3 7), x3)
     else if nat_le kind 5 then (Make (1 + drawn x1 7), x1)
-    else if nat_le kind 10 then (Store (drawn x1 8) (drawn x2 6) (source_of (drawn x3 9)), x3)
+    else if nat_le kind 10 then (Store (drawn x1 8) (drawn x2 drawn_slots) (source_of (drawn x3 9)), x3)
     else if kind == 11 then (GetPay (drawn x1 8), x1)
     else if kind == 12 then (SetPay (drawn x1 8) (drawn x2 1000000), x2)
     else if nat_le kind 14 then (Commit, x)

@@ -1,7 +1,7 @@
 //! The generator.
 ghost use Rattle.std.specs.Prelude.{◌≡◌, ◌<◌, ◌≤◌, [], IfOk, IfSome, IfNone};
 ghost use Rattle.plain_model.specs.Machine.{IsInRange};
-ghost use Rattle.call_generator.specs.Generator.{generator, waiting, next_turn, after_turn, turns_left};
+ghost use Rattle.call_generator.specs.Generator.{generator, drawn_slots, waiting, next_turn, after_turn, turns_left};
 
 use crate::client::Client;
 use crate::turns::{Turn, next_turn};
@@ -54,7 +54,7 @@ impl Generator {
     pub fn next(&mut self) -> Option<Turn>
         ensures turn { IfSome result (λ t. (waiting self.old.clients ≡ [] → ⊥) × (t ≡ next_turn self.old) × (self.new ≡ after_turn self.old)) }
         ensures end { IfNone result ((waiting self.old.clients ≡ []) × (self.new ≡ self.old)) }
-        ensures in_range { IfSome result (λ t. (1 ≤ t.client) × (t.client ≤ 64) × IsInRange 6 t.call) }
+        ensures in_range { IfSome result (λ t. (1 ≤ t.client) × (t.client ≤ 64) × IsInRange drawn_slots t.call) }
         ensures fewer { IfSome result (λ _. turns_left self.new < turns_left self.old) }
     {
         next_turn(&mut self.number, &mut self.clients)

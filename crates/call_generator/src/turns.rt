@@ -2,7 +2,7 @@
 ghost use Rattle.std.specs.Prelude.{◌≡◌, ◌<◌, ◌≤◌, [], true, length, slice_index_or, IfSome, IfNone};
 ghost use Rattle.plain_model.specs.Machine.{IsInRange};
 ghost use Rattle.call_generator.specs.Draws.{next_number, drawn};
-ghost use Rattle.call_generator.specs.Generator.{generating, new_client, has_left, chosen, next_turn, after_turn, waiting, source_of, drawn_call, call_of_client, turns_left, IsGenerating};
+ghost use Rattle.call_generator.specs.Generator.{generating, new_client, has_left, chosen, next_turn, after_turn, waiting, source_of, drawn_slots, drawn_call, call_of_client, turns_left, IsGenerating};
 
 use crate::client::{Client, count_waiting, waiting_at};
 use crate::draws::draw;
@@ -22,6 +22,9 @@ pub struct Turn {
 /// The most calls of a transaction behind its begin, but for the commit that ends it then.
 const MOST_CALLS: u8 = 64;
 
+/// A slot is drawn of the first so many, whatever slots the objects have besides.
+const DRAWN_SLOTS: u64 = 6;
+
 /// The register that a store takes its target from, or none for 8.
 fn source_of(number: u64) -> Option<u8>
     requires { number < 9 }
@@ -37,12 +40,12 @@ fn source_of(number: u64) -> Option<u8>
 /// Draws what a client asks in its transaction.
 fn draw_call(number: &mut u64) -> Call
     ensures value { (result, number.new) ≡ drawn_call (drawn (next_number number.old) 16) (next_number number.old) }
-    ensures in_range { IsInRange 6 result }
+    ensures in_range { IsInRange drawn_slots result }
 {
     match draw(number, 16) {
         0..=2 => Call::Read {
             r: draw(number, 8) as u8,
-            slot: draw(number, 6) as u8,
+            slot: draw(number, DRAWN_SLOTS) as u8,
             into: 1 + draw(number, 7) as u8,
         },
         3..=5 => Call::Make {
@@ -50,7 +53,7 @@ fn draw_call(number: &mut u64) -> Call
         },
         6..=10 => Call::Store {
             r: draw(number, 8) as u8,
-            slot: draw(number, 6) as u8,
+            slot: draw(number, DRAWN_SLOTS) as u8,
             from: source_of(draw(number, 9)),
         },
         11 => Call::GetPay {
@@ -68,7 +71,7 @@ fn draw_call(number: &mut u64) -> Call
 /// What a client asks next that has made so many calls since its transaction began, if it is in one.
 fn ask(number: &mut u64, calls: Option<u8>) -> Call
     ensures value { (result, number.new) ≡ call_of_client calls number.old }
-    ensures in_range { IsInRange 6 result }
+    ensures in_range { IsInRange drawn_slots result }
 {
     match calls {
         None => Call::Begin,
@@ -103,7 +106,7 @@ pub(crate) fn next_turn(number: &mut u64, clients: &mut Vec<Client>) -> Option<T
         × (t ≡ next_turn (generating number.old clients.old.items))
         × (generating number.new clients.new.items ≡ after_turn (generating number.old clients.old.items))) }
     ensures end { IfNone result ((waiting clients.old.items ≡ []) × (number.new ≡ number.old) × (clients.new ≡ clients.old)) }
-    ensures in_range { IfSome result (λ t. (1 ≤ t.client) × (t.client ≤ 64) × IsInRange 6 t.call) }
+    ensures in_range { IfSome result (λ t. (1 ≤ t.client) × (t.client ≤ 64) × IsInRange drawn_slots t.call) }
     ensures goes_on { IsGenerating (generating number.new clients.new.items) }
     ensures fewer { IfSome result (λ _. turns_left (generating number.new clients.new.items) < turns_left (generating number.old clients.old.items)) }
 {

@@ -41,6 +41,7 @@ pub record Field : Type 0 where
   pub at : ℕ
   pub breaks : Bool
 
+-- the field of these parts
 abbrev pub field : ℕ → Bool → Field
 field at breaks = record { at = at; breaks = breaks }
 
@@ -57,6 +58,7 @@ bits_break {slots} c = if c.live then not (c.bits / 2 ^ slots == 0) || sets_null
 abbrev pub fills : Bool → ℕ → Bool
 fills live n = not live && not (n == 0)
 
+-- the fields of a cell's slots, of which the first stands at this offset; in a free cell each has to be 0
 abbrev pub slot_fields : Bool → ℕ → List ℕ → List Field
 slot_fields live at [] = []
 slot_fields live at (target ∷ targets) = field at (fills live target) ∷ slot_fields live (at + 4) targets
@@ -85,10 +87,12 @@ cell_fields slots id bytes =
 
 -- ---- the first that breaks them
 
+-- the offset of the first field that breaks the rules, where one does
 abbrev pub first_broken : List Field → Option ℕ
 first_broken [] = None
 first_broken (f ∷ fs) = if f.breaks then Some f.at else first_broken fs
 
+-- the offset of the first field of a cell's bytes that breaks the rules, where one does
 unfoldable pub broken_in_cell : (slots id : ℕ) → List ℕ → Option ℕ
 broken_in_cell slots id bytes = first_broken (cell_fields slots id bytes)
 

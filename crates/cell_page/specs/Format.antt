@@ -18,9 +18,11 @@ fields_size slots = 24 + 4 * slots
 abbrev pub cell_size : ℕ → ℕ
 cell_size slots = if slots == 6 then 64 else 128
 
+-- a page takes the bytes of eight cells
 abbrev pub page_size : ℕ → ℕ
 page_size slots = 8 * cell_size slots
 
+-- a truth value as a number
 abbrev pub flag : Bool → ℕ
 flag false = 0
 flag true = 1
@@ -35,6 +37,7 @@ field_bytes c =
 unfoldable pub cell_bytes : {slots : ℕ} → Cell slots → List ℕ
 cell_bytes {slots} c = field_bytes c ++ replicate (cell_size slots - fields_size slots) 0
 
+-- the bytes of a page: those of its cells, one after another
 abbrev pub page_bytes : {slots : ℕ} → List (Cell slots) → List ℕ
 page_bytes cells = flat_map cell_bytes cells
 
@@ -85,6 +88,7 @@ pub record IsTyped {slots : ℕ} (c : Cell slots) : Type 0 where
   pub slot_count : length c.slots ≡ slots
   pub targets : (slot : ℕ) → slice_index c.slots slot < 2 ^ 32
 
+-- the numbers of each cell are in the range of their types
 abbrev pub AreTyped : {slots : ℕ} → List (Cell slots) → Type 0
 AreTyped {slots} cells = (place : ℕ) (d : Cell slots) → place < length cells → IsTyped (slice_index_or cells place d)
 
@@ -94,6 +98,7 @@ AreTyped {slots} cells = (place : ℕ) (d : Cell slots) → place < length cells
 abbrev pub fresh_cell : (slots id : ℕ) → Cell slots
 fresh_cell slots id = if id == 1 then record (free_cell slots 1) { live = true; strong = 1 } else free_cell slots id
 
+-- the page of this number in a new store
 abbrev pub fresh_page : (slots page : ℕ) → List (Cell slots)
 fresh_page slots page = map (λ place. fresh_cell slots (first_id page + place)) (0 ∷ 1 ∷ 2 ∷ 3 ∷ 4 ∷ 5 ∷ 6 ∷ 7 ∷ [])
 

@@ -10,6 +10,7 @@ abbrev pub pointers_from : (bits i : ℕ) → List ℕ → List Pointer
 pointers_from bits i [] = []
 pointers_from bits i (target ∷ targets) = record { target = target; bit = bit_at bits i == 1 } ∷ pointers_from bits (i + 1) targets
 
+-- the cell as laws see it: without its id, each slot with its pointer bit
 abbrev pub cell_of : {slots : ℕ} → Cell slots → StoredCell
 cell_of c =
     record { live = c.live; bit = c.bit; strong = c.strong; weak = c.weak; payload = c.payload; pointers = pointers_from c.bits 0 c.slots }

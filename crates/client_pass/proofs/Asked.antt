@@ -6,6 +6,7 @@ use Rattle.plain_model.specs.declared.calls.Reply.{Reply}
 use Rattle.plain_model.specs.declared.calls.Reply.TheVariants as reply
 use Rattle.plain_model.specs.declared.calls.Entry.{Entry}
 use Rattle.plain_model.specs.declared.calls.Entry.TheVariants as entry
+use Rattle.disk_model.specs.Areas.{Bytes}
 use Rattle.core_store.specs.declared.abort_step.AbortStep.{AbortStep}
 use Rattle.core_store.specs.declared.abort_step.AbortStep.TheVariants.{Undone, Ended}
 use Rattle.journal_chronicle.specs.Steps.{entered_by_call}
@@ -13,11 +14,12 @@ use Rattle.shared_store.specs.declared.answers.StepRefusal.{StepRefusal}
 use Rattle.shared_store.specs.declared.answers.StepRefusal.TheVariants as step
 use Rattle.shared_store.specs.declared.refused.Refused.{Refused}
 use Rattle.shared_store.specs.Passes.{Known}
-use Rattle.shared_store.specs.Calls.{GoesOnAs, found_by_call, refused_by_call, entered_by_step, found_by_step}
+use Rattle.shared_store.specs.Calls.{GoesOnAs, MakesCall, MakesStep, found_by_call, refused_by_call, entered_by_step, found_by_step}
 use Rattle.client_pass.specs.declared.ends.WorkEnd.{WorkEnd}
 use Rattle.client_pass.specs.declared.ends.WorkEnd.TheVariants as end
-use Rattle.client_pass.specs.Attempts.{Answered, has_after}
-use Rattle.client_pass.specs.Workings.{Makes, AreNone, IsOne, IsCutOff, IsEnd, end_of, refused_by_work, refused_after}
+use Rattle.client_pass.specs.Attempts.{Deed, Made, has_after, IsMade, AreUndos}
+use Rattle.client_pass.specs.Workings.{Makes, AreNone, IsOne, IsCutOff, IsEnd, EndsWork, IsToldToClient, WasAnswered, WasStopped, end_of, refused_by_work, refused_after}
+use Rattle.client_pass.proofs.Tries.{made-one, made-abort, undos-keep, undos-append}
 use Rattle.client_pass.proofs.Makings.{makes-one, makes-undo, makes-refused, makes-map, makes-append}
 
 -- ---- answers
@@ -105,7 +107,7 @@ module _ {slots : ℕ} where
 
   -- its answer, or the end of the work
   pub record Asked (u v : Known slots) (c : TransactionCall) (t : Result Reply WorkEnd) (before after : Refused) : Type 0 where
-    pub ok : IfOk t (λ r. Makes u v (IsOne c r))
+    pub ok : IfOk t (λ r. Makes u v (IsMade c r))
     pub err : IfErr t (λ e. Makes u v (IsCutOff c) × IsEnd e)
     pub refused : after ≡ refused_after t before
 
@@ -114,7 +116,7 @@ module _ {slots : ℕ} where
       → GoesOnAs u v (entered_by_call u.station.name c r) (found_by_call r) → after ≡ refused_by_call r before
       → Asked u v c t before after
   asked u v c r (Ok x) before after none ok err g counted = record {
-    ok = makes-map u v (IsOne c r) (IsOne c x) (λ made m. m ∙ ap (λ y. (c, y) ∷ []) (sym ok.0))
+    ok = makes-map u v (IsOne c r) (IsMade c x) (λ made m. subst (IsMade c x) (sym (m ∙ ap (λ y. Made c y ∷ []) (sym ok.0))) (made-one c x))
         (makes-one u v c r (found_by_call r) (subst (λ (o : Option Entry). GoesOnAs u v o (found_by_call r)) (entered u.station.name c r none ok.1) g));
     err = tt;
     refused = counted ∙ uncounted r before ok.1;
@@ -129,36 +131,69 @@ module _ {slots : ℕ} where
     where
       cut-off : (entered_by_call u.station.name c r ≡ None) ⊎ ((entered_by_call u.station.name c r ≡ Some (entry.Call u.station.name c r)) × (r ≡ reply.DiskFault)) → Makes u v (IsCutOff c)
       cut-off (inl is) = makes-map u v AreNone (IsCutOff c) (λ made m. inl m) (makes-refused u v (found_by_call r) (subst (λ (o : Option Entry). GoesOnAs u v o (found_by_call r)) is g))
-      cut-off (inr is) = makes-map u v (IsOne c r) (IsCutOff c) (λ made m. inr (m ∙ ap (λ y. (c, y) ∷ []) is.1)) (makes-one u v c r (found_by_call r) (subst (λ (o : Option Entry). GoesOnAs u v o (found_by_call r)) is.0 g))
+      cut-off (inr is) = makes-map u v (IsOne c r) (IsCutOff c) (λ made m. inr (inl (m ∙ ap (λ y. Made c y ∷ []) is.1))) (makes-one u v c r (found_by_call r) (subst (λ (o : Option Entry). GoesOnAs u v o (found_by_call r)) is.0 g))
+
+  -- the end of the work names the answer
+  pub told-ends : (D : Type 0) (faults : D → ℕ) (moment : D → ℕ) (left_since : D → ℕ → Bytes → Type 0) (w u v : Known slots) (c : TransactionCall) (r : Reply) (t : Result Reply WorkEnd) → IfErr t (λ e. end_of r ≡ Some e)
+      → GoesOnAs u v (entered_by_call u.station.name c r) (found_by_call r) → MakesCall D slots faults moment left_since u v c r
+      → IfErr t (λ e. Makes w v (IsCutOff c) × IsEnd e) → IfErr t (λ e. Makes w v (IsCutOff c) × EndsWork D slots faults moment left_since v e)
+  told-ends D faults moment left_since w u v c r (Ok x) is g made cut = tt
+  told-ends D faults moment left_since w u v c r (Err e) is g made cut = (cut.0, (cut.1, inl (r, is, record { before = u; call = c; knows = g; made = made })))
 
   -- ---- steps of an abort
 
   abbrev Steps : Known slots → Known slots → Result AbortStep StepRefusal → Type 0
   Steps u v s = GoesOnAs u v (entered_by_step u.station.name s) (found_by_step s)
 
-  pub undid : (u v : Known slots) (s : Result AbortStep StepRefusal) (a : AbortStep) → s ≡ Ok a → a ≡ Undone → GoesOnAs u v (entered_by_step u.station.name s) (found_by_step s) → Makes u v AreNone
+  pub undid : (u v : Known slots) (s : Result AbortStep StepRefusal) (a : AbortStep) → s ≡ Ok a → a ≡ Undone → GoesOnAs u v (entered_by_step u.station.name s) (found_by_step s) → Makes u v AreUndos
   undid u v s a is undone g = makes-undo u v None (subst (Steps u v) (is ∙ ap Ok undone) g)
 
   pub ended : (u v : Known slots) (s : Result AbortStep StepRefusal) (a : AbortStep) → s ≡ Ok a → a ≡ Ended → GoesOnAs u v (entered_by_step u.station.name s) (found_by_step s) → Makes u v (IsOne call.Abort reply.Done)
   ended u v s a is over g = makes-one u v call.Abort reply.Done None (subst (Steps u v) (is ∙ ap Ok over) g)
 
-  pub step-again : (u v : Known slots) (s : Result AbortStep StepRefusal) (f : StepRefusal) (word seat : ℕ) → s ≡ Err f → f ≡ step.Again word seat → GoesOnAs u v (entered_by_step u.station.name s) (found_by_step s) → Makes u v AreNone
-  step-again u v s f word seat is again g = makes-refused u v (Some (word, seat)) (subst (Steps u v) (is ∙ ap Err again) g)
+  none-undos : (u v : Known slots) → Makes u v AreNone → Makes u v AreUndos
+  none-undos u v m = makes-map u v AreNone AreUndos (λ made none. subst AreUndos (sym none) tt) m
 
-  pub step-stopped : (u v : Known slots) (s : Result AbortStep StepRefusal) (f : StepRefusal) (faults : ℕ) → s ≡ Err f → f ≡ step.Stopped faults → GoesOnAs u v (entered_by_step u.station.name s) (found_by_step s) → Makes u v AreNone
-  step-stopped u v s f faults is stopped g = makes-refused u v None (subst (Steps u v) (is ∙ ap Err stopped) g)
+  pub step-again : (u v : Known slots) (s : Result AbortStep StepRefusal) (f : StepRefusal) (word seat : ℕ) → s ≡ Err f → f ≡ step.Again word seat → GoesOnAs u v (entered_by_step u.station.name s) (found_by_step s) → Makes u v AreUndos
+  step-again u v s f word seat is again g = none-undos u v (makes-refused u v (Some (word, seat)) (subst (Steps u v) (is ∙ ap Err again) g))
+
+  pub step-stopped : (u v : Known slots) (s : Result AbortStep StepRefusal) (f : StepRefusal) (faults : ℕ) → s ≡ Err f → f ≡ step.Stopped faults → GoesOnAs u v (entered_by_step u.station.name s) (found_by_step s) → Makes u v AreUndos
+  step-stopped u v s f faults is stopped g = none-undos u v (makes-refused u v None (subst (Steps u v) (is ∙ ap Err stopped) g))
+
+  -- the end of the work names the answer
+  pub stopped-ends : (D : Type 0) (faults : D → ℕ) (moment : D → ℕ) (left_since : D → ℕ → Bytes → Type 0) (u v : Known slots) (s : Result AbortStep StepRefusal) (f : StepRefusal) (n : ℕ) → s ≡ Err f → f ≡ step.Stopped n
+      → GoesOnAs u v (entered_by_step u.station.name s) (found_by_step s) → (found_by_step s ≡ None → MakesStep D slots u s) → EndsWork D slots faults moment left_since v (end.Disk (reply.Stopped n))
+  stopped-ends D faults moment left_since u v s f n is stopped g made =
+      let all : s ≡ Err (step.Stopped n) = is ∙ ap Err stopped in
+      (refl, inr (n, refl, record { before = u; knows = subst (Steps u v) all g; made = subst (MakesStep D slots u) all (made (ap found_by_step all)) }))
 
   -- ---- behind no call
 
-  pub none-append : (u v w : Known slots) (P : List Answered → Type 0) → Makes u v AreNone → Makes v w P → Makes u w P
+  pub none-append : (u v w : Known slots) (P : List Deed → Type 0) → Makes u v AreNone → Makes v w P → Makes u w P
   none-append u v w P a b = makes-append u v w AreNone P P (λ made more m p. subst P (sym (ap (λ x. x ++ more) m)) p) a b
 
   pub same-truth : (u v : Known slots) → Makes u v AreNone → v.knowledge.truth ≡ u.knowledge.truth
   same-truth u v m = m.truth ∙ ap (has_after u.knowledge.truth) m.such
 
-  pub same-name : (u v : Known slots) (P : List Answered → Type 0) → Makes u v P → u.station.name ≡ v.station.name
+  -- ---- behind undos
+
+  pub undos-behind : (u v w : Known slots) → Makes u v AreUndos → Makes v w AreUndos → Makes u w AreUndos
+  undos-behind u v w a b = makes-append u v w AreUndos AreUndos AreUndos undos-append a b
+
+  -- the abort is done behind them
+  pub abort-done : (u v w : Known slots) → Makes u v AreUndos → Makes v w (IsOne call.Abort reply.Done) → Makes u w (IsMade call.Abort reply.Done)
+  abort-done u v w a b = makes-append u v w AreUndos (IsOne call.Abort reply.Done) (IsMade call.Abort reply.Done) (λ made more p q. subst (λ (x : List Deed). IsMade call.Abort reply.Done (made ++ x)) (sym q) (made-abort made p)) a b
+
+  pub undos-truth : (u v : Known slots) → Makes u v AreUndos → v.knowledge.truth ≡ u.knowledge.truth
+  undos-truth u v m = m.truth ∙ undos-keep u.knowledge.truth m.made m.such
+
+  -- it was stopped behind them
+  pub abort-cut : (u v : Known slots) (c : TransactionCall) → c ≡ call.Abort → Makes u v AreUndos → Makes u v (IsCutOff c)
+  abort-cut u v c is m = makes-map u v AreUndos (IsCutOff c) (λ made p. inr (inr (is, p))) m
+
+  pub same-name : (u v : Known slots) (P : List Deed → Type 0) → Makes u v P → u.station.name ≡ v.station.name
   same-name u v P m = sym (ap (λ s. s.name) m.keeps.station)
 
   pub asked-behind : (u v w : Known slots) (c : TransactionCall) (t : Result Reply WorkEnd) (before after : Refused) → Makes u v AreNone → Asked v w c t before after → Asked u w c t before after
-  asked-behind u v w c (Ok r) before after m a = record { ok = none-append u v w (IsOne c r) m a.ok; err = tt; refused = a.refused }
+  asked-behind u v w c (Ok r) before after m a = record { ok = none-append u v w (IsMade c r) m a.ok; err = tt; refused = a.refused }
   asked-behind u v w c (Err e) before after m a = record { ok = tt; err = (none-append u v w (IsCutOff c) m a.err.0, a.err.1); refused = a.refused }

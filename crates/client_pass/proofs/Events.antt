@@ -1,28 +1,35 @@
 -- Events of the collector, and how they are put together.
-use Rattle.std.proofs.Common.{◌≡◌, ℕ, List, [], ◌∷◌, ◌++◌, Option, Some, None, Result, Ok, Err, refl, sym, ap, ◌∙◌}
+use Rattle.std.proofs.Common.{◌≡◌, Bool, ℕ, ◌<◌, ◌≤◌, List, [], ◌∷◌, ◌++◌, length, Option, Some, None, Result, Ok, Err, refl, sym, ap, subst, ◌∙◌, arith}
 use Rattle.std.proofs.lemmas.List.{append-nil}
 use Rattle.std.specs.List.{AllByRecursion}
+use Rattle.plain_model.specs.declared.calls.Entry.{Entry}
 use Rattle.plain_model.specs.declared.calls.Entry.TheVariants.{Hidden, Delete}
 use Rattle.core_store.specs.declared.note.Note.{Note}
 use Rattle.core_store.specs.declared.collect.Collect.{Collect}
 use Rattle.core_store.specs.declared.collect.Collect.TheVariants.{Idle, Did, Deleted, TraceFull, Memory}
-use Rattle.journal_chronicle.specs.Clients.{speaker_of}
+use Rattle.latch_table.specs.Holds.{IsAlone}
 use Rattle.shared_store.specs.declared.answers.CollectRefusal.{CollectRefusal}
+use Rattle.shared_store.specs.declared.answers.CollectRefusal.TheVariants as refusal
 use Rattle.shared_store.specs.Passes.{Known}
-use Rattle.shared_store.specs.Calls.{GoesOnAs, entered_by_collecting, found_by_collecting}
-use Rattle.client_pass.specs.Runs.{Collects}
+use Rattle.shared_store.specs.Calls.{GoesOnAs, Keeps, MakesCollect, entered_by_collecting, found_by_collecting}
+use Rattle.client_pass.specs.declared.ends.WorkEnd.{WorkEnd}
+use Rattle.client_pass.specs.Workings.{IsEnd, EndsCollecting, WasCollecting, end_of_collecting}
+use Rattle.client_pass.specs.Runs.{Collects, IsOfCollector}
 use Rattle.client_pass.proofs.Makings.{keeps-none, keeps-append, keeps-one, truth-one}
 
-nobody-append : (kept more : List (ℕ × Note)) → AllByRecursion (λ (k : ℕ × Note). speaker_of k.1.entry ≡ None) kept → AllByRecursion (λ (k : ℕ × Note). speaker_of k.1.entry ≡ None) more → AllByRecursion (λ (k : ℕ × Note). speaker_of k.1.entry ≡ None) (kept ++ more)
-nobody-append [] more a b = b
-nobody-append (k ∷ kept) more a b = (a.0, nobody-append kept more a.1 b)
+each-append : (kept more : List (ℕ × Note)) → AllByRecursion (λ (k : ℕ × Note). IsOfCollector k.1.entry) kept → AllByRecursion (λ (k : ℕ × Note). IsOfCollector k.1.entry) more → AllByRecursion (λ (k : ℕ × Note). IsOfCollector k.1.entry) (kept ++ more)
+each-append [] more a b = b
+each-append (k ∷ kept) more a b = (a.0, each-append kept more a.1 b)
 
 module _ {slots : ℕ} where
+  entered-longer : (u v : Known slots) (e : Entry) → Keeps u v e → u.knowledge.seen < v.knowledge.seen
+  entered-longer u v e k = let later = k.later in let seen = k.seen in omega (arith, later, seen)
+
   pub collects_none : (v : Known slots) → Collects v v
-  collects_none v = record { kept = []; keeps = keeps-none v; nobody = tt; truth = refl }
+  collects_none v = record { kept = []; keeps = keeps-none v; each = tt; truth = refl }
 
   pub collects_append : (u v w : Known slots) → Collects u v → Collects v w → Collects u w
-  collects_append u v w a b = record { kept = a.kept ++ b.kept; keeps = keeps-append u v w a.kept b.kept a.keeps b.keeps; nobody = nobody-append a.kept b.kept a.nobody b.nobody; truth = b.truth ∙ a.truth }
+  collects_append u v w a b = record { kept = a.kept ++ b.kept; keeps = keeps-append u v w a.kept b.kept a.keeps b.keeps; each = each-append a.kept b.kept a.each b.each; truth = b.truth ∙ a.truth }
 
   -- ---- one step
 
@@ -31,16 +38,16 @@ module _ {slots : ℕ} where
   collects-nothing u v found g = record {
     kept = [];
     keeps = record { station = g.station; fixed = g.fixed; peeks = g.peeks; marks = g.marks; entries = g.entries.kept ∙ sym (append-nil u.knowledge.entries); places = g.entries.seen };
-    nobody = tt;
+    each = tt;
     truth = g.entries.has;
   }
 
   -- it entered this, which speaks for nobody
   collects-hidden : (u v : Known slots) (found : Option (ℕ × ℕ)) → GoesOnAs u v (Some Hidden) found → Collects u v
-  collects-hidden u v found g = let k = keeps-one u v Hidden found g in record { kept = k.0 ∷ []; keeps = k.2; nobody = (ap speaker_of k.1, tt); truth = truth-one u v Hidden g.entries }
+  collects-hidden u v found g = let k = keeps-one u v Hidden found g in record { kept = k.0 ∷ []; keeps = k.2; each = (subst IsOfCollector (sym k.1) tt, tt); truth = truth-one u v Hidden g.entries }
 
   collects-deleted : (u v : Known slots) (id : ℕ) (found : Option (ℕ × ℕ)) → GoesOnAs u v (Some (Delete id)) found → Collects u v
-  collects-deleted u v id found g = let k = keeps-one u v (Delete id) found g in record { kept = k.0 ∷ []; keeps = k.2; nobody = (ap speaker_of k.1, tt); truth = truth-one u v (Delete id) g.entries }
+  collects-deleted u v id found g = let k = keeps-one u v (Delete id) found g in record { kept = k.0 ∷ []; keeps = k.2; each = (subst IsOfCollector (sym k.1) tt, tt); truth = truth-one u v (Delete id) g.entries }
 
   -- whatever the answer
   pub collects-step : (u v : Known slots) (r : Result Collect CollectRefusal) → GoesOnAs u v (entered_by_collecting r) (found_by_collecting r) → Collects u v
@@ -50,3 +57,23 @@ module _ {slots : ℕ} where
   collects-step u v (Ok Idle) g = collects-nothing u v None g
   collects-step u v (Ok Memory) g = collects-nothing u v None g
   collects-step u v (Err refusal) g = collects-nothing u v (found_by_collecting (Err refusal)) g
+
+  -- ---- what an answer tells
+
+  -- an event that was made makes the history longer
+  pub did-longer : (u v : Known slots) (r : Result Collect CollectRefusal) (s : Collect) (popped : Bool) (left : ℕ) → r ≡ Ok s → s ≡ Did popped left → GoesOnAs u v (entered_by_collecting r) (found_by_collecting r) → u.knowledge.seen < v.knowledge.seen
+  did-longer u v r s popped left is did g = entered-longer u v Hidden (subst (λ (x : Result Collect CollectRefusal). GoesOnAs u v (entered_by_collecting x) (found_by_collecting x)) (is ∙ ap Ok did) g).entries
+
+  pub deleted-longer : (u v : Known slots) (r : Result Collect CollectRefusal) (s : Collect) (id left : ℕ) → r ≡ Ok s → s ≡ Deleted id left → GoesOnAs u v (entered_by_collecting r) (found_by_collecting r) → u.knowledge.seen < v.knowledge.seen
+  deleted-longer u v r s id left is deleted g = entered-longer u v (Delete id) (subst (λ (x : Result Collect CollectRefusal). GoesOnAs u v (entered_by_collecting x) (found_by_collecting x)) (is ∙ ap Ok deleted) g).entries
+
+  -- nobody is in the way of a pass that is alone
+  pub alone-never : (u v : Known slots) (r : Result Collect CollectRefusal) (f : CollectRefusal) (word seat : ℕ) → IsAlone u → r ≡ Err f → f ≡ refusal.Again word seat → GoesOnAs u v (entered_by_collecting r) (found_by_collecting r) → ⊥
+  alone-never u v r f word seat alone is again g =
+      let all : r ≡ Err (refusal.Again word seat) = is ∙ ap Err again in
+      (subst (λ (x : Result Collect CollectRefusal). GoesOnAs u v (entered_by_collecting x) (found_by_collecting x)) all g).meets.1.2 alone.0 alone.1
+
+  -- the end that an answer means names it
+  pub collecting-ends : (D : Type 0) (u v : Known slots) (r : Result Collect CollectRefusal) (e : WorkEnd) → end_of_collecting r ≡ Some e → IsEnd e → found_by_collecting r ≡ None
+      → GoesOnAs u v (entered_by_collecting r) (found_by_collecting r) → (found_by_collecting r ≡ None → MakesCollect D slots u r) → EndsCollecting D slots v e
+  collecting-ends D u v r e means is found g made = (is, (r, means, record { before = u; knows = g; made = made found }))

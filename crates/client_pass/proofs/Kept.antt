@@ -8,9 +8,9 @@ use Rattle.plain_model.specs.declared.calls.Entry.{Entry}
 use Rattle.plain_model.specs.declared.calls.Entry.TheVariants.{Call, Undo, Delete, Hidden, TurnBusy, Crash}
 use Rattle.core_store.specs.declared.note.Note.{Note}
 use Rattle.journal_chronicle.specs.Clients.{speaker_of}
-use Rattle.client_pass.specs.Attempts.{Answered, call_in}
+use Rattle.client_pass.specs.Attempts.{Deed, Made, Undid, call_in}
 use Rattle.client_pass.specs.Workings.{Ascend, AreOfClient, calls_of}
-use Rattle.client_pass.specs.Runs.{speaks_for, entries_of}
+use Rattle.client_pass.specs.Runs.{IsOfCollector, speaks_for, entries_of}
 
 -- ---- those of a client
 
@@ -28,10 +28,35 @@ entries-append client (k ∷ kept) more = by (cases_Bool (speaks_for client (spe
     by (inl is) rest = one-more client k (kept ++ more) is ∙ (ap (λ xs. k ∷ xs) rest ∙ sym (ap (λ xs. xs ++ entries_of client more) (one-more client k kept is)))
     by (inr is) rest = passed-over client k (kept ++ more) is ∙ (rest ∙ sym (ap (λ xs. xs ++ entries_of client more) (passed-over client k kept is)))
 
--- what speaks for nobody is no client's
-pub none-of_nobody : (client : ℕ) (kept : List (ℕ × Note)) → AllByRecursion (λ (k : ℕ × Note). speaker_of k.1.entry ≡ None) kept → entries_of client kept ≡ []
-none-of_nobody client [] all = refl
-none-of_nobody client (k ∷ kept) all = passed-over client k kept (ap (speaks_for client) all.0) ∙ none-of_nobody client kept all.1
+-- what is of the collector speaks for nobody
+pub speaks-none : (e : Entry) → IsOfCollector e → speaker_of e ≡ None
+speaks-none (Call c call reply) is = absurd is
+speaks-none (Delete id) is = refl
+speaks-none Hidden is = refl
+speaks-none (Undo c) is = absurd is
+speaks-none (TurnBusy c) is = absurd is
+speaks-none (Crash cells) is = absurd is
+
+pub none-of_collector : (client : ℕ) (kept : List (ℕ × Note)) → AllByRecursion (λ (k : ℕ × Note). IsOfCollector k.1.entry) kept → entries_of client kept ≡ []
+none-of_collector client [] all = refl
+none-of_collector client (k ∷ kept) all = passed-over client k kept (ap (speaks_for client) (speaks-none k.1.entry all.0)) ∙ none-of_collector client kept all.1
+
+-- the entries among these that speak for nobody are the collector's
+abbrev pub OthersAreCollected : List (ℕ × Note) → Type 0
+OthersAreCollected kept = AllByRecursion (λ (k : ℕ × Note). speaker_of k.1.entry ≡ None → IsOfCollector k.1.entry) kept
+
+pub collected-append : (kept more : List (ℕ × Note)) → OthersAreCollected kept → OthersAreCollected more → OthersAreCollected (kept ++ more)
+collected-append [] more a b = b
+collected-append (k ∷ kept) more a b = (a.0, collected-append kept more a.1 b)
+
+pub collected-all : (kept : List (ℕ × Note)) → AllByRecursion (λ (k : ℕ × Note). IsOfCollector k.1.entry) kept → OthersAreCollected kept
+collected-all [] all = tt
+collected-all (k ∷ kept) all = (λ _. all.0, collected-all kept all.1)
+
+-- a client's are none of these
+pub collected-own : (client : ℕ) (kept : List (ℕ × Note)) → AreOfClient client kept → OthersAreCollected kept
+collected-own client [] all = tt
+collected-own client (k ∷ kept) all = (λ none. absurd (let e = sym all.0 ∙ none in cc), collected-own client kept all.1)
 
 -- what is all of one client
 pub all-own : (client : ℕ) (kept : List (ℕ × Note)) → AreOfClient client kept → entries_of client kept ≡ kept
@@ -46,10 +71,10 @@ none-other client other (k ∷ kept) apart all = passed-over other k kept (ap (s
 -- ---- its calls
 
 silent : (client : ℕ) (e : Entry) → speaks_for client (speaker_of e) ≡ false → call_in client e ≡ []
-silent client (Call c call reply) is = cond-false (c == client) ((call, reply) ∷ []) [] is
+silent client (Call c call reply) is = cond-false (c == client) (Made call reply ∷ []) [] is
 silent client (Delete id) is = refl
 silent client Hidden is = refl
-silent client (Undo c) is = refl
+silent client (Undo c) is = cond-false (c == client) (Undid ∷ []) [] is
 silent client (TurnBusy c) is = refl
 silent client (Crash cells) is = refl
 
@@ -59,7 +84,7 @@ no-calls client (k ∷ kept) none = by (no-calls client kept) (cases_Bool (speak
   where
     by : (entries_of client kept ≡ [] → calls_of client kept ≡ []) → (speaks_for client (speaker_of k.1.entry) ≡ true) ⊎ (speaks_for client (speaker_of k.1.entry) ≡ false) → calls_of client (k ∷ kept) ≡ []
     by rest (inl is) = absurd (let e = sym (one-more client k kept is) ∙ none in cc)
-    by rest (inr is) = ap (λ (xs : List Answered). xs ++ calls_of client kept) (silent client k.1.entry is) ∙ rest (sym (passed-over client k kept is) ∙ none)
+    by rest (inr is) = ap (λ (xs : List Deed). xs ++ calls_of client kept) (silent client k.1.entry is) ∙ rest (sym (passed-over client k kept is) ∙ none)
 
 -- ---- places
 

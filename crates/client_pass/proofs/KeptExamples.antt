@@ -14,7 +14,7 @@ use Rattle.core_store.specs.declared.note.Note.{Note}
 use Rattle.latch_table.specs.Rule.{AreAt, KeepsEachOnce, LieBelow}
 use Rattle.journal_chronicle.specs.View.{has_transaction}
 use Rattle.client_pass.specs.declared.script.ClientScript.{ClientScript}
-use Rattle.client_pass.specs.Attempts.{Answered, calls_in, has_after}
+use Rattle.client_pass.specs.Attempts.{Deed, Made, Undid, calls_in, has_after}
 use Rattle.client_pass.specs.Workings.{calls_of}
 use Rattle.client_pass.specs.Runs.{entries_of, AreInOrder, AreApart}
 use Rattle.client_pass.proofs.KeptLemmas.{is_own, AscendFrom, calls-of_log, nobody-calls}
@@ -60,10 +60,10 @@ in_order_1 = (9, (omega arith, (omega arith, (omega arith, (omega arith, (omega 
 calls_1 : calls_of 1 kept ≡ calls_in 1 (map (λ n. n.entry) log)
 calls_1 = calls-of_log 1 log kept 0 9 at each in_order_1
 
-calls_1-are : calls_of 1 kept ≡ (Begin, Done) ∷ (GetPay 0, Busy 2) ∷ (Abort, Done) ∷ (Begin, Done) ∷ []
+calls_1-are : calls_of 1 kept ≡ Made Begin Done ∷ Made (GetPay 0) (Busy 2) ∷ Undid ∷ Made Abort Done ∷ Made Begin Done ∷ []
 calls_1-are = refl
 
-calls_1-of_log : calls_in 1 (map (λ (n : Note). n.entry) log) ≡ (Begin, Done) ∷ (GetPay 0, Busy 2) ∷ (Abort, Done) ∷ (Begin, Done) ∷ []
+calls_1-of_log : calls_in 1 (map (λ (n : Note). n.entry) log) ≡ Made Begin Done ∷ Made (GetPay 0) (Busy 2) ∷ Undid ∷ Made Abort Done ∷ Made Begin Done ∷ []
 calls_1-of_log = refl
 
 notes_1 : filter (is_own 1) log ≡ note (Call 1 Begin Done) ∷ note (Call 1 (GetPay 0) (Busy 2)) ∷ note (Undo 1) ∷ note (Call 1 Abort Done) ∷ note (Call 1 Begin Done) ∷ []
@@ -85,11 +85,11 @@ nobody_3 = nobody-calls 3 log kept at each refl
 abbrev turned : List (ℕ × Note)
 turned = (7, note (Call 2 Commit Done)) ∷ (1, note (Call 2 Begin Done)) ∷ []
 
-abbrev begin-last : List Answered
-begin-last = (Commit, Done) ∷ (Begin, Done) ∷ []
+abbrev begin-last : List Deed
+begin-last = Made Commit Done ∷ Made Begin Done ∷ []
 
-abbrev begin-first : List Answered
-begin-first = (Begin, Done) ∷ (Commit, Done) ∷ []
+abbrev begin-first : List Deed
+begin-first = Made Begin Done ∷ Made Commit Done ∷ []
 
 turned-calls : (calls_of 2 turned ≡ begin-last) × (calls_in 2 (map (λ (n : Note). n.entry) log) ≡ begin-first)
 turned-calls = (refl, refl)

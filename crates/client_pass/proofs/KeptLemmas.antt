@@ -11,7 +11,7 @@ use Rattle.plain_model.specs.declared.calls.Entry.TheVariants.{Call, Delete, Hid
 use Rattle.core_store.specs.declared.note.Note.{Note}
 use Rattle.latch_table.specs.Rule.{AreAt, KeepsEachOnce, times_in, one_if}
 use Rattle.journal_chronicle.specs.Clients.{speaker_of}
-use Rattle.client_pass.specs.Attempts.{call_in, calls_in}
+use Rattle.client_pass.specs.Attempts.{Made, Undid, call_in, calls_in}
 use Rattle.client_pass.specs.Workings.{Ascend, calls_of}
 use Rattle.client_pass.specs.Runs.{speaks_for, entries_of, AreInOrder}
 
@@ -169,10 +169,10 @@ in-order test whole (e ∷ log) n kept is a at all once =
 -- ---- a client's calls
 
 no-call : (client : ℕ) (e : Entry) → speaks_for client (speaker_of e) ≡ false → call_in client e ≡ []
-no-call client (Call c call reply) h = cond-false _ ((call, reply) ∷ []) [] h
+no-call client (Call c call reply) h = cond-false _ (Made call reply ∷ []) [] h
 no-call client (Delete id) h = refl
 no-call client Hidden h = refl
-no-call client (Undo c) h = refl
+no-call client (Undo c) h = cond-false _ (Undid ∷ []) [] h
 no-call client (TurnBusy c) h = refl
 no-call client (Crash cells) h = refl
 
@@ -221,3 +221,23 @@ nobody client log kept at each none =
 -- and made no call
 pub nobody-calls : (client : ℕ) (log : List Note) (kept : List (ℕ × Note)) → AreAt log kept → KeepsEachOnce log kept → entries_of client kept ≡ [] → calls_in client (map (λ n. n.entry) log) ≡ []
 nobody-calls client log kept at each none = sym (own-notes client log) ∙ ap (λ ns. calls_in client (map (λ (n : Note). n.entry) ns)) (nobody client log kept at each none)
+
+-- ---- what holds of all that is kept
+
+-- it holds of each note of which a place is kept
+kept-holds : (P : Note → Type 0) (log : List Note) (kept : List (ℕ × Note)) → AreAt log kept → AllByRecursion (λ (k : ℕ × Note). P k.1) kept → (p : ℕ) (n : Note) → slice_get log p ≡ Some n → 1 ≤ times_in p kept → P n
+kept-holds P log [] at all p n is more = absurd (omega (arith, more))
+kept-holds P log (k ∷ kept) at all p n is more =
+    ⊎_elim
+    (λ (e : k.0 ≡ p). subst P (note-there log p n k at.0 is e) all.0)
+    (λ (apart : k.0 ≢ p). let same = times-behind p k kept apart in kept-holds P log kept at.1 all.1 p n is (omega (arith, same, more)))
+    (cases_eq k.0 p)
+
+all-from : (P : Note → Type 0) (whole log : List Note) (n : ℕ) → drop n whole ≡ log → ((p : ℕ) (note : Note) → slice_get whole p ≡ Some note → P note) → AllByRecursion P log
+all-from P whole [] n is f = tt
+all-from P whole (e ∷ log) n is f = let parts = split-at whole n e log is in (f n e parts.0, all-from P whole log (n + 1) parts.1 f)
+
+-- so it holds of the log, where each place is kept
+pub log-holds : (P : Note → Type 0) (log : List Note) (kept : List (ℕ × Note)) → AreAt log kept → KeepsEachOnce log kept → AllByRecursion (λ (k : ℕ × Note). P k.1) kept → AllByRecursion P log
+log-holds P log kept at each all =
+    all-from P log log 0 refl (λ p n is. let one = each p (slice_get_within log p n is) in kept-holds P log kept at all p n is (omega (arith, one)))

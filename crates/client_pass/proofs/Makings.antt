@@ -15,7 +15,7 @@ use Rattle.journal_chronicle.specs.Clients.{speaker_of, has_after as has_after_e
 use Rattle.journal_chronicle.specs.View.{has_transaction}
 use Rattle.shared_store.specs.Passes.{Known}
 use Rattle.shared_store.specs.Calls.{GoesOnAs, Keeps}
-use Rattle.client_pass.specs.Attempts.{Answered, calls_in, has_after}
+use Rattle.client_pass.specs.Attempts.{Deed, Made, Undid, calls_in, has_after, AreUndos}
 use Rattle.client_pass.specs.Workings.{Ascend, AreOfClient, calls_of, KeepsAll, Makes, AreNone, IsOne}
 use Rattle.client_pass.proofs.Tries.{calls_in-append, has_after-append}
 
@@ -49,8 +49,11 @@ has-more before note e client is =
     ∙ (fold-append (has_after_entry client) false (map (λ (n : Note). n.entry) before) (note.entry ∷ [])
     ∙ ap (λ x. has_after_entry client (has_transaction before client) x) is)
 
-one-call : (client : ℕ) (c : TransactionCall) (r : Reply) (k : ℕ × Note) → k.1.entry ≡ entry.Call client c r → (c, r) ∷ [] ≡ calls_of client (k ∷ [])
+one-call : (client : ℕ) (c : TransactionCall) (r : Reply) (k : ℕ × Note) → k.1.entry ≡ entry.Call client c r → Made c r ∷ [] ≡ calls_of client (k ∷ [])
 one-call client c r k is = sym (ap (λ (e : Entry). calls_in client (e ∷ [])) is ∙ rw (eq-eqb client client refl) refl)
+
+one-undo : (client : ℕ) (k : ℕ × Note) → k.1.entry ≡ entry.Undo client → Undid ∷ [] ≡ calls_of client (k ∷ [])
+one-undo client k is = sym (ap (λ (e : Entry). calls_in client (e ∷ [])) is ∙ rw (eq-eqb client client refl) refl)
 
 -- ---- views
 
@@ -69,15 +72,15 @@ module _ {slots : ℕ} where
   }
 
   -- no call was made
-  pub makes-none : (v : Known slots) (P : List Answered → Type 0) → P [] → Makes v v P
+  pub makes-none : (v : Known slots) (P : List Deed → Type 0) → P [] → Makes v v P
   makes-none v P p = record { kept = []; keeps = keeps-none v; own = tt; made = []; made_is = refl; truth = refl; such = p }
 
   -- what is such is so
-  pub makes-map : (u v : Known slots) (P Q : List Answered → Type 0) → ((made : List Answered) → P made → Q made) → Makes u v P → Makes u v Q
+  pub makes-map : (u v : Known slots) (P Q : List Deed → Type 0) → ((made : List Deed) → P made → Q made) → Makes u v P → Makes u v Q
   makes-map u v P Q f m = record { kept = m.kept; keeps = m.keeps; own = m.own; made = m.made; made_is = m.made_is; truth = m.truth; such = f m.made m.such }
 
   -- calls behind calls
-  pub makes-append : (u v w : Known slots) (P Q R : List Answered → Type 0) → ((made more : List Answered) → P made → Q more → R (made ++ more)) → Makes u v P → Makes v w Q → Makes u w R
+  pub makes-append : (u v w : Known slots) (P Q R : List Deed → Type 0) → ((made more : List Deed) → P made → Q more → R (made ++ more)) → Makes u v P → Makes v w Q → Makes u w R
   makes-append u v w P Q R f a b =
       let name : v.station.name ≡ u.station.name = ap (λ s. s.name) a.keeps.station in
       record {
@@ -120,22 +123,22 @@ module _ {slots : ℕ} where
         kept = k.0 ∷ [];
         keeps = k.2;
         own = (ap speaker_of k.1, tt);
-        made = (c, r) ∷ [];
+        made = Made c r ∷ [];
         made_is = one-call u.station.name c r k.0 k.1;
         truth = truth-one u v (entry.Call u.station.name c r) g.entries ∙ rw (eq-eqb u.station.name u.station.name refl) refl;
         such = refl;
       }
 
   -- it undid a write
-  pub makes-undo : (u v : Known slots) (found : Option (ℕ × ℕ)) → GoesOnAs u v (Some (entry.Undo u.station.name)) found → Makes u v AreNone
+  pub makes-undo : (u v : Known slots) (found : Option (ℕ × ℕ)) → GoesOnAs u v (Some (entry.Undo u.station.name)) found → Makes u v AreUndos
   makes-undo u v found g =
       let k = keeps-one u v (entry.Undo u.station.name) found g in
       record {
         kept = k.0 ∷ [];
         keeps = k.2;
         own = (ap speaker_of k.1, tt);
-        made = [];
-        made_is = sym (ap (λ (e : Entry). calls_in u.station.name (e ∷ [])) k.1);
+        made = Undid ∷ [];
+        made_is = one-undo u.station.name k.0 k.1;
         truth = truth-one u v (entry.Undo u.station.name) g.entries;
-        such = refl;
+        such = (refl, tt);
       }

@@ -3,6 +3,7 @@ use Rattle.std.proofs.Common.{◌≡◌, ◌≢◌, ◌⊎◌, inl, inr, ℕ, �
 use Rattle.std.specs.List.{AllByRecursion}
 use Rattle.std.proofs.lemmas.Bool.{cases_eq, ne_eqb, cond-true, or_from, or_left}
 use Rattle.std.proofs.lemmas.List.{append_assoc, append-nil}
+use Rattle.disk_model.specs.Areas.{Bytes}
 use Rattle.core_store.specs.declared.note.Note.{Note}
 use Rattle.latch_table.specs.declared.view.Station.{Station}
 use Rattle.latch_table.specs.Account.{Marks}
@@ -11,13 +12,13 @@ use Rattle.shared_store.specs.Passes.{Known, IsClient}
 use Rattle.client_pass.specs.declared.ends.WorkEnd.{WorkEnd}
 use Rattle.client_pass.specs.declared.ends.WorkEnd.TheVariants.{Finished}
 use Rattle.client_pass.specs.declared.script.ClientScript.{ClientScript}
-use Rattle.client_pass.specs.Attempts.{Answered, Attempts, Begun}
+use Rattle.client_pass.specs.Attempts.{Deed, Attempts, Begun}
 use Rattle.client_pass.specs.Scripts.{AreInRange}
-use Rattle.client_pass.specs.Workings.{Ascend, calls_of, KeepsAll, DoesTransactions}
-use Rattle.client_pass.specs.Runs.{entries_of, AreInOrder, Collects, IsNobody, AreApart, MayRun, DoesScript, HasComeBack, RunsScripts}
+use Rattle.client_pass.specs.Workings.{Ascend, calls_of, KeepsAll, DoesTransactions, EndsWork, EndsCollecting}
+use Rattle.client_pass.specs.Runs.{entries_of, AreInOrder, Collects, EndsRun, IsNobody, AreApart, MayRun, DoesScript, HasComeBack, RunsScripts}
 use Rattle.client_pass.proofs.Makings.{calls_of-append}
 use Rattle.client_pass.proofs.Names.{back-out, truth-own, truth-other}
-use Rattle.client_pass.proofs.Kept.{entries-append, none-of_nobody, all-own, none-other, no-calls, ascend-le}
+use Rattle.client_pass.proofs.Kept.{entries-append, none-of_collector, collected-append, collected-all, collected-own, all-own, none-other, no-calls, ascend-le}
 
 keep-either : (l m n : Marks) → KeepMarks l m → KeepMarks l (joined_marks m n)
 keep-either l m n a = (λ e. or_left m.0 n.0 (a.0 e), λ e. or_left m.1 n.1 (a.1 e), λ e. or_left m.2 n.2 (a.2 e))
@@ -27,11 +28,11 @@ keep-trans l m n a b = (λ e. b.0 (a.0 e), λ e. b.1 (a.1 e), λ e. b.2 (a.2 e))
 
 -- calls behind which nobody of these clients made any
 calls-behind : (client : ℕ) (kept more : List (ℕ × Note)) → entries_of client more ≡ [] → calls_of client (kept ++ more) ≡ calls_of client kept
-calls-behind client kept more none = calls_of-append client kept more ∙ (ap (λ (xs : List Answered). calls_of client kept ++ xs) (no-calls client more none) ∙ append-nil (calls_of client kept))
+calls-behind client kept more none = calls_of-append client kept more ∙ (ap (λ (xs : List Deed). calls_of client kept ++ xs) (no-calls client more none) ∙ append-nil (calls_of client kept))
 
 -- and before which nobody made any
 calls-before : (client : ℕ) (kept more : List (ℕ × Note)) → entries_of client kept ≡ [] → calls_of client (kept ++ more) ≡ calls_of client more
-calls-before client kept more none = calls_of-append client kept more ∙ ap (λ (xs : List Answered). xs ++ calls_of client more) (no-calls client kept none)
+calls-before client kept more none = calls_of-append client kept more ∙ ap (λ (xs : List Deed). xs ++ calls_of client more) (no-calls client kept none)
 
 entries-behind : (client : ℕ) (kept more : List (ℕ × Note)) → entries_of client more ≡ [] → entries_of client (kept ++ more) ≡ entries_of client kept
 entries-behind client kept more none = entries-append client kept more ∙ (ap (λ (xs : List (ℕ × Note)). entries_of client kept ++ xs) none ∙ append-nil (entries_of client kept))
@@ -65,8 +66,9 @@ module _ {slots : ℕ} where
         kept = c.kept;
         entries = c.keeps.entries;
         scripts_done = tt;
-        in_order = λ client. (v.knowledge.seen, subst (λ (ks : List (ℕ × Note)). Ascend v.knowledge.seen ks v.knowledge.seen) (sym (none-of_nobody client c.kept c.nobody)) refl, later);
-        nobody = λ client others. none-of_nobody client c.kept c.nobody;
+        in_order = λ client. (v.knowledge.seen, subst (λ (ks : List (ℕ × Note)). Ascend v.knowledge.seen ks v.knowledge.seen) (sym (none-of_collector client c.kept c.each)) refl, later);
+        nobody = λ client others. none-of_collector client c.kept c.each;
+        collected = collected-all c.kept c.each;
         others = λ client others. ap (λ (s : Station). truth_of s.truths client) same;
       }
 
@@ -152,6 +154,7 @@ module _ {slots : ℕ} where
         );
         in_order = λ client. order client (cases_eq s.pass client);
         nobody = λ client none. entries-before client a.kept b.kept (a.nobody client none.1) ∙ behind client none.0;
+        collected = collected-append a.kept b.kept a.collected (collected-own s.pass b.kept b.own);
         others = λ client none. truths client none.0 ∙ a.others client none.1;
       }
     where
@@ -174,6 +177,24 @@ module _ {slots : ℕ} where
       (runs-more v w q s others own rest e (subst AreApart all apart).0
       (subst (λ (y : Known slots). RunsScripts y w others rest) left a)
       (subst (λ (y : Known slots). DoesTransactions y q s.txns own) right b) over))
+
+  -- ---- how a run ends
+
+  -- the collector's end is one of the run
+  pub ends-collecting : (D : Type 0) (faults : D → ℕ) (moment : D → ℕ) (left_since : D → ℕ → Bytes → Type 0) (v w : Known slots) (e : WorkEnd) → w.knowledge.fixed ≡ v.knowledge.fixed → EndsCollecting D slots w e → EndsRun D slots faults moment left_since v e
+  ends-collecting D faults moment left_since v w e same c = (c.0, (w, same, inr c.1))
+
+  -- so is that of one of the clients, or of the others
+  pub ends-joined : (D : Type 0) (faults : D → ℕ) (moment : D → ℕ) (left_since : D → ℕ → Bytes → Type 0) (v u p q : Known slots) (client : ℕ) (own rest e : WorkEnd)
+      → u ≡ split_left v client → p ≡ split_right v client → q.knowledge.fixed ≡ p.knowledge.fixed
+      → ((own ≡ Finished → ⊥) → EndsWork D slots faults moment left_since q own) → ((rest ≡ Finished → ⊥) → EndsRun D slots faults moment left_since u rest)
+      → (e ≡ own) ⊎ (e ≡ rest) → (e ≡ Finished → ⊥) → EndsRun D slots faults moment left_since v e
+  ends-joined D faults moment left_since v u p q client own rest e left right same is-own is-rest (inl is) unfinished =
+      let w = is-own (λ f. unfinished (is ∙ f)) in
+      subst (EndsRun D slots faults moment left_since v) (sym is) (w.0, (q, same ∙ ap (λ (y : Known slots). y.knowledge.fixed) right, inl w.1))
+  ends-joined D faults moment left_since v u p q client own rest e left right same is-own is-rest (inr is) unfinished =
+      let w = is-rest (λ f. unfinished (is ∙ f)) in
+      subst (EndsRun D slots faults moment left_since v) (sym is) (w.0, (w.1.0, w.1.1 ∙ ap (λ (y : Known slots). y.knowledge.fixed) left, w.1.2))
 
   -- what the first of these scripts and the others may do behind the split
   pub record MayBegin (u p : Known slots) (s : ClientScript) (others : List ClientScript) : Type 0 where
@@ -227,7 +248,7 @@ module _ {slots : ℕ} where
   runs-behind v w x scripts rest e over a c =
       let same = c.keeps.station in
       let later = ascend-le w.knowledge.seen x.knowledge.seen c.kept c.keeps.places in
-      let none : (client : ℕ) → entries_of client c.kept ≡ [] = λ client. none-of_nobody client c.kept c.nobody in
+      let none : (client : ℕ) → entries_of client c.kept ≡ [] = λ client. none-of_collector client c.kept c.each in
       record {
         station = subst (λ (s : Station). HasComeBack v.station s (length scripts)) (sym same) a.station;
         fixed = c.keeps.fixed ∙ a.fixed;
@@ -240,5 +261,6 @@ module _ {slots : ℕ} where
         scripts_done = done-behind w x a.kept c.kept rest e scripts over none same a.scripts_done;
         in_order = λ client. let o = a.in_order client in (o.0, subst (λ (ks : List (ℕ × Note)). Ascend v.knowledge.seen ks o.0) (sym (entries-behind client a.kept c.kept (none client))) o.1, let l = o.2 in omega (arith, l, later));
         nobody = λ client others. entries-behind client a.kept c.kept (none client) ∙ a.nobody client others;
+        collected = collected-append a.kept c.kept a.collected (collected-all c.kept c.each);
         others = λ client others. ap (λ (s : Station). truth_of s.truths client) same ∙ a.others client others;
       }

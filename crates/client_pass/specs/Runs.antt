@@ -1,7 +1,10 @@
 -- What a run of several clients leaves.
-use Rattle.std.specs.Prelude.{◌≡◌, ◌≢◌, ℕ, ◌+◌, ◌≤◌, ◌==◌, if◌then◌else◌, Bool, true, false, List, [], ◌∷◌, ◌++◌, length, Option, Some, None, Ok}
+use Rattle.std.specs.Prelude.{◌≡◌, ◌≢◌, ◌⊎◌, ℕ, ◌+◌, ◌≤◌, ◌==◌, if◌then◌else◌, Bool, true, false, List, [], ◌∷◌, ◌++◌, length, Option, Some, None, Ok}
 use Rattle.std.specs.List.{AllByRecursion}
+use Rattle.plain_model.specs.declared.calls.Entry.{Entry}
+use Rattle.plain_model.specs.declared.calls.Entry.TheVariants.{Hidden, Delete}
 use Rattle.plain_model.specs.declared.calls.Reply.TheVariants as reply
+use Rattle.disk_model.specs.Areas.{Bytes}
 use Rattle.core_store.specs.declared.note.Note.{Note}
 use Rattle.core_store.specs.declared.collect.Collect.TheVariants.{Idle}
 use Rattle.disk_model.specs.Causes.{Rose}
@@ -16,7 +19,7 @@ use Rattle.client_pass.specs.declared.ends.WorkEnd.TheVariants.{Finished, Disk, 
 use Rattle.client_pass.specs.declared.script.ClientScript.{ClientScript}
 use Rattle.client_pass.specs.Attempts.{Attempts, Begun}
 use Rattle.client_pass.specs.Scripts.{AreInRange}
-use Rattle.client_pass.specs.Workings.{Ascend, KeepsAll, calls_of, weight}
+use Rattle.client_pass.specs.Workings.{Ascend, KeepsAll, calls_of, IsEnd, IsToldToClient, IsToldToCollector, weight}
 
 -- ---- entries of several clients
 
@@ -36,11 +39,17 @@ AreInOrder least behind kept = (last : ℕ) × Ascend least kept last × (last �
 
 -- ---- the collector
 
--- the pass keeps what the collector did, which speaks for nobody
+-- an entry of the collector: something that no line tells, or a deletion
+abbrev pub IsOfCollector : Entry → Type 0
+IsOfCollector Hidden = Unit {0}
+IsOfCollector (Delete id) = Unit {0}
+IsOfCollector _ = ⊥
+
+-- the pass keeps what the collector did, and nothing else
 pub record Collects {slots : ℕ} (old new : Known slots) : Type 0 where
   pub kept : List (ℕ × Note)
   pub keeps : KeepsAll old new kept
-  pub nobody : AllByRecursion (λ k. speaker_of k.1.entry ≡ None) kept
+  pub each : AllByRecursion (λ k. IsOfCollector k.1.entry) kept
   pub truth : new.knowledge.truth ≡ old.knowledge.truth
 
 -- the collector was asked last, and had nothing to do; the pass has the same place in the store as before it asked
@@ -98,8 +107,17 @@ pub record RunsScripts {slots : ℕ} (old new : Known slots) (scripts : List Cli
   pub scripts_done : AllByRecursion (DoesScript new kept end) scripts
   pub in_order : (client : ℕ) → AreInOrder old.knowledge.seen new.knowledge.seen (entries_of client kept)
   pub nobody : (client : ℕ) → IsNobody client scripts → entries_of client kept ≡ []
+  -- what speaks for nobody is the collector's
+  pub collected : AllByRecursion (λ k. speaker_of k.1.entry ≡ None → IsOfCollector k.1.entry) kept
   -- the truths of other clients stay
   pub others : (client : ℕ) → IsNobody client scripts → truth_of new.station.truths client ≡ truth_of old.station.truths client
+
+-- ---- how it ends
+
+-- a client of the run came to this end, or the collector, and it names the store's last answer to that one's pass
+abbrev pub EndsRun : (D : Type 0) → (slots : ℕ) → (D → ℕ) → (D → ℕ) → (D → ℕ → Bytes → Type 0) → Known slots → WorkEnd → Type 0
+EndsRun D slots faults moment left_since main end =
+    IsEnd end × ((own : Known slots) × (own.knowledge.fixed ≡ main.knowledge.fixed) × (IsToldToClient D slots faults moment left_since own end ⊎ IsToldToCollector D slots own end))
 
 -- ---- refusals
 

@@ -3,7 +3,8 @@ ghost use Rattle.std.specs.Prelude.{◌≡◌, true, false, Some, None, IfOk, If
 ghost use Rattle.plain_model.specs.Machine.{IsInRange};
 ghost use Rattle.shared_store.specs.Passes.{IsClient};
 ghost use Rattle.shared_store.specs.Calls.{found_by_call};
-ghost use Rattle.client_pass.specs.Workings.{Makes, AreNone, IsOne, IsCutOff, Aborts, IsEnd, end_of, refused_after};
+ghost use Rattle.client_pass.specs.Attempts.{AreUndos, IsMade};
+ghost use Rattle.client_pass.specs.Workings.{Makes, IsCutOff, Aborts, EndsWork, end_of, refused_after};
 
 use crate::ends::WorkEnd;
 use crate::gate::Gate;
@@ -40,8 +41,8 @@ fn ask<const SLOTS: usize, D: Disk, R: Wait>(
     requires in_range { IsInRange SLOTS call.now }
     requires no_abort { call.now ≡ Call.Abort → pass.old.view.knowledge.truth ≡ false }
     ensures of { pass.new.table ≡ store.now.table }
-    ensures ok { IfOk result (λ r. Makes pass.old.view pass.new.view (IsOne call.now r)) }
-    ensures err { IfErr result (λ end. Makes pass.old.view pass.new.view (IsCutOff call.now) × IsEnd end) }
+    ensures ok { IfOk result (λ r. Makes pass.old.view pass.new.view (IsMade call.now r)) }
+    ensures err { IfErr result (λ end. Makes pass.old.view pass.new.view (IsCutOff call.now) × EndsWork D SLOTS D.faults D.moment D.left_since pass.new.view end) }
     ensures refused { pass.new.refused ≡ refused_after result pass.old.refused }
 {
     'tries: for _ in rt.forever() {
@@ -62,8 +63,8 @@ fn abort<const SLOTS: usize, D: Disk, R: Wait>(
     requires of { pass.old.table ≡ store.now.table }
     requires active { pass.old.view.knowledge.truth ≡ true }
     ensures of { pass.new.table ≡ store.now.table }
-    ensures ok { IfOk result (λ r. (r ≡ Reply.Done) × Makes pass.old.view pass.new.view (IsOne Call.Abort r)) }
-    ensures err { IfErr result (λ end. Makes pass.old.view pass.new.view AreNone × IsEnd end) }
+    ensures ok { IfOk result (λ r. (r ≡ Reply.Done) × Makes pass.old.view pass.new.view (IsMade Call.Abort r)) }
+    ensures err { IfErr result (λ end. Makes pass.old.view pass.new.view AreUndos × EndsWork D SLOTS D.faults D.moment D.left_since pass.new.view end) }
     ensures refused { pass.new.refused ≡ refused_after result pass.old.refused }
 {
     'steps: for _ in rt.forever() {
@@ -92,9 +93,9 @@ fn make<const SLOTS: usize, D: Disk, R: Wait>(
     requires client { IsClient pass.old.view.station.name }
     requires in_range { IsInRange SLOTS call.now }
     ensures of { pass.new.table ≡ store.now.table }
-    ensures ok { IfOk result (λ r. Makes pass.old.view pass.new.view (IsOne call.now r)) }
+    ensures ok { IfOk result (λ r. Makes pass.old.view pass.new.view (IsMade call.now r)) }
     ensures aborts { call.now ≡ Call.Abort → pass.old.view.knowledge.truth ≡ true → Aborts pass.old.view pass.new.view result }
-    ensures err { IfErr result (λ end. Makes pass.old.view pass.new.view (IsCutOff call.now) × IsEnd end) }
+    ensures err { IfErr result (λ end. Makes pass.old.view pass.new.view (IsCutOff call.now) × EndsWork D SLOTS D.faults D.moment D.left_since pass.new.view end) }
     ensures refused { pass.new.refused ≡ refused_after result pass.old.refused }
 {
     if *call == Call::Abort && pass.has_txn() {
@@ -116,9 +117,9 @@ pub(crate) fn make_at<const SLOTS: usize, D: Disk, G: Gate, R: Wait>(
     requires client { IsClient pass.old.view.station.name }
     requires in_range { IsInRange SLOTS call.now }
     ensures of { pass.new.table ≡ store.now.table }
-    ensures ok { IfOk result (λ r. Makes pass.old.view pass.new.view (IsOne call.now r)) }
+    ensures ok { IfOk result (λ r. Makes pass.old.view pass.new.view (IsMade call.now r)) }
     ensures aborts { call.now ≡ Call.Abort → pass.old.view.knowledge.truth ≡ true → Aborts pass.old.view pass.new.view result }
-    ensures err { IfErr result (λ end. Makes pass.old.view pass.new.view (IsCutOff call.now) × IsEnd end) }
+    ensures err { IfErr result (λ end. Makes pass.old.view pass.new.view (IsCutOff call.now) × EndsWork D SLOTS D.faults D.moment D.left_since pass.new.view end) }
     ensures refused { pass.new.refused ≡ refused_after result pass.old.refused }
 {
     *count = count.saturating_add(1);

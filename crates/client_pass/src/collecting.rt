@@ -1,6 +1,7 @@
 //! The collector beside the clients, and behind them.
-ghost use Rattle.std.specs.Prelude.{◌≡◌, Ok, IfErr};
-ghost use Rattle.client_pass.specs.Workings.{IsEnd, refused_after, refused_by_work};
+ghost use Rattle.std.specs.Prelude.{◌≡◌, ◌<◌, ◌^◌, Ok, IfErr};
+ghost use Rattle.latch_table.specs.Holds.{IsAlone};
+ghost use Rattle.client_pass.specs.Workings.{EndsCollecting, refused_after, refused_by_work};
 ghost use Rattle.client_pass.specs.Runs.{Collects, IsCollected};
 
 use crate::ends::WorkEnd;
@@ -8,7 +9,6 @@ use core_store::Collect;
 use disk_model::Disk;
 use plain_model::Reply;
 use shared_store::{CollectRefusal, Pass, Store};
-use std::sync::Wait;
 use std::sync::atomic::{AtomicU64, Ordering};
 use std::thread;
 
@@ -31,12 +31,15 @@ fn collect<const SLOTS: usize, D: Disk>(
     requires of { main.old.table ≡ store.now.table }
     ensures of { main.new.table ≡ store.now.table }
     ensures collects { Collects main.old.view main.new.view }
+    ensures longer { result ≡ Ok Turn.Made → main.old.view.knowledge.seen < main.new.view.knowledge.seen }
+    ensures never_again { IsAlone main.old.view → result ≡ Ok Turn.Again → ⊥ }
     ensures idle { result ≡ Ok Turn.Idle → IsCollected D SLOTS main.new.view }
-    ensures err { IfErr result IsEnd }
+    ensures err { IfErr result (EndsCollecting D SLOTS main.new.view) }
     ensures refused { main.new.refused ≡ refused_after result main.old.refused }
 {
     match store.collect_step(main) {
-        Ok(Collect::Did { .. } | Collect::Deleted { .. }) => Ok(Turn::Made),
+        Ok(Collect::Did { .. }) => Ok(Turn::Made),
+        Ok(Collect::Deleted { .. }) => Ok(Turn::Made),
         Ok(Collect::Idle) => Ok(Turn::Idle),
         Ok(Collect::TraceFull) => Err(WorkEnd::Limit {
             reply: Reply::TraceFull,
@@ -63,7 +66,7 @@ pub(crate) fn collect_beside<const SLOTS: usize, D: Disk>(
     requires of { main.old.table ≡ store.now.table }
     ensures of { main.new.table ≡ store.now.table }
     ensures collects { Collects main.old.view main.new.view }
-    ensures end { (result ≡ WorkEnd.Finished → ⊥) → IsEnd result }
+    ensures end { (result ≡ WorkEnd.Finished → ⊥) → EndsCollecting D SLOTS main.new.view result }
     ensures refused { main.new.refused ≡ refused_by_work result main.old.refused }
 {
     'turns: for _ in 0..turns {
@@ -79,26 +82,35 @@ pub(crate) fn collect_beside<const SLOTS: usize, D: Disk>(
     WorkEnd::Finished
 }
 
-/// Collects until there is nothing to do. No other pass is out, so nothing is in the way.
+/// A length that the history had, which is told by a number of 64 bits.
+fn know_seen<const SLOTS: usize, D: Disk>(pass: &Pass<SLOTS, D>)
+    ensures { pass.now.view.knowledge.seen < 2 ^ 64 }
+{
+    let _ = pass.seen();
+}
+
+/// Collects until there is nothing to do. No other pass is out, so nothing is in the way and nothing is waited for; and each event
+/// makes the history longer, so it ends.
 #[tactic(auto, using(crate::proofs::Events::collects_none, crate::proofs::Events::collects_append))]
-pub(crate) fn collect_rest<const SLOTS: usize, D: Disk, R: Wait>(
-    rt: &R,
+pub(crate) fn collect_rest<const SLOTS: usize, D: Disk>(
     store: &Store<SLOTS, D>,
     main: &mut Pass<SLOTS, D>,
 ) -> WorkEnd
     requires of { main.old.table ≡ store.now.table }
+    requires alone { IsAlone main.old.view }
     ensures of { main.new.table ≡ store.now.table }
     ensures collects { Collects main.old.view main.new.view }
     ensures idle { result ≡ WorkEnd.Finished → IsCollected D SLOTS main.new.view }
-    ensures end { (result ≡ WorkEnd.Finished → ⊥) → IsEnd result }
+    ensures end { (result ≡ WorkEnd.Finished → ⊥) → EndsCollecting D SLOTS main.new.view result }
     ensures refused { main.new.refused ≡ refused_by_work result main.old.refused }
 {
-    'turns: for _ in rt.forever() {
+    know_seen(main);
+    'turns: loop {
         match collect(store, main) {
-            Ok(Turn::Made | Turn::Again) => {}
+            Ok(Turn::Made) => know_seen(main),
             Ok(Turn::Idle) => return WorkEnd::Finished,
+            Ok(Turn::Again) => unreachable!(),
             Err(end) => return end,
         }
     }
-    unreachable!()
 }

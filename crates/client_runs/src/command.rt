@@ -1,12 +1,13 @@
 //! Clients beside one another behind the word `run` of the program.
 
-use crate::gates::HeldCalls;
-use crate::made::disk_of;
-use crate::runs::each_second_call;
+ghost use Rattle.std.specs.Prelude.{◌≤◌};
+
+use crate::gates::{HeldCalls, each_second_call};
 use brahma_shell::{Words, brahma};
 use client_pass::{Gate, OpenGate};
-use disk_model::Disk;
+use disk_model::{Disk, MemoryDisk};
 use outside_io::{MemorySink, MemorySource};
+use restart_store::init;
 use std::alloc::{AllocError, Global};
 use std::process::Abort;
 use std::sync::Wait;
@@ -25,6 +26,17 @@ const WRITING: &str =
 struct Answered {
     status: u8,
     output: Vec<u8>,
+}
+
+/// A new disk in memory that holds a store of so many pages.
+fn disk_of(alloc: Global, pages: u16) -> Result<MemoryDisk, AllocError>
+    requires { (1 ≤ pages) × (pages ≤ 1024) }
+{
+    let mut disk = MemoryDisk::new(alloc);
+    match init::<_, 6>(&mut disk, pages) {
+        Ok(()) => Ok(disk),
+        Err(_) => Err(AllocError),
+    }
 }
 
 /// The word, for the program.

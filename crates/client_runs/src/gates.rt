@@ -9,14 +9,14 @@ const MOST_TURNS: u64 = 2_000_000;
 
 /// A client's call, counted from 1.
 #[derive(Clone, Copy, PartialEq, Eq, Debug)]
-pub(crate) struct Made {
-    pub(crate) client: u8,
-    pub(crate) number: u32,
+struct Made {
+    client: u8,
+    number: u32,
 }
 
 /// A call that is held until another client's call was answered.
 #[derive(Drop)]
-pub(crate) struct Held {
+struct Held {
     call: Made,
     until: Made,
     is_free: AtomicU64,
@@ -24,7 +24,7 @@ pub(crate) struct Held {
 
 impl Held {
     /// The other call was not answered yet.
-    pub(crate) fn new(call: Made, until: Made) -> Held {
+    fn new(call: Made, until: Made) -> Held {
         Held {
             call,
             until,
@@ -64,16 +64,30 @@ pub(crate) struct HeldCalls {
     missed: AtomicU64,
 }
 
-impl HeldCalls {
-    /// Nothing was answered yet.
-    pub(crate) fn new(first: Held, second: Held) -> HeldCalls {
-        HeldCalls {
-            first,
-            second,
-            missed: AtomicU64::new(0),
-        }
-    }
+/// The client's call of this number is held until the other client's call was answered.
+fn hold_until(call: (u8, u32), until: (u8, u32)) -> Held {
+    Held::new(
+        Made {
+            client: call.0,
+            number: call.1,
+        },
+        Made {
+            client: until.0,
+            number: until.1,
+        },
+    )
+}
 
+/// Each client's second call waits until the other's first one was answered.
+pub(crate) fn each_second_call() -> HeldCalls {
+    HeldCalls {
+        first: hold_until((1, 2), (2, 1)),
+        second: hold_until((2, 2), (1, 1)),
+        missed: AtomicU64::new(0),
+    }
+}
+
+impl HeldCalls {
     /// Whether a call was held in vain.
     pub(crate) fn has_missed(&self) -> bool {
         self.missed.load(Ordering::SeqCst) != 0

@@ -1,17 +1,9 @@
-//! Runs of clients on threads of their own, by their public calls, with what they were meant to leave.
+//! A run of the program on two clients whose calls overlap: that `run` works with threads at once, no clause says.
 //!
-//! They stand apart from the crates that they run, so that each of these is proved once, without its runs.
+//! It stands apart from brahma_shell, so that this is proved once, without its run.
 #![tactic(auto)]
 
 #[cfg(test)]
 mod command;
 #[cfg(test)]
 mod gates;
-#[cfg(test)]
-mod made;
-#[cfg(test)]
-mod outcomes;
-#[cfg(test)]
-mod runs;
-#[cfg(test)]
-mod scripts;

@@ -1,5 +1,5 @@
 -- What tables stand for after an event of the collector that frees nothing.
-use Rattle.std.proofs.Common.{◌≡◌, ℕ, ◌+◌, ◌<◌, ◌==◌, if◌then◌else◌, IfSome, sym, subst, List, length, get_or, map, Bool, true, false, ap, ◌∙◌, Option, None, refl}
+use Rattle.std.proofs.Common.{◌≡◌, ◌≢◌, ℕ, ◌+◌, ◌<◌, ◌==◌, if◌then◌else◌, IfSome, sym, subst, List, length, get_or, map, Bool, true, false, ap, ◌∙◌, Option, None, refl}
 use Rattle.std.proofs.lemmas.List.{get_or-map, length-map}
 use Rattle.cell_model.specs.Cells.{Cell, blank_cell, cell_at, is_live}
 use Rattle.cell_model.proofs.EditLaws.{live-within}
@@ -17,6 +17,7 @@ use Rattle.core_store.specs.Frames.{Agree}
 use Rattle.core_store.specs.Changes.{has_no_strong}
 use Rattle.core_store.specs.RoundView.{RoundView, Sweeping, round_of, next_slot, IsGreeningOf, IsInStep}
 use Rattle.core_store.specs.Tables.{TablesView}
+use Rattle.core_store.specs.Saved.{AreSaved}
 use Rattle.core_store.specs.Stands.{IsEmptied, IsTestedIn, IsTested, Stands, Moves}
 use Rattle.core_store.proofs.LayLaws.{CanLay-later}
 use Rattle.core_store.proofs.PageLaws.{elsewhere-refl}
@@ -53,28 +54,35 @@ Stands-looked slots v c queue r h step emptied tested sound = Stands-collected s
 -- ---- tests
 
 -- where no test is in hand, nothing was found by it
-pub tested-none : (cells : List Cell) (w : Walk) (s : Sweep) (slot : ℕ) (g : Greening) → g.test ≡ None → IsTested cells (Sweeping w s slot g)
-tested-none cells w s slot g none = subst (λ (o : Option Test). IfSome o (IsTestedIn cells g)) (sym none) tt
+pub tested-none : (cells : List Cell) (w : Walk) (s : Sweep) (slot : ℕ) (g : Greening) → g.test ≡ None → AreSaved cells s g → IsTested cells (Sweeping w s slot g)
+tested-none cells w s slot g none saved = (subst (λ (o : Option Test). IfSome o (IsTestedIn cells g)) (sym none) tt, saved)
 
-pub tested-next_slot : (slots : ℕ) (cells : List Cell) (w : Walk) (s : Sweep) (slot : ℕ) (g : Greening) → g.test ≡ None → IsTested cells (next_slot slots w s slot g)
-tested-next_slot slots cells w s slot g none = by (slot + 1 == slots)
+pub tested-next_slot : (slots : ℕ) (cells : List Cell) (w : Walk) (s : Sweep) (slot : ℕ) (g : Greening) → g.test ≡ None → ((t : Sweep) → AreSaved cells t g) → IsTested cells (next_slot slots w s slot g)
+tested-next_slot slots cells w s slot g none saved = by (slot + 1 == slots)
   where
     by : (b : Bool) → IsTested cells (if b then Sweeping w (found s Nothing) 0 g else Sweeping w s (slot + 1) g)
-    by true = tested-none cells w (found s Nothing) 0 g none
-    by false = tested-none cells w s (slot + 1) g none
+    by true = tested-none cells w (found s Nothing) 0 g none (saved (found s Nothing))
+    by false = tested-none cells w s (slot + 1) g none (saved s)
+
+-- a sweep that has something to do isn't at its end
+pub slots-end : (s : Sweep) (id : ℕ) → next_of_sweep s ≡ sweep.Slots id → next_of_sweep s ≢ sweep.End
+slots-end s id e over = apart (sym e ∙ over)
+  where
+    apart : sweep.Slots id ≡ sweep.End → ⊥
+    apart e = absurd (cc)
+
+pub free-end : (s : Sweep) (id : ℕ) → next_of_sweep s ≡ sweep.Free id → next_of_sweep s ≢ sweep.End
+free-end s id e over = apart (sym e ∙ over)
+  where
+    apart : sweep.Free id ≡ sweep.End → ⊥
+    apart e = absurd (cc)
 
 -- in the sweep no test is in hand
 pub rests-at_slots : (slots ids : ℕ) (w : Walk) (s : Sweep) (g : Greening) (id : ℕ) → IsGreeningOf slots ids w s g → next_of_sweep s ≡ sweep.Slots id → g.test ≡ None
-rests-at_slots slots ids w s g id k e = k.at_rest (λ over. slots-end id (sym e ∙ over))
-  where
-    slots-end : (id : ℕ) → sweep.Slots id ≡ sweep.End → ⊥
-    slots-end id e = absurd (cc)
+rests-at_slots slots ids w s g id k e = k.at_rest (slots-end s id e)
 
 pub rests-at_free : (slots ids : ℕ) (w : Walk) (s : Sweep) (g : Greening) (id : ℕ) → IsGreeningOf slots ids w s g → next_of_sweep s ≡ sweep.Free id → g.test ≡ None
-rests-at_free slots ids w s g id k e = k.at_rest (λ over. free-end id (sym e ∙ over))
-  where
-    free-end : (id : ℕ) → sweep.Free id ≡ sweep.End → ⊥
-    free-end id e = absurd (cc)
+rests-at_free slots ids w s g id k e = k.at_rest (free-end s id e)
 
 -- ---- moves and marks
 

@@ -9,7 +9,7 @@ use Rattle.cell_model.specs.Records.{CutDead as CutDeadRecord, HasPointer, Fits}
 use Rattle.store_model.specs.Core.{Round, Core, is_named}
 use Rattle.store_model.specs.Sound.{IsSound}
 use Rattle.store_model.specs.Steps.{IsQuiet, IsTracked, after_collect}
-use Rattle.cell_model.proofs.CountLaws.{relinked-live, relinked-bit, relinked-length, relinked-slot, relinked-counted, relinked-which}
+use Rattle.cell_model.proofs.CountLaws.{relinked-live, relinked-bit, relinked-length, relinked-slot, relinked-other, relinked-counted, relinked-which}
 use Rattle.cell_model.proofs.EditLaws.{live-there, live-within}
 use Rattle.store_model.proofs.StoreSound.{same-self}
 use Rattle.store_model.proofs.WalkSound.{cut-sound, cut_joins-sound}
@@ -33,12 +33,13 @@ use Rattle.core_store.specs.Changes.{has_no_strong, is_counted_strong, restored_
 use Rattle.core_store.specs.Slots.{IsChanged, HoldsPagesOf, IsReadyToChange, Changes}
 use Rattle.core_store.specs.RoundView.{RoundView, Rounds, Sweeping, round_of, asked, is_event, ids_in, next_slot, looked_past, passed_by_sweep, IsSweeping, IsInStep, Proceeds, cut}
 use Rattle.core_store.specs.Tables.{TablesView}
-use Rattle.core_store.specs.Stands.{IsEmptied, Stands}
+use Rattle.core_store.specs.Stands.{IsEmptied, IsTested, Stands}
 use Rattle.core_store.specs.Steps.{is_queued, JoinsIfCut}
 use Rattle.core_store.specs.Collects.{is_let_go}
 use Rattle.core_store.specs.Collecting.{objects_at, IsReadyToCollect, Collected}
 use Rattle.core_store.proofs.SlotLaws.{holds-old}
-use Rattle.core_store.proofs.CollectedLaws.{Stands-collected, tested-next_slot, rests-at_slots, mark-at, marks-long_of}
+use Rattle.core_store.proofs.CollectedLaws.{Stands-collected, tested-next_slot, slots-end, rests-at_slots, mark-at, marks-long_of}
+use Rattle.core_store.proofs.SavedLaws.{saved-swept}
 use Rattle.core_store.proofs.EndQueue.{not-free, are-names}
 use Rattle.core_store.proofs.NextLaws.{one-live}
 use Rattle.core_store.proofs.PassLaws.{round-next_slot, IsEmptied-next_slot}
@@ -259,7 +260,10 @@ module _ {slots : ℕ} {v : TablesView} {c : Core} {held new : List (HeldFrame s
           collects = record { of = swept w s; there = there; behind = refl; condemned = condemned; queue_is = refl; round_is = there };
           stands = Stands-collected slots v c later queue c.round marks (next_slot slots w s slot g) h sound (relinked-live c.cells id slot null) (k.changed.marks_are h.zeros) (round-next_slot slots w s slot g id at ∙ sym there) step
               (emptied-later (sound.consistent.slotted id (relinked-live c.cells id slot null id ∙ k.live) ∙ h.slots_are))
-              (tested-next_slot slots later w s slot g (rests-at_slots slots v.ids w s g id sweeping.greens at));
+              (tested-next_slot slots later w s slot g (rests-at_slots slots v.ids w s g id sweeping.greens at)
+              (λ t. saved-swept c.cells later s t g (slots-end s id at)
+              (λ x j l. ap (λ (p : Pointer). p.target) (relinked-other c.cells id slot null x j (λ e. sweeping.greens.spared x l (subst (Contains s.list) (sym e) (empty-law s id sweeping.sweep at).1))))
+              (subst (IsTested c.cells) is h.tested).1));
         }
 
     -- the queue and the round as the tables have them

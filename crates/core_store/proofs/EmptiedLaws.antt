@@ -12,6 +12,7 @@ use Rattle.cell_model.proofs.CountLaws.{relinked-other}
 use Rattle.green_walk.specs.Sweeping.{unfreed}
 use Rattle.core_store.specs.RoundView.{RoundView, Closed, Walking, Sweeping, round_of, touched_in, IsInStep}
 use Rattle.core_store.specs.Stands.{IsEmptied, IsTested}
+use Rattle.core_store.proofs.SavedLaws.{saved-again}
 
 -- what stands behind the first n is among the rest
 among-drop : (n : ℕ) (xs : List ℕ) (place : ℕ) → n ≤ place → place < length xs → Contains (drop n xs) (slice_index xs place)
@@ -50,7 +51,7 @@ IsEmptied-touched cells v (x ∷ xs) e = IsEmptied-touched cells (touched_in v x
 IsTested-ended : (cells : List Cell) (v : RoundView) (id : ℕ) → IsTested cells (touched_in v id)
 IsTested-ended cells Closed id = tt
 IsTested-ended cells (Walking w) id = tt
-IsTested-ended cells (Sweeping w s slot g) id = tt
+IsTested-ended cells (Sweeping w s slot g) id = (tt, saved-again cells s g)
 
 pub IsTested-touched : (cells : List Cell) (v : RoundView) (x : ℕ) (xs : List ℕ) → IsTested cells (fold touched_in v (x ∷ xs))
 IsTested-touched cells v x [] = IsTested-ended cells v x

@@ -34,6 +34,7 @@ use Rattle.green_walk.specs.declared.sweep.SweepAt.TheVariants as sweep
 use Rattle.green_walk.specs.declared.sweep.Found.TheVariants.{Made}
 use Rattle.green_walk.specs.Sweeping.{SweepState as Sweep, next as next_of_sweep, found, found_at, unfreed, unemptied}
 use Rattle.green_walk.specs.Greening.{Greening}
+use Rattle.green_walk.proofs.GreenAsked.{Contains-drop}
 use Rattle.green_walk.proofs.SweepLaws.{free-first, drop-some, free-law}
 use Rattle.log_record.specs.declared.cell_record.CellRecord.TheVariants as logs
 use Rattle.cell_page.specs.Format.{page_of_id}
@@ -45,9 +46,10 @@ use Rattle.core_store.specs.RoundView.{RoundView, Sweeping, round_of, IsSweeping
 use Rattle.core_store.specs.Replaced.{replaced}
 use Rattle.core_store.specs.Transactions.{Running, running_at}
 use Rattle.core_store.specs.Tables.{TablesView}
-use Rattle.core_store.specs.Stands.{CanLay, IsEmptied, is_free, Stands}
+use Rattle.core_store.specs.Stands.{CanLay, IsEmptied, IsTested, is_free, Stands}
 use Rattle.core_store.specs.Collecting.{Collected}
-use Rattle.core_store.proofs.CollectedLaws.{tested-none, rests-at_free}
+use Rattle.core_store.proofs.CollectedLaws.{tested-none, free-end, rests-at_free}
+use Rattle.core_store.proofs.SavedLaws.{saved-swept}
 use Rattle.core_store.proofs.EndLaws.{matches-same}
 use Rattle.core_store.proofs.PageLaws.{elsewhere-edit}
 use Rattle.core_store.proofs.PlanActive.{active-of}
@@ -235,7 +237,10 @@ module _ (slots : ℕ) (v : TablesView) (c : Core) (h : Stands slots v c) (w : W
       round = refl;
       in_step = step;
       emptied = emptied-freed c.cells (edit c.cells id (λ _. blank_cell false slots)) w (removed w id) s slot g id at (null-freed c.cells id slots some within) (subst (λ (r : RoundView). IsEmptied c.cells r) is h.emptied);
-      tested = tested-none (edit c.cells id (λ _. blank_cell false slots)) (removed w id) (found s (Made id)) slot g (rests-at_free slots v.ids w s g id sweeping.greens at);
+      tested = tested-none (edit c.cells id (λ _. blank_cell false slots)) (removed w id) (found s (Made id)) slot g (rests-at_free slots v.ids w s g id sweeping.greens at)
+          (saved-swept c.cells (edit c.cells id (λ _. blank_cell false slots)) s (found s (Made id)) g (free-end s id at)
+          (λ x k l. ap (λ (c : Cell). (pointer_in c k).target) (edit-other c.cells id x (λ _. blank_cell false slots) (λ e. sweeping.greens.spared x l (subst (Contains s.list) (sym e) (Contains-drop s.freed s.list id chosen)))))
+          (subst (IsTested c.cells) is h.tested).1);
       owed = h.owed;
     }
 

@@ -38,6 +38,7 @@ use Rattle.core_store.specs.Changes.{is_counted_strong, has_no_strong}
 use Rattle.core_store.specs.Slots.{CanFlip, IsChanged, is_counted_weak}
 use Rattle.core_store.specs.RoundView.{RoundView, Sweeping, round_of, asked, is_event, IsSweeping, IsInStep, Proceeds, flip, into, strengthen}
 use Rattle.core_store.specs.Tables.{TablesView}
+use Rattle.core_store.specs.Saved.{AreSaved}
 use Rattle.core_store.specs.Stands.{IsEmptied, IsTested, IsTestedIn, Stands}
 use Rattle.core_store.specs.Collects.{Greens, IsWhite}
 use Rattle.core_store.specs.Collecting.{Collected}
@@ -46,6 +47,8 @@ use Rattle.core_store.proofs.SlotLaws.{holds-old}
 use Rattle.core_store.proofs.SlotStrengths.{counted-some, weak-counted}
 use Rattle.core_store.proofs.CollectedLaws.{Stands-collected}
 use Rattle.core_store.proofs.ReadyRound.{green-live}
+use Rattle.core_store.proofs.GreenAt.{at-flip, at-into, at-strengthen}
+use Rattle.core_store.proofs.SavedEvents.{saved-flip, saved-into, saved-strengthen}
 use Rattle.core_store.proofs.WeakenRound.{can-null}
 
 -- ---- cells
@@ -137,7 +140,14 @@ module _ (slots : ℕ) (v : TablesView) (c : Core) (h : Stands slots v c) (w : W
 
   -- what a test has found
   tested : (t : Test) → g.test ≡ Some t → IsTestedIn c.cells g t
-  tested t e = subst (λ (o : Option Test). IfSome o (IsTestedIn c.cells g)) e (subst (IsTested c.cells) is h.tested)
+  tested t e = subst (λ (o : Option Test). IfSome o (IsTestedIn c.cells g)) e (subst (IsTested c.cells) is h.tested).0
+
+  -- what looks are saved by
+  saved-before : AreSaved c.cells s g
+  saved-before = (subst (IsTested c.cells) is h.tested).1
+
+  waits-there : (x : ℕ) → waits g x ≡ true → is_live c.cells x ≡ true
+  waits-there x e = live x (waits-live g x e)
 
   testable : (n : GreenAt) → next_of_green g ≡ n → (t : Test) → g.test ≡ Some t → IsTestable g n t.id
   testable n e t k = subst (λ (x : GreenAt). IsTestable g x t.id) e (test-law g t sweeping.greens.greening k).0
@@ -154,14 +164,14 @@ module _ (slots : ℕ) (v : TablesView) (c : Core) (h : Stands slots v c) (w : W
 
   -- what the tables stand for after an event of the green walk
   greened-stands : (made : ℕ) (later : List Cell) (marks : List Bool) → IsAnswer g (next_of_green g) (Made made) → IsSound (after_collect c later c.queue c.round) → ((x : ℕ) → is_live later x ≡ is_live c.cells x)
-      → ((x j : ℕ) → (pointer_at later x j).target ≡ (pointer_at c.cells x j).target) → marks ≡ map has_no_strong later → IsInStep slots v.ids (behind made)
+      → ((x j : ℕ) → (pointer_at later x j).target ≡ (pointer_at c.cells x j).target) → AreSaved later s (found_by_green g (Made made)) → marks ≡ map has_no_strong later → IsInStep slots v.ids (behind made)
       → Stands slots (record v { zeros = marks; round = behind made }) (after_collect c later c.queue c.round)
-  greened-stands made later marks answer sound alive targets marked step =
+  greened-stands made later marks answer sound alive targets saved marked step =
       let untested : (found_by_green g (Made made)).test ≡ None = (found-law g (Made made) sweeping.greens.greening answer).1 in
       subst (λ (q : List ℕ). Stands slots (record v { zeros = marks; queue = q; round = behind made }) (after_collect c later c.queue c.round)) (sym h.queue)
       (Stands-collected slots v c later c.queue c.round marks (behind made) h sound alive marked (sym there) step
       (emptied-kept c.cells later w s slot g (found_by_green g (Made made)) targets (subst (IsEmptied c.cells) is h.emptied))
-      (subst (λ (o : Option Test). IfSome o (IsTestedIn later (found_by_green g (Made made)))) (sym untested) tt))
+      (subst (λ (o : Option Test). IfSome o (IsTestedIn later (found_by_green g (Made made)))) (sym untested) tt, saved))
 
   proceeds-behind : (event : Act) (logged : Option CellRecord) (made : ℕ) → Proceeds slots v.ids (Sweeping w s slot g) event logged (behind made) → Proceeds slots v.ids v.round event logged (behind made)
   proceeds-behind event logged made p = subst (λ (r : RoundView). Proceeds slots v.ids r event logged (behind made)) (sym is) p
@@ -212,7 +222,8 @@ module _ (slots : ℕ) (v : TablesView) (c : Core) (h : Stands slots v c) (w : W
           core = after_collect c later c.queue c.round;
           after = refl;
           collects = record { greens = greens id flip-among; white = flip-white };
-          stands = greened-stands id later marks flip-answer (flip-sound c h.sound swept there quiet id flip-fits flip-white.none_out) (flip-live c.cells id h.sound.consistent.exact flip-live_is) (flip-target c.cells id h.sound.consistent.exact flip-live_is) (changed.marks_are h.zeros) step;
+          stands = greened-stands id later marks flip-answer (flip-sound c h.sound swept there quiet id flip-fits flip-white.none_out) (flip-live c.cells id h.sound.consistent.exact flip-live_is) (flip-target c.cells id h.sound.consistent.exact flip-live_is)
+              (saved-flip c.cells s g h.sound.consistent.exact end sweeping.greens.greening.walked_few waits-there id (at-flip g id t sweeping.greens.greening seed test) flip-zero saved-before) (changed.marks_are h.zeros) step;
         }
 
   -- ---- a pointer to the flipped object becomes weak
@@ -263,7 +274,8 @@ module _ (slots : ℕ) (v : TablesView) (c : Core) (h : Stands slots v c) (w : W
           core = after_collect c later c.queue c.round;
           after = refl;
           collects = inr (record { greens = greens «from» into-among; target_listed = listed to into-asked.1 });
-          stands = greened-stands «from» later marks into-answer (weaken-sound c h.sound swept there quiet «from» k to into-fits (inl into-tracked)) (relinked-live c.cells «from» k p) targets (changed.marks_are h.zeros) step;
+          stands = greened-stands «from» later marks into-answer (weaken-sound c h.sound swept there quiet «from» k to into-fits (inl into-tracked)) (relinked-live c.cells «from» k p) targets
+              (saved-into c.cells s g h.sound.consistent.exact end sweeping.greens.greening.walked_few waits-there «from» k to into-live into-fits.0.within into-target (at-into g «from» k to look) into-asked.2 saved-before) (changed.marks_are h.zeros) step;
         }
 
   -- ---- a weak pointer becomes strong
@@ -324,5 +336,6 @@ module _ (slots : ℕ) (v : TablesView) (c : Core) (h : Stands slots v c) (w : W
           core = after_collect c later c.queue c.round;
           after = refl;
           collects = record { greens = greens «from» strengthen-asked.0; target_listed = listed to strengthen-among; white = strengthen-white };
-          stands = greened-stands to later marks strengthen-answer (strengthen-sound c h.sound swept there quiet «from» k to strengthen-fits strengthen-lays) (relinked-live c.cells «from» k p) targets (changed.marks_are h.zeros) step;
+          stands = greened-stands to later marks strengthen-answer (strengthen-sound c h.sound swept there quiet «from» k to strengthen-fits strengthen-lays) (relinked-live c.cells «from» k p) targets
+              (saved-strengthen c.cells s g h.sound.consistent.exact end sweeping.greens.greening.walked_few waits-there «from» k to strengthen-live strengthen-fits.0.within strengthen-target (at-strengthen g «from» k to t sweeping.greens.greening look test own) strengthen-asked.1 saved-before) (changed.marks_are h.zeros) step;
         }

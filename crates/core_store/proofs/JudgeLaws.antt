@@ -1,10 +1,12 @@
 -- The verdict of a round.
-use Rattle.std.proofs.Common.{◌≡◌, ℕ, ◌<◌, List, Bool, true, false, refl, sym, ap, ◌∙◌, subst, Some, None, map, length, slice_index_or, arith}
-use Rattle.std.specs.Prelude.{Contains, slice_index, ◌↔◌, ◌==◌}
+use Rattle.std.proofs.Common.{◌≡◌, ℕ, ◌<◌, List, Bool, true, false, Option, refl, sym, ap, ◌∙◌, subst, Some, None, map, length, slice_index_or, arith}
+use Rattle.std.specs.Prelude.{Contains, slice_index, ◌↔◌, ◌==◌, ◌⊎◌, IfSome}
 use Rattle.std.specs.List.{list_any}
 use Rattle.plain_model.specs.ActiveTransaction.{ActiveTransaction}
 use Rattle.plain_model.specs.History.{holds}
-use Rattle.store_model.specs.Core.{Core, Round, names, IsActive}
+use Rattle.store_model.specs.Core.{Core, Copy, Round, names, IsActive}
+use Rattle.cell_model.specs.Cells.{cell_at}
+use Rattle.store_model.specs.Sound.{copy_of}
 use Rattle.store_model.specs.Steps.{with_verdict, after_look}
 use Rattle.store_model.specs.Verdict.{IsSeed as IsRoundSeed, IsLive as IsRoundLive, IsCondemned}
 use Rattle.store_model.proofs.CollectSound.{judge-sound}
@@ -35,6 +37,7 @@ use Rattle.core_store.proofs.QueueLaws.{has-targets}
 use Rattle.core_store.proofs.EndQueue.{has-named_by, are-names}
 use Rattle.core_store.proofs.HolderLaws.{holder-active, active-holder}
 use Rattle.core_store.proofs.CollectedLaws.{Stands-looked}
+use Rattle.core_store.proofs.SavedEvents.{saved-started}
 
 module _ (slots : ℕ) (v : TablesView) (c : Core) (w : Walk) (row : List Bool) (refs : Table) (j : Judged) (h : Stands slots v c) (walks : v.round ≡ Walking w) (verdict : next w ≡ red.Verdict)
     (in_step : IsInStep slots v.ids (Sweeping w (started j.condemned v.ids) 0 (green_started slots j w))) (row_is : IsRowOf v.locks w.list row) (refs_are : (p : ℕ) → v.references p ≡ targets_of (entries_of refs p))
@@ -105,6 +108,9 @@ module _ (slots : ℕ) (v : TablesView) (c : Core) (w : Walk) (row : List Bool) 
       live-are = subst (λ xs. Picks (IsRoundLive c (walked w)) xs j.live) (sym step.whole)
           (picks-same (IsLive w (IsSeed w row refs)) (IsRoundLive c (walked w)) (λ x m is. (live-law c (walked w) w row refs judged-of x m).0 is) (λ x m is. (live-law c (walked w) w row refs judged-of x m).1 is) lives)
 
+  copies-current : (id : ℕ) (copy : Copy) → Contains w.copies (id, copy) → Contains w.touched id ⊎ (copy ≡ copy_of (cell_at c.cells id))
+  copies-current id copy m = subst (λ (o : Option Round). IfSome o (λ r. r.judged ≡ false → (id : ℕ) (copy : Copy) → Contains r.copies (id, copy) → Contains r.touched id ⊎ (copy ≡ copy_of (cell_at c.cells id)))) there h.sound.copies refl id copy m
+
   pub judge-collected : {held : List (HeldFrame slots)} → Agree c.cells held → Collected slots v (record v { round = Sweeping w (started j.condemned v.ids) 0 (green_started slots j w) }) c held held act.Judge None
   unfolding after
   judge-collected agree = record {
@@ -115,6 +121,6 @@ module _ (slots : ℕ) (v : TablesView) (c : Core) (w : Walk) (row : List Bool) 
     after = refl;
     collects = record { of = walked w; there = there; before = refl; all = copied; condemned = j.condemned; exact = exact; queue_is = refl; round_is = refl };
     stands = subst (λ q. Stands slots (record v { queue = q; round = after }) (after_look c c.queue (Some (with_verdict (walked w) j.condemned)))) (sym h.queue)
-        (Stands-looked slots v c c.queue after h in_step ((λ place k a b d. absurd (omega (arith, b))), (λ k a b. absurd (omega (arith, b)))) tt
+        (Stands-looked slots v c c.queue after h in_step ((λ place k a b d. absurd (omega (arith, b))), (λ k a b. absurd (omega (arith, b)))) (tt, saved-started c.cells (started j.condemned v.ids) slots j w copies-current)
         (judge-sound c h.sound (walked w) there refl copied j.condemned (λ x m. (condemned-is x).0 m) (λ x m. (condemned-is x).1 m)));
   }

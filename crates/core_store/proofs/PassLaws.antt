@@ -1,5 +1,5 @@
 -- The collector looks at a slot, at which there is nothing to do, and goes on.
-use Rattle.std.proofs.Common.{◌≡◌, ℕ, ◌+◌, ◌<◌, ◌≤◌, List, length, get_or, drop, Bool, true, false, not, Some, refl, sym, ap, ◌∙◌, subst, arith, IfSome, ⊎_elim}
+use Rattle.std.proofs.Common.{◌≡◌, ◌≢◌, ℕ, ◌+◌, ◌<◌, ◌≤◌, List, length, get_or, drop, Bool, true, false, not, Some, refl, sym, ap, ◌∙◌, subst, arith, IfSome, ⊎_elim}
 use Rattle.std.specs.Prelude.{◌==◌, if◌then◌else◌, slice_index}
 use Rattle.std.proofs.lemmas.Bool.{eqb-true, cases_lt}
 use Rattle.std.proofs.lemmas.List.{get_or_past, get_or-drop}
@@ -21,6 +21,9 @@ use Rattle.core_store.specs.Passed.{HasPassed}
 use Rattle.core_store.specs.Stands.{IsEmptied, IsTestedIn, IsTested, Stands}
 use Rattle.core_store.proofs.AskedGreen.{asked-by}
 use Rattle.core_store.proofs.GreenLooks.{green-looks, looks-tested}
+use Rattle.core_store.proofs.CollectedLaws.{slots-end}
+use Rattle.core_store.proofs.SavedLaws.{saved-swept}
+use Rattle.core_store.proofs.SavedLooks.{green-sees, saved-sees}
 use Rattle.core_store.proofs.LeftLaws.{found-nothing, slots-drop, drop-one, in_step-passed}
 use Rattle.core_store.proofs.ReadyRound.{IsThere, asked-there}
 use Rattle.core_store.proofs.WeakenRound.{moved-same}
@@ -82,12 +85,12 @@ module _ (slots : ℕ) (cells : List Cell) (w : Walk) (s : Sweep) (slot : ℕ) (
           subst (λ (x : Sweep). IsEmptied cells (Sweeping w x 0 g)) (sym (found-nothing s id e)) (λ place k a b c. place-more last place k a b c, λ k a b. absurd (omega (arith, b)))
       by false l = (emptied.0, λ k a b. subst (λ (x : ℕ). (pointer_at cells x k).target ≡ 0) (sym here) (slot-more k b))
 
--- a test is as it was
-tested-next_slot : (slots : ℕ) (cells : List Cell) (w : Walk) (s : Sweep) (slot : ℕ) (g : Greening) → IfSome g.test (IsTestedIn cells g) → IsTested cells (next_slot slots w s slot g)
-tested-next_slot slots cells w s slot g t = by (slot + 1 == slots)
+-- a test is as it was, and so is what looks are saved by
+tested-next_slot : (slots : ℕ) (cells : List Cell) (w : Walk) (s : Sweep) (slot : ℕ) (g : Greening) → next_of_sweep s ≢ sweep.End → IsTested cells (Sweeping w s slot g) → IsTested cells (next_slot slots w s slot g)
+tested-next_slot slots cells w s slot g apart t = by (slot + 1 == slots)
   where
     by : (b : Bool) → IsTested cells (if b then Sweeping w (found s Nothing) 0 g else Sweeping w s (slot + 1) g)
-    by true = t
+    by true = (t.0, saved-swept cells cells s (found s Nothing) g apart (λ x k l. refl) t.1)
     by false = t
 
 -- ---- a look
@@ -98,6 +101,18 @@ null-at n e = by (n == 0) refl
     by : (b : Bool) → (n == 0) ≡ b → n ≡ 0
     by true l = eqb-true n 0 l
     by false l = absurd (let some : not (n == 0) ≡ true = rw l refl in cc)
+
+-- a look leaves what a test has found, and what looks are saved by
+pub tested-passed : (slots ids : ℕ) (cells : List Cell) (w : Walk) (s : Sweep) (slot : ℕ) (g : Greening) (a : SweepAt) → next_of_sweep s ≡ a → IsSweeping slots ids w s slot g → is_event cells (asked_by_sweep slot g a) ≡ false → IsTested cells (Sweeping w s slot g)
+    → IsTested cells (passed_by_sweep slots cells w s slot g a)
+tested-passed slots ids cells w s slot g (sweep.Slots id) n k idle tested = tested-next_slot slots cells w s slot g (slots-end s id n) tested
+tested-passed slots ids cells w s slot g (sweep.Free id) n k idle tested = absurd (cc)
+tested-passed slots ids cells w s slot g sweep.End n k idle tested =
+    let a = asked_by_green g.slots g.test (next_of_green g) in
+    let asks = asked-by g.slots g.test (next_of_green g) in (
+      looks-tested cells g (passed_by_green cells g a) k.greens.greening (green-looks cells g k.greens.greening a asks idle) tested.0,
+      saved-sees cells s g (passed_by_green cells g a) k.greens.greening n (green-sees cells g k.greens.greening tested.0 a asks idle) tested.1,
+    )
 
 -- what a look leaves of the round of a journal
 pub record IsLooked (cells : List Cell) (r q : RoundView) : Type 0 where
@@ -114,18 +129,17 @@ module _ (slots : ℕ) (v : TablesView) (c : Core) (h : Stands slots v c) (nothi
         round = round-next_slot slots w s slot g id n;
         emptied = IsEmptied-next_slot slots c.cells w s slot g id n (h.sound.consistent.slotted id there.0 ∙ h.slots_are)
             (null-at (pointer_at c.cells id slot).target (subst (λ (a : RoundAt). is_event c.cells a ≡ false) is nothing)) (subst (IsEmptied c.cells) e h.emptied);
-        tested = tested-next_slot slots c.cells w s slot g (subst (IsTested c.cells) e h.tested);
+        tested = tested-passed slots v.ids c.cells w s slot g (sweep.Slots id) n (subst (IsInStep slots v.ids) e h.in_step) (subst (λ (a : RoundAt). is_event c.cells a ≡ false) is nothing) (subst (IsTested c.cells) e h.tested);
       }
   looked-swept w s slot g e (sweep.Free id) n = absurd (let is : asked v.round ≡ at.Free id = ap asked e ∙ ap (asked_by_sweep slot g) n in let no = subst (λ (a : RoundAt). is_event c.cells a ≡ false) is nothing in cc)
   looked-swept w s slot g e sweep.End n =
       let by_green = asked_by_green g.slots g.test (next_of_green g) in
       let is : asked v.round ≡ by_green = ap asked e ∙ ap (asked_by_sweep slot g) n in
       let k : IsSweeping slots v.ids w s slot g = subst (IsInStep slots v.ids) e h.in_step in
-      let looks = green-looks c.cells g k.greens.greening by_green (asked-by g.slots g.test (next_of_green g)) (subst (λ (a : RoundAt). is_event c.cells a ≡ false) is nothing) in
       record {
         round = refl;
         emptied = subst (IsEmptied c.cells) e h.emptied;
-        tested = looks-tested c.cells g (passed_by_green c.cells g by_green) k.greens.greening looks (subst (IsTested c.cells) e h.tested);
+        tested = tested-passed slots v.ids c.cells w s slot g sweep.End n k (subst (λ (a : RoundAt). is_event c.cells a ≡ false) is nothing) (subst (IsTested c.cells) e h.tested);
       }
 
   looked : (r : RoundView) → v.round ≡ r → IsLooked c.cells r (looked_past slots c.cells r)

@@ -1,14 +1,17 @@
 -- The references, the queue and the round that tables stand for, and what the transactions owe, beside what a change of one
 -- transaction is told by.
 use Rattle.std.proofs.Common.{◌≡◌, ℕ, ◌&&◌, ◌==◌, Bool, not, List, [], refl, sym, ap, ◌∙◌, subst, Option, Some, None}
-use Rattle.std.specs.Prelude.{IfSome}
+use Rattle.std.specs.Prelude.{IfSome, slice_index_or}
 use Rattle.green_walk.specs.declared.green_at.Test.{Test}
+use Rattle.green_walk.specs.Sweeping.{SweepState as Sweep}
+use Rattle.green_walk.specs.Greening.{Greening}
 use Rattle.cell_model.specs.Cells.{Cell, Pointer, cell_at, pointer_in, pointer_at, edit, pays, same}
 use Rattle.store_model.specs.Core.{Ref, Round, Core}
 use Rattle.store_model.specs.Sound.{IsSound}
 use Rattle.cell_model.proofs.EditLaws.{edit-keeps}
 use Rattle.core_store.specs.Changes.{is_counted_strong}
 use Rattle.core_store.specs.Owed.{entries_owed}
+use Rattle.core_store.specs.Saved.{HasOut, IsSpent, AreSaved}
 use Rattle.core_store.specs.References.{named_by}
 use Rattle.core_store.specs.RoundView.{RoundView, Closed, Walking, Sweeping, round_of, IsInStep}
 use Rattle.core_store.specs.Tables.{TablesView}
@@ -67,11 +70,31 @@ counted-same cells later links x k =
     ap (is_counted_strong later) (links.pointers x k)
     ∙ ap (λ (b : Bool). not ((pointer_at cells x k).target == 0) && same b (pointer_at cells x k).bit) (links.bits (pointer_at cells x k).target)
 
--- what a test has found holds as before
+-- there is nothing to do at a pointer as before
+spent-links : (cells later : List Cell) (g : Greening) (x : ℕ) → HasSameLinks cells later → IsSpent cells g g.stage x → IsSpent later g g.stage x
+spent-links cells later g x links spent w zero =
+    let out = spent w (ap (λ (n : ℕ). n == 0) (sym (links.strong x)) ∙ zero) in
+    record {
+      slot = out.slot;
+      strong = counted-same cells later links x out.slot ∙ out.strong;
+      apart = λ flipped rest e q. out.apart flipped rest e (sym (ap (λ (p : Pointer). p.target) (links.pointers x out.slot)) ∙ q);
+    }
+
+-- what looks are saved by is as before
+saved-links : (cells later : List Cell) (s : Sweep) (g : Greening) → HasSameLinks cells later → AreSaved cells s g → AreSaved later s g
+saved-links cells later s g links k = record {
+  current = λ e c m l. ap (λ (p : Pointer). p.target) (links.pointers c.id c.slot) ∙ k.current e c m l;
+  walked = λ e place slot was few small.
+      (let at = slice_index_or g.green place 0 in
+      subst (λ (x : ℕ). IsSpent later g g.stage x) (sym (ap (λ (p : Pointer). p.target) (links.pointers at slot))) (spent-links cells later g (pointer_at cells at slot).target links (k.walked e place slot was few small)));
+  early = k.early;
+}
+
+-- what a test has found, and what looks are saved by, holds as before
 pub IsTested-kept : (cells later : List Cell) (r : RoundView) → HasSameLinks cells later → IsTested cells r → IsTested later r
 IsTested-kept cells later Closed links e = tt
 IsTested-kept cells later (Walking w) links e = tt
-IsTested-kept cells later (Sweeping w s slot g) links e = by g.test e
+IsTested-kept cells later (Sweeping w s slot g) links e = (by g.test e.0, saved-links cells later s g links e.1)
   where
     by : (o : Option Test) → IfSome o (IsTestedIn cells g) → IfSome o (IsTestedIn later g)
     by None k = tt

@@ -18,6 +18,7 @@ pub record RedWalk : Type 0 where
   pub list : List ℕ
   pub written : List (ℕ × ℕ)
 
+-- the walk of no round
 abbrev pub no_walk : RedWalk
 no_walk = record { going = false; list = []; written = [] }
 

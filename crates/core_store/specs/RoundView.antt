@@ -26,6 +26,7 @@ use Rattle.core_store.specs.declared.act.Act.TheVariants as act
 use Rattle.core_store.specs.declared.round_at.RoundAt.{RoundAt}
 use Rattle.core_store.specs.declared.round_at.RoundAt.TheVariants.{Queue, Look, Copy as CopyOf, Judge, Cut, Free, Seed, Test as TestOf, Flip, Into, Out, Strengthen, End}
 
+-- the round of a collector as contracts see it, with the cursor of its walk
 pub data RoundView : Type 0 where
   -- no round is open
   Closed : RoundView

@@ -36,6 +36,7 @@ use Rattle.core_store.specs.Transactions.{Running, running_at}
 use Rattle.core_store.specs.References.{named_by}
 use Rattle.core_store.specs.RoundView.{RoundView, Closed, Walking, Sweeping, round_of, touched_by_record, IsInStep}
 use Rattle.core_store.specs.Events.{after_event}
+use Rattle.core_store.specs.Saved.{AreSaved}
 use Rattle.core_store.specs.Owed.{entries_owed}
 use Rattle.core_store.specs.Tables.{TablesView}
 
@@ -96,9 +97,9 @@ pub record IsTestedIn (cells : List Cell) (g : Greening) (t : Test) : Type 0 whe
   pub none : (k : ℕ) → k < t.slot → is_counted_strong cells (pointer_at cells t.id k) ≡ false
   pub named : («from» slot : ℕ) → next_of_green g ≡ Out «from» slot → (pointer_at cells «from» slot).target ≡ t.id
 
--- what a test has found so far holds of the cells
+-- what a test has found so far holds of the cells, and so does what looks are saved by
 abbrev pub IsTested : List Cell → RoundView → Type 0
-IsTested cells (Sweeping w s slot g) = IfSome g.test (IsTestedIn cells g)
+IsTested cells (Sweeping w s slot g) = IfSome g.test (IsTestedIn cells g) × AreSaved cells s g
 IsTested cells _ = Unit {0}
 
 -- the tables stand for the journal, in a store whose objects have so many slots

@@ -33,7 +33,7 @@ const LIMITS: Limits = Limits {
 /// A disk in memory with a new store.
 fn new_disk(alloc: Global) -> Result<MemoryDisk> {
     let mut disk = MemoryDisk::new(alloc);
-    init(&mut disk, PAGES)?;
+    init::<_, 6>(&mut disk, PAGES)?;
     Ok(disk)
 }
 

@@ -7,6 +7,7 @@ use Rattle.gate_log.specs.declared.stage.Stage.TheVariants.{Reading, Standing, F
 use Rattle.disk_model.specs.Changes.{written}
 use Rattle.gate_log.specs.Batches.{batch_bytes, most_bytes}
 
+-- a log as contracts see it: where it stands, and what of it is on the disk
 pub record LogState : Type 0 where
   -- the log area that it is in
   pub area : Area
@@ -73,6 +74,10 @@ failed s = record s { stage = Failed }
 -- the other area was made anew with this one batch, and is named
 abbrev pub turned : LogState → List ℕ → LogState
 turned s first = record s { area = other_log s.area; durable = 5 + length first; tail = [] }
+
+-- the other area was made anew with these two batches, and is named
+abbrev pub turned_with : LogState → List ℕ → List ℕ → LogState
+turned_with s first second = record s { area = other_log s.area; durable = 10 + length first + length second; tail = [] }
 
 -- as it stands on a fresh store
 abbrev pub fresh_log : LogState

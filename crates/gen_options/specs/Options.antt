@@ -11,6 +11,7 @@ use Rattle.gen_options.specs.declared.reading.Asked.{Asked}
 abbrev pub Given : Type 0
 Given = List ℕ × List ℕ
 
+-- whether the byte is `=`
 abbrev pub is_equals : ℕ → Bool
 is_equals byte = byte == 61
 
@@ -35,6 +36,7 @@ options_of (Some name) (value ∷ words) = option_map (λ more. (name, value) �
 
 -- ---- what they ask
 
+-- whether the word is the name of one of the three options
 abbrev pub is_name : List ℕ → Bool
 is_name name = bytes_eq name (codes "--seed") || (bytes_eq name (codes "--clients") || bytes_eq name (codes "--txns"))
 
@@ -61,5 +63,6 @@ asked_for seed clients transactions = asked_with (option_and_then seed_of seed) 
 abbrev pub asked_by : List Given → Option Asked
 asked_by options = if list_all (λ o. is_name o.0) options then asked_for (only (values_of (codes "--seed") options)) (only (values_of (codes "--clients") options)) (only (values_of (codes "--txns") options)) else None
 
+-- what the words behind `gen` ask, where they ask something
 abbrev pub asked_of : List (List ℕ) → Option Asked
 asked_of words = option_and_then asked_by (options_of None words)

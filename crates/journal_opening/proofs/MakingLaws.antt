@@ -10,7 +10,7 @@ use Rattle.gate_log.specs.OnDisk.{named_by}
 use Rattle.gate_log.proofs.Turned.{one_batch}
 use Rattle.log_record.specs.declared.record.Record.{Record}
 use Rattle.restart_laws.proofs.RuleLaws.{consistent-rules}
-use Rattle.restart_store.specs.Fresh.{first_body, fresh_log_area, fresh_store, IsMaking, as_before, no_store as is_no_store, fresh}
+use Rattle.restart_store.specs.Fresh.{first_body_of, fresh_log_area, fresh_store, IsMaking, as_before, no_store as is_no_store, fresh}
 use Rattle.store_model.specs.Fresh.{fresh_cells}
 use Rattle.store_model.proofs.FreshSound.{fresh-sound}
 use Rattle.opened_images.specs.LogRecords.{IsRecordLog, IsDamagedLog, IsOfVersion}
@@ -21,15 +21,15 @@ use Rattle.journal_opening.proofs.FreshPages.{pages-whole, cells-are}
 -- ---- a fresh store
 
 -- whichever log area is named, it has the first batch alone
-log-there : (pages byte : ℕ) (b : Bool) → IsLog most_bytes (first_body pages ∷ []) (in_area (fresh_store pages byte) (if b then LogA else LogB))
-log-there pages byte true = one_batch (first_body pages) (fresh_log_area pages) (record { some = omega arith; fits = omega arith }) (omega arith) refl
-log-there pages byte false = one_batch (first_body pages) (fresh_log_area pages) (record { some = omega arith; fits = omega arith }) (omega arith) refl
+log-there : (pages byte : ℕ) (b : Bool) → IsLog most_bytes (first_body_of 6 pages ∷ []) (in_area (fresh_store 6 pages byte) (if b then LogA else LogB))
+log-there pages byte true = one_batch (first_body_of 6 pages) (fresh_log_area 6 pages) (record { some = omega arith; fits = omega arith }) (omega arith) refl
+log-there pages byte false = one_batch (first_body_of 6 pages) (fresh_log_area 6 pages) (record { some = omega arith; fits = omega arith }) (omega arith) refl
 
 pub fresh-opens : FreshStoreLaw
 fresh-opens pages byte count =
     let size : suc (8 * pages - 1) ≡ 8 * pages = omega (arith, count.0) in
     let consistent = (fresh-sound 6 (8 * pages - 1)).consistent in
-    let read : AreCellsRead {slots = 6} (fresh_store pages byte) (if byte % 2 == 0 then LogA else LogB) pages [] (fresh_cells 6 (8 * pages - 1)) = record {
+    let read : AreCellsRead {slots = 6} (fresh_store 6 pages byte) (if byte % 2 == 0 then LogA else LogB) pages [] (fresh_cells 6 (8 * pages - 1)) = record {
       pages_read = record {
         read = record {
           named = refl;
@@ -109,7 +109,7 @@ cut-alike slots kept image = by (cut-names kept image.super_area)
 -- ---- while a store is made
 
 module _ {D : Type 0} (may_leave : D → Area → List ℕ → Type 0) (disk : D) (pages : ℕ) (count : (1 ≤ pages) × (pages ≤ 1024)) where
-  pub making-opens : (image : Bytes) → IsMaking may_leave disk pages image → OpensWhileMaking may_leave 6 disk pages image
+  pub making-opens : (image : Bytes) → IsMaking may_leave disk 6 pages image → OpensWhileMaking may_leave 6 disk pages image
   making-opens image (as_before all may is) = by (cut-names (length image.super_area) all)
     where
       by : (named_by (take (length image.super_area) all) ≡ None) ⊎ (named_by all ≡ named_by (take (length image.super_area) all)) → OpensWhileMaking may_leave 6 disk pages image

@@ -27,7 +27,7 @@ pub data OpensWhileMaking {D : Type 0} (may_leave : D → Area → List ℕ → 
 
 -- a fresh store opens to the root alone, whatever the byte of its super area is
 abbrev pub FreshStoreLaw : Type 0
-FreshStoreLaw = (pages byte : ℕ) → (1 ≤ pages) × (pages ≤ 1024) → OpensToRoot 6 pages (fresh_store pages byte)
+FreshStoreLaw = (pages byte : ℕ) → (1 ≤ pages) × (pages ≤ 1024) → OpensToRoot 6 pages (fresh_store 6 pages byte)
 
 -- an image whose super area lost bytes at its end opens to what it opened to before, or to no store
 abbrev pub CutSuperLaw : Type 0

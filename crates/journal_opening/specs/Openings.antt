@@ -27,12 +27,13 @@ use Rattle.opened_store.specs.Unopened.{OnlyLooksUnlessOpen}
 use Rattle.store_opening.specs.declared.open_refusal.OpenRefusal.{OpenRefusal}
 use Rattle.store_opening.specs.declared.open_refusal.OpenRefusal.TheVariants.{Disk}
 use Rattle.store_opening.specs.Looks.{IsLookedAt}
-use Rattle.store_opening.specs.Store.{Reads, Refuses}
+use Rattle.store_opening.specs.Store.{Reads, Refuses, IsNoDisk, IsOfStore, IsFinal}
 
--- a refusal `Disk` comes only where the disk's count of faults rose, and that never falls
+-- The disk's count of faults never falls. It rose where the refusal is `Disk`, and is as before at each other one.
 pub record HasFault (before now : ℕ) (e : OpenRefusal) : Type 0 where
   pub later : before ≤ now
   pub failed : e ≡ Disk → Rose before now
+  pub kept : IsNoDisk e → now ≡ before
 
 module _ {D : Type 0} (content : D → Area → Option (List ℕ)) where
   -- what the disk read opens to these cells
@@ -51,6 +52,7 @@ module _ {D : Type 0} (content : D → Area → Option (List ℕ)) where
     pub running : v.failed ≡ None
     pub log : (v.log.tail ≡ []) × (v.peak ≡ used v.log)
     pub counted : (v.opened ≡ faults v.disk) × (faults disk ≤ v.opened)
+    pub unfailed : v.opened ≡ faults disk
 
   module _ (may_leave : D → Area → List ℕ → Type 0) where
     -- these frames have the pages of what the disk read, and the log stands on it, which has begun with them; the marks are those
@@ -68,10 +70,11 @@ module _ {D : Type 0} (content : D → Area → Option (List ℕ)) where
       pub opens : ReadsAs slots before (stored_in frames)
 
     module _ (moment : D → ℕ) (left_since : D → ℕ → Bytes → Type 0) where
-      -- The refusal is what the disk read opens to, and nothing was written; or it tells nothing of the store. Where what the
-      -- disk read does not open, nothing was written either way.
+      -- The refusal is what the disk opens to, whatever a power loss leaves, and nothing was written; or it tells nothing of the
+      -- store. Where what the disk read does not open, nothing was written either way.
       pub record RefusesToOpen (slots : ℕ) (before : D) (e : OpenRefusal) (now : D) : Type 0 where
         pub refused : (image : Bytes) → Reads content before image → Refuses slots image e
+        pub for_good : IsOfStore e → IsFinal content may_leave slots now e
         pub unwritten : IsLate e ⊎ IsLookedAt content may_leave moment left_since before now
         pub only_looks : OnlyLooksUnlessOpen content may_leave moment left_since slots before now
 

@@ -18,6 +18,7 @@ use Rattle.latch_table.specs.Rule.{Facts, facts_of, AreTold, NoneHas, station_of
 use Rattle.latch_table.specs.Steps.{Mine, renames}
 use Rattle.latch_table.proofs.Frames.{if_same, if_other}
 use Rattle.latch_table.proofs.Kept.{at_length}
+use Rattle.latch_table.proofs.Meets.{met_on}
 use Rattle.latch_table.proofs.Pages.{alone}
 use Rattle.latch_table.proofs.Alone.{one_out}
 use Rattle.latch_table.proofs.Stations.{no_true, out_set}
@@ -117,7 +118,7 @@ module _ {E X F J : Type 0} (a : Account E X F J) (key : J) where
         each = λ i' u e out'. ⊎_elim
             (λ (t : (i' ≡ id) × (w ≡ u)). let h = r.each id v at out in
             subst (λ (z : W). HasItsWords a (a.fixed key) r.pages r.log r.marks s.words s.homes z × Knows a (a.fixed key) r.pages r.log r.marks z.knowledge) t.1
-            (record { pages_word = h.0.pages_word; pages_agree = h.0.pages_agree; pages_lie = h.0.pages_lie; log_word = h.0.log_word; log_agrees = h.0.log_agrees; log_lies = h.0.log_lies }, record { fixed = h.1.fixed; seen = h.1.seen; entries = h.1.entries; peeks = h.1.peeks; marked = h.1.marked }))
+            (record { pages_word = h.0.pages_word; pages_agree = h.0.pages_agree; pages_lie = h.0.pages_lie; log_word = h.0.log_word; log_agrees = h.0.log_agrees; log_lies = h.0.log_lies }, record { fixed = h.1.fixed; seen = h.1.seen; entries = h.1.entries; peeks = h.1.peeks; marked = h.1.marked; stories = h.1.stories }))
             (λ (t : (i' ≢ id) × (get_elem? s.views i' ≡ some u)). r.each i' u t.1 out')
             (at_set s.views id i' w u e);
         spent = λ i' u e gone. ⊎_elim
@@ -129,6 +130,7 @@ module _ {E X F J : Type 0} (a : Account E X F J) (key : J) where
             (λ j g e lives. let h = map_at facts_of s.views j g e in alone ss j id h.0.station v.station (at_map station_of s.views j h.0 h.1) (at_map station_of s.views id v at) (ap (λ (z : Facts E). z.0.alive) h.2 ∙ lives) out one)
             (λ j g e m. let h = map_at facts_of s.views j g e in r.ranked.main_one j id h.0.station v.station (at_map station_of s.views j h.0 h.1) (at_map station_of s.views id v at) (ap (λ (z : Facts E). z.0.main) h.2 ∙ m) lone.0)
             (refl, refl));
+        met = met_on r.pages s.views id v w at r.met (λ own. record { page = own.page; log = own.log }) refl refl;
       }
 
   pub renames_goes : (slots pages id name : ℕ) (me : Mine E X F J) → slots ≡ pages + 1 → me.0.station.alive ≡ true → IsAlone me.0

@@ -188,6 +188,7 @@ module _ {D : Type 0} (may_leave : D → Area → List ℕ → Type 0) (slots : 
       let short : max most_bytes (log.durable + 1) ≡ most_bytes = omega (arith, offset) in
       record {
         pages = stands.pages;
+        whole = (let sized = tells.safe.sound.consistent.sized in let ids = end_of-ids v.journal.history in let count = stands.ids in omega (arith, sized, ids, count));
         named = on.named image.super_area (may Super);
         log = subst (λ (s : ℕ). IsLog most_bytes (body_of (first_records s stands.pages) ∷ []) (in_area image log.area)) own
             (subst (λ (most : ℕ). IsLog most (anew ∷ []) (in_area image log.area)) short (on.logs (in_area image log.area) (may log.area)));

@@ -25,3 +25,4 @@ pub mod CheckpointBegins
 pub mod CheckpointImages
 pub mod CheckpointPlaces
 pub mod CheckpointSteps
+pub mod OldLogs

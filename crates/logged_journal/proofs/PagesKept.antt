@@ -151,8 +151,8 @@ module _ {D : Type 0} (may_leave : D → Area → List ℕ → Type 0) (slots : 
     image-has = subst (λ (s : ℕ). (frame : List (PageCell s)) → AreTyped frame → HoldsPage (cells_of v.journal) page frame → EachImage may_leave v.disk (HasImage page frame)) own image-own
 
 -- so each image has a copy of it
-pub image-copied : {slots : ℕ} (page : ℕ) (frame : List (PageCell slots)) (image : Bytes) → HasImage page frame image → HasCopy (page_bytes frame) image
-image-copied {slots} page frame image has = copied slots has.pages page image has.area has.batches frame has.read.named has.read.log.log has.last
+pub image-copied : {slots : ℕ} (page : ℕ) (frame : List (PageCell slots)) (image : Bytes) → HasImage page frame image → HasCopy slots page (page_bytes frame) image
+image-copied {slots} page frame image has = copied slots has.pages page image has.area has.batches frame has.read has.last
 
 -- ---- pages with images are written in place
 
@@ -187,6 +187,11 @@ reaches-page may_leave slots v stands own page there (Some area) may =
     let low : page ≤ stands.pages = omega (arith, there, ids) in
     let less : page_size slots * page ≤ page_size slots * stands.pages = mul-le-mul_left (page_size slots) low in
     omega (arith, long, less)
+
+-- one that was done left it
+pub written-kept : {T : Type 0} (r : Result T PageRefusal) (before now : ℕ) → is_err r ≡ false → HasDiskCause before now r → now ≡ before
+written-kept (Ok x) before now is cause = cause.kept (λ e. cc)
+written-kept (Err e) before now is cause = absurd (cc (is))
 
 -- a write that failed raised the count of faults
 pub written-faults : {T : Type 0} (r : Result T PageRefusal) (before now : ℕ) → IfErr r (λ e. e ≡ Disk) → HasDiskCause before now r → is_err r ≡ true → Rose before now

@@ -14,7 +14,7 @@ use Rattle.disk_model.proofs.Moments.{no_call, and_then}
 use Rattle.cell_page.specs.Format.{page_size, page_bytes}
 use Rattle.page_area.specs.Place.{bytes_of_page}
 use Rattle.page_area.specs.InPlace.{AreTorn, HasTornPages, HasCopy}
-use Rattle.page_area.proofs.InPlaceLaws.{torn_others}
+use Rattle.page_area.proofs.InPlaceLaws.{torn_others, copy_stays}
 use Rattle.page_marks.specs.declared.marks.PageMark.{PageMark}
 use Rattle.logged_journal.proofs.Counting.{count_with}
 use Rattle.core_store.specs.declared.frame.Frame.{Frame}
@@ -148,12 +148,11 @@ module _ {D : Type 0} (content : D → Area → Option (List ℕ)) (may_leave : 
       if_some (may_leave now Pages) (λ area. k ≤ length area) (content now Pages) (λ area may. let l = long_now start now n long only area may in omega (arith, l, few)) (reads now Pages)
 
   -- each image has the copies that it had
-  pub copies_now : (start now : D) (bytes : List ℕ) → OnlyPlaces content may_leave moment left_since faults slots marks start now → EachImage may_leave start (HasCopy bytes) → EachImage may_leave now (HasCopy bytes)
-  copies_now start now bytes only has image may =
+  pub copies_now : (start now : D) (page : ℕ) (bytes : List ℕ) → OnlyPlaces content may_leave moment left_since faults slots marks start now → EachImage may_leave start (HasCopy slots page bytes) → EachImage may_leave now (HasCopy slots page bytes)
+  copies_now start now page bytes only has image may =
       let was = only.left image.pages (may Pages) in
       let before : Bytes = record image { pages = was.0 } in
-      let copy = has before (there before image refl refl refl was.1 (may LogA) (may LogB) (may Super)) in
-      record { area = copy.area; of_log = copy.of_log; front = copy.front; back = copy.back; are = copy.are }
+      copy_stays slots page bytes before image refl refl refl (has before (there before image refl refl refl was.1 (may LogA) (may LogB) (may Super)))
     where
       there : (before image : Bytes) → before.log_a ≡ image.log_a → before.log_b ≡ image.log_b → before.super_area ≡ image.super_area → may_leave start Pages before.pages
           → may_leave now LogA image.log_a → may_leave now LogB image.log_b → may_leave now Super image.super_area → IsImage may_leave start before
@@ -164,16 +163,16 @@ module _ {D : Type 0} (content : D → Area → Option (List ℕ)) (may_leave : 
 
   -- so has each the pages of the run
   pub copies_of_run : (start now : D) (first page : ℕ) (run : List ℕ) → 0 < page_size slots → IsPlacing start now first page run → page ≤ length marks
-      → ((p : ℕ) → p < length marks → has_changed marks p ≡ true → EachImage may_leave start (HasCopy (page_bytes (page_in frames p))))
-      → (k : ℕ) → page_size slots * (k + 1) ≤ length run → EachImage may_leave now (HasCopy (bytes_of_page slots k run))
+      → ((p : ℕ) → p < length marks → has_changed marks p ≡ true → EachImage may_leave start (HasCopy slots p (page_bytes (page_in frames p))))
+      → (k : ℕ) → page_size slots * (k + 1) ≤ length run → EachImage may_leave now (HasCopy slots (first + k) (bytes_of_page slots k run))
   copies_of_run start now first page run some h within copied k low =
       let inside : first + k < page = ⊎_elim (λ below. below) (λ above.
       let l = h.long in
       let fewer : page_size slots * (page - first) ≤ page_size slots * k = mul-le-mul_left (page_size slots) (omega (arith, above)) in
       let sum : page_size slots * (k + 1) ≡ page_size slots * k + page_size slots = omega arith in
       absurd (omega (arith, l, low, fewer, sum, some))) (cases_lt (first + k) page) in
-      subst (λ (b : List ℕ). EachImage may_leave now (HasCopy b)) (sym (h.bytes k inside))
-      (copies_now start now (page_bytes (page_in frames (first + k))) h.only (copied (first + k) (omega (arith, inside, within)) (h.all (first + k) (omega arith) inside)))
+      subst (λ (b : List ℕ). EachImage may_leave now (HasCopy slots (first + k) b)) (sym (h.bytes k inside))
+      (copies_now start now (first + k) (page_bytes (page_in frames (first + k))) h.only (copied (first + k) (omega (arith, inside, within)) (h.all (first + k) (omega arith) inside)))
 
   -- the other pages stay
   pub run_only : (start now after : D) (first page : ℕ) (run : List ℕ) → IsPlacing start now first page run → page ≤ length marks → Leaves may_leave start Pages (λ area. page_size slots * length marks ≤ length area)

@@ -1,5 +1,5 @@
 -- Which pages a checkpoint writes, and what of them stands in place.
-use Rattle.std.specs.Prelude.{◌≡◌, ℕ, ◌<◌, ◌≤◌, ◌&&◌, Bool, true, false, if◌then◌else◌, not, max, List, [], length, map, replicate, slice_index_or, Option}
+use Rattle.std.specs.Prelude.{◌≡◌, ℕ, ◌<◌, ◌≤◌, ◌&&◌, Bool, true, false, if◌then◌else◌, not, max, List, [], ◌++◌, length, map, replicate, slice_index_or, Option, option_map}
 use Rattle.std.specs.List.{filter, range_with_len}
 use Rattle.cell_page.specs.declared.cell.Cell.{Cell}
 use Rattle.cell_page.specs.Format.{page_bytes}
@@ -12,7 +12,7 @@ use Rattle.disk_model.specs.Told.{KeepsOthers, Follows, IsImageBut}
 use Rattle.disk_model.specs.Time.{LeavesOnlyImages}
 use Rattle.page_area.specs.Place.{bytes_of_page}
 use Rattle.page_marks.specs.declared.marks.PageMark.{PageMark}
-use Rattle.gate_log.specs.State.{appended, turned}
+use Rattle.gate_log.specs.State.{appended, turned, forced_area}
 use Rattle.opened_images.specs.LogRecords.{body_of, first_records}
 use Rattle.core_store.specs.declared.frame.Frame.{Frame}
 use Rattle.page_marks.specs.Marks.{unmarked}
@@ -78,6 +78,15 @@ pub record LogsImages {D : Type 0} {slots : ℕ} (frames : List (Frame slots)) (
 -- the image of each changed page is current
 abbrev pub AreCurrent : List PageMark → Type 0
 AreCurrent marks = (page : ℕ) → page < length marks → has_changed marks page ≡ true → (mark_at marks page).current ≡ true
+
+-- the log's tail with the images that a turn needs: one of each changed page of which none is current, in ascending order
+abbrev pub tail_to_turn : {D : Type 0} {slots : ℕ} → List (Frame slots) → LoggedView D → List ℕ
+tail_to_turn frames v = v.log.tail ++ body_of (images_of frames (wanted_below v.marks (length v.marks)))
+
+-- the log area that was in use has that tail as its last batch, and nothing else joined it
+abbrev pub ForcesImages : {D : Type 0} {slots : ℕ} → (D → Area → Option (List ℕ)) → List (Frame slots) → LoggedView D → LoggedView D → Type 0
+ForcesImages content frames old new =
+    content new.disk old.log.area ≡ option_map (forced_area old.log.durable (tail_to_turn frames old)) (content old.disk old.log.area)
 
 -- ---- the log begins anew
 

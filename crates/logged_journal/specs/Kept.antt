@@ -56,9 +56,9 @@ pub record IsKept {D : Type 0} (may_leave : D → Area → List ℕ → Type 0) 
   pub full : v.log_full ≡ true → v.journal.limits.log < v.peak + image_need v.journal.history.slots
 
 -- The disk's count of faults is not below that at the opening. Where the disk failed a call, the count rose by then, and it isn't
--- below that now.
+-- below that now. While it failed none, the count is that at the opening.
 abbrev pub IsCounted : {D : Type 0} → (D → ℕ) → LoggedView D → Type 0
-IsCounted faults v = (v.opened ≤ faults v.disk) × IfSome v.failed (λ f. Rose v.opened f.faults × (f.faults ≤ faults v.disk))
+IsCounted faults v = (v.opened ≤ faults v.disk) × IfSome v.failed (λ f. Rose v.opened f.faults × (f.faults ≤ faults v.disk)) × (v.failed ≡ None → faults v.disk ≡ v.opened)
 
 -- and the buffer into which an image, or what a log begins with, is spelled has room for an image, which is longer
 pub record IsLoggedInside {D : Type 0} (may_leave : D → Area → List ℕ → Type 0) (faults : D → ℕ) (slots : ℕ) (v : LoggedView D) (capacity : ℕ) : Type 0 where

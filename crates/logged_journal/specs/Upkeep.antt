@@ -1,5 +1,5 @@
 -- What upkeep of the log and of the pages does: a page is cleaned, and the log is turned.
-use Rattle.std.specs.Prelude.{◌≡◌, ◌⊎◌, ℕ, ◌<◌, ◌≤◌, max, List, [], ◌∷◌, length, replicate, true, false, if◌then◌else◌, Some, None}
+use Rattle.std.specs.Prelude.{◌≡◌, ◌⊎◌, ℕ, suc, ◌+◌, ◌*◌, ◌<◌, ◌≤◌, max, List, [], ◌∷◌, length, replicate, true, false, if◌then◌else◌, Some, None}
 use Rattle.disk_model.specs.declared.area.Area.{Area}
 use Rattle.disk_model.specs.Areas.{Bytes, in_area}
 use Rattle.disk_model.specs.Causes.{Rose}
@@ -21,7 +21,9 @@ use Rattle.page_marks.specs.declared.marks.PageMark.{PageMark}
 use Rattle.page_marks.specs.Marks.{unmarked, AreMarkedBy}
 use Rattle.core_store.specs.Limited.{is_past_limit}
 use Rattle.core_store.specs.Upkeep.{with_upkeep}
-use Rattle.logged_journal.specs.View.{LoggedView, IsPast, bytes_counted, mark_at, image_need}
+use Rattle.plain_model.specs.History.{end_of, least_active}
+use Rattle.logged_journal.specs.View.{LoggedView, IsPast, bytes_counted, mark_at, image_bytes, image_need}
+use Rattle.logged_journal.specs.Checkpoints.{wanted_below}
 
 -- ---- what images have
 
@@ -40,7 +42,9 @@ pub record IsClean {slots : ℕ} (page : ℕ) (held : List (PageCell slots)) (im
 
 -- in this image every page of these cells stands in place, and the log area of this name is named and has the first batch alone
 pub record IsTurned (slots : ℕ) (cells : List Cell) (area : Area) (image : Bytes) : Type 0 where
+  -- they are so many pages: there is a cell for each id, of which a page has eight, and one at 0
   pub pages : ℕ
+  pub whole : length cells ≡ suc (8 * pages)
   pub named : named_by image.super_area ≡ Some area
   pub log : IsLog most_bytes (body_of (first_records slots pages) ∷ []) (in_area image area)
   pub in_place : (page : ℕ) → page < pages → StandsInPlace slots image.pages cells page
@@ -117,6 +121,17 @@ pub record Turns {D : Type 0} (slots : ℕ) (old new : LoggedView D) : Type 0 wh
   pub area : new.log.area ≡ other_log old.log.area
   pub first : new.log.durable ≡ 9
   pub marks : new.marks ≡ replicate (length old.marks) unmarked
+
+-- with the images that a turn needs, in one batch, the log would be longer than a log may be
+abbrev pub IsPastFormat : {D : Type 0} → ℕ → LoggedView D → Type 0
+IsPastFormat slots v = most_bytes < bytes_counted v + image_bytes slots * length (wanted_below v.marks (length v.marks)) + 5
+
+-- a turn is told that the log is full: it is not refused for another cause, and the log would be too long
+pub record IsPastLogToTurn {D : Type 0} (slots : ℕ) (v : LoggedView D) : Type 0 where
+  pub running : v.failed ≡ None
+  pub room : is_past_limit v.journal 1 ≡ false
+  pub idle : least_active (end_of v.journal.history).state ≡ None
+  pub past : IsPastFormat slots v
 
 -- a turn was refused, since this client has a transaction: that entered the history, and nothing else changed
 abbrev pub TellsBusy : {D : Type 0} → (slots : ℕ) → LoggedView D → LoggedView D → ℕ → Type 0

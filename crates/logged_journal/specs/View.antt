@@ -13,6 +13,7 @@ use Rattle.core_store.specs.JournalView.{JournalView}
 use Rattle.core_store.specs.Owed.{bytes_owed}
 use Rattle.logged_journal.specs.declared.failed.FailedCall.{FailedCall}
 
+-- a journal with its log and its disk, as contracts see it
 pub record LoggedView (D : Type 0) : Type 0 where
   -- all that was done, but for a commit that the disk failed
   pub journal : JournalView

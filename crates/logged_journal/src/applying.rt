@@ -104,6 +104,7 @@ impl<const SLOTS: usize, D: Disk> LoggedJournal<SLOTS, D> {
         ensures other { (IsOfJournal result → ⊥) → result ≡ Reply.DiskFault }
         ensures fault { result ≡ Reply.DiskFault → FailsCommit D.faults self.old self.new pass Call.Commit × (held.new ≡ held.old) }
         ensures later { D.faults self.old.disk ≤ D.faults self.new.disk }
+        ensures count { result ≢ Reply.DiskFault → D.faults self.new.disk ≡ D.faults self.old.disk }
         ensures moments { LeavesOnlyImages D.moment D.left_since self.old.disk self.new.disk (MayHave self.old pass) }
     {
         append_record::<SLOTS>(&mut self.log, &CellRecord::Commit { pass });
@@ -149,6 +150,7 @@ impl<const SLOTS: usize, D: Disk> LoggedJournal<SLOTS, D> {
         ensures untouched { (call.now ≡ Call.Commit → IsGranted self.old.journal pass Call.Commit → ⊥) → KeepsDisk self.old self.new }
         ensures fault { result ≡ Reply.DiskFault → FailsCommit D.faults self.old self.new pass call.now × (held.new ≡ held.old) }
         ensures later { D.faults self.old.disk ≤ D.faults self.new.disk }
+        ensures count { result ≢ Reply.DiskFault → D.faults self.new.disk ≡ D.faults self.old.disk }
 
         // At each moment of the call a power loss leaves a log of what was there for good before, or, where it is a commit,
         // of all that was done and this commit.

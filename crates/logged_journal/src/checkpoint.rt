@@ -1,7 +1,7 @@
 //! The log is turned: a checkpoint, behind which it begins anew.
-ghost use Rattle.std.specs.Prelude.{◌≡◌, ◌⊎◌, ◌↔◌, ℕ, ◌+◌, ◌*◌, ◌<◌, ◌≤◌, [], true, false, length, vec_capacity, IfOk, IfSome, IsSome, Some, None, OnOk, OnErr};
+ghost use Rattle.std.specs.Prelude.{◌≡◌, ◌≢◌, ◌⊎◌, ◌↔◌, ℕ, ◌+◌, ◌*◌, ◌<◌, ◌≤◌, [], true, false, length, vec_capacity, IfOk, IfSome, IsSome, Some, None, OnOk, OnErr};
 ghost use Rattle.disk_model.specs.declared.area.Area.TheVariants.{Pages};
-ghost use Rattle.disk_model.specs.Told.{EachImage, Leaves};
+ghost use Rattle.disk_model.specs.Told.{Keeps, KeepsOthers, EachImage, Leaves};
 ghost use Rattle.disk_model.specs.Time.{LeavesOnlyImages};
 ghost use Rattle.plain_model.specs.History.{end_of, least_active};
 ghost use Rattle.cell_page.specs.Format.{IsSlotCount, AreTyped, page_size, page_bytes};
@@ -18,8 +18,8 @@ ghost use Rattle.core_store.specs.Owed.{bytes_owed};
 ghost use Rattle.logged_journal.specs.View.{OnlyTakesRoom, bytes_counted, history_of, image_bytes, image_need};
 ghost use Rattle.logged_journal.specs.Records.{MayHaveAll};
 ghost use Rattle.logged_journal.specs.Opens.{OpensAfter};
-ghost use Rattle.logged_journal.specs.Upkeep.{IsTurned, LogsImage, OnlyDisk, Turns, TellsBusy, FailsUpkeep};
-ghost use Rattle.logged_journal.specs.Checkpoints.{page_in, has_changed, wants_image, changed_below, wanted_below, AreThere, LogsImages, AreCurrent, BeginsAnew};
+ghost use Rattle.logged_journal.specs.Upkeep.{IsPastFormat, IsPastLogToTurn, IsTurned, LogsImage, OnlyDisk, Turns, TellsBusy, FailsUpkeep};
+ghost use Rattle.logged_journal.specs.Checkpoints.{ForcesImages, page_in, has_changed, wants_image, changed_below, wanted_below, AreThere, LogsImages, AreCurrent, BeginsAnew};
 
 use crate::cleaning::BATCH_BYTES;
 use crate::failed::FailedCall;
@@ -94,14 +94,14 @@ impl<const SLOTS: usize, D: Disk> LoggedJournal<SLOTS, D> {
         }
     }
 
-    /// Of each changed page, whose image is current, each image of the disk has a copy in the log.
+    /// Each changed page, whose image is current, is its last image in the log, in each image of the disk.
     fn know_copies(&self, frames: &[Frame<SLOTS>])
         requires running { self.now.failed ≡ None }
         requires pages { 8 * length frames.now ≡ self.now.journal.history.ids }
         requires agree { AllAgree (cells_of self.now.journal) frames.now }
         requires current { AreCurrent self.now.marks }
         requires empty { self.now.log.tail ≡ [] }
-        ensures copied { (page : ℕ) → page < length self.now.marks → has_changed self.now.marks page ≡ true → EachImage D.may_leave self.now.disk (HasCopy (page_bytes (page_in frames.now page))) }
+        ensures copied { (page : ℕ) → page < length self.now.marks → has_changed self.now.marks page ≡ true → EachImage D.may_leave self.now.disk (HasCopy SLOTS page (page_bytes (page_in frames.now page))) }
     {
         self.know_few(frames);
         for (page, frame) in frames.iter().enumerate() {
@@ -127,8 +127,10 @@ impl<const SLOTS: usize, D: Disk> LoggedJournal<SLOTS, D> {
         requires room { page_size SLOTS * length (changed_below self.old.marks (length self.old.marks)) ≤ vec_capacity run.old }
         ensures done { OnOk result (OnlyDisk self.old self.new) }
         ensures there { OnOk result (IfSome (D.content self.new.disk Pages) (AreThere frames.now self.old.marks (length self.old.marks))) }
+        ensures others { OnOk result (KeepsOthers D.content D.may_leave self.old.disk self.new.disk Pages) }
         ensures fault { OnErr result (FailsUpkeep D.faults self.old self.new) }
         ensures later { D.faults self.old.disk ≤ D.faults self.new.disk }
+        ensures count { OnOk result (D.faults self.new.disk ≡ D.faults self.old.disk) }
         ensures moments { LeavesOnlyImages D.moment D.left_since self.old.disk self.new.disk (MayHaveAll self.old) }
     {
         self.know_few(frames);
@@ -156,8 +158,10 @@ impl<const SLOTS: usize, D: Disk> LoggedJournal<SLOTS, D> {
         requires room { page_size SLOTS * length (changed_below self.old.marks (length self.old.marks)) ≤ vec_capacity run.old }
         ensures done { OnOk result (OnlyDisk self.old self.new) }
         ensures stand { OnOk result ((page : ℕ) → page < length frames.now → Leaves D.may_leave self.new.disk Pages (λ area. StandsInPlace SLOTS area (cells_of self.old.journal) page)) }
+        ensures others { OnOk result (KeepsOthers D.content D.may_leave self.old.disk self.new.disk Pages) }
         ensures fault { OnErr result (FailsUpkeep D.faults self.old self.new) }
         ensures later { D.faults self.old.disk ≤ D.faults self.new.disk }
+        ensures count { OnOk result (D.faults self.new.disk ≡ D.faults self.old.disk) }
         ensures moments { LeavesOnlyImages D.moment D.left_since self.old.disk self.new.disk (MayHaveAll self.old) }
     {
         self.know_few(frames);
@@ -183,8 +187,10 @@ impl<const SLOTS: usize, D: Disk> LoggedJournal<SLOTS, D> {
         requires stand { (page : ℕ) → page < pages → Leaves D.may_leave self.old.disk Pages (λ area. StandsInPlace SLOTS area (cells_of self.old.journal) page) }
         ensures done { OnOk result (BeginsAnew SLOTS pages self.old self.new) }
         ensures turned { OnOk result (EachImage D.may_leave self.new.disk (IsTurned SLOTS (cells_of self.old.journal) (other_log self.old.log.area))) }
+        ensures old { OnOk result (Keeps D.content D.may_leave self.old.disk self.new.disk self.old.log.area) }
         ensures fault { OnErr result (FailsUpkeep D.faults self.old self.new) }
         ensures later { D.faults self.old.disk ≤ D.faults self.new.disk }
+        ensures count { OnOk result (D.faults self.new.disk ≡ D.faults self.old.disk) }
         ensures moments { LeavesOnlyImages D.moment D.left_since self.old.disk self.new.disk (MayHaveAll self.old) }
     {
         let _ = self.journal.history();
@@ -230,8 +236,10 @@ impl<const SLOTS: usize, D: Disk> LoggedJournal<SLOTS, D> {
         ensures answers { (result ≡ Upkeep.Done) ⊎ (result ≡ Upkeep.DiskFault) }
         ensures done { result ≡ Upkeep.Done → Turns SLOTS self.old self.new }
         ensures turned { result ≡ Upkeep.Done → EachImage D.may_leave self.new.disk (IsTurned SLOTS (cells_of self.old.journal) (other_log self.old.log.area)) }
+        ensures old_log { result ≡ Upkeep.Done → ForcesImages D.content frames.now self.old self.new }
         ensures fault { result ≡ Upkeep.DiskFault → FailsUpkeep D.faults self.old self.new }
         ensures later { D.faults self.old.disk ≤ D.faults self.new.disk }
+        ensures count { result ≢ Upkeep.DiskFault → D.faults self.new.disk ≡ D.faults self.old.disk }
         ensures moments { LeavesOnlyImages D.moment D.left_since self.old.disk self.new.disk (MayHaveAll self.old) }
     {
         self.know_few(frames);
@@ -294,12 +302,15 @@ impl<const SLOTS: usize, D: Disk> LoggedJournal<SLOTS, D> {
         requires idle { least_active (end_of self.old.journal.history).state ≡ None }
         ensures answers { (result ≡ Upkeep.Done) ⊎ (result ≡ Upkeep.DiskFault) ⊎ (result ≡ Upkeep.LogFull) ⊎ (result ≡ Upkeep.Memory) }
         ensures log_full { result ≡ Upkeep.LogFull → self.old.journal.limits.log < bytes_counted self.old }
+        ensures too_long { (result ≡ Upkeep.LogFull) ↔ IsPastFormat SLOTS self.old }
         ensures log_marked { result ≡ Upkeep.LogFull → self.new ≡ record self.old { log_full = true } }
         ensures memory { result ≡ Upkeep.Memory → OnlyTakesRoom self.old self.new }
         ensures done { result ≡ Upkeep.Done → Turns SLOTS self.old self.new }
         ensures turned { result ≡ Upkeep.Done → EachImage D.may_leave self.new.disk (IsTurned SLOTS (cells_of self.old.journal) (other_log self.old.log.area)) }
+        ensures old_log { result ≡ Upkeep.Done → ForcesImages D.content frames.now self.old self.new }
         ensures fault { result ≡ Upkeep.DiskFault → FailsUpkeep D.faults self.old self.new }
         ensures later { D.faults self.old.disk ≤ D.faults self.new.disk }
+        ensures count { result ≢ Upkeep.DiskFault → D.faults self.new.disk ≡ D.faults self.old.disk }
         ensures moments { LeavesOnlyImages D.moment D.left_since self.old.disk self.new.disk (MayHaveAll self.old) }
     {
         self.know_images();
@@ -324,8 +335,8 @@ impl<const SLOTS: usize, D: Disk> LoggedJournal<SLOTS, D> {
     ///
     /// [`Upkeep::Stopped`] comes exactly where the disk failed a call before, [`Upkeep::TraceFull`] exactly where the history has
     /// no room for one entry. [`Upkeep::Busy`] comes where a transaction is active, unless memory is out; it names the least such
-    /// client, and enters the history. [`Upkeep::LogFull`] never comes where the bytes of the log in use and those that are owed
-    /// are within its limit. These but `Busy`, and [`Upkeep::Memory`], do nothing. [`Upkeep::DiskFault`] comes only where the
+    /// client, and enters the history. [`Upkeep::LogFull`] comes just where the log with these images would be longer than a log may
+    /// be, unless memory is out; the log's limit doesn't matter. These but `Busy`, and [`Upkeep::Memory`], do nothing. [`Upkeep::DiskFault`] comes only where the
     /// disk's count of faults rose in this call; the store is then stopped.
     pub fn turn(&mut self, frames: &[Frame<SLOTS>]) -> Upkeep
         requires pages { 8 * length frames.now ≡ self.old.journal.history.ids }
@@ -341,14 +352,20 @@ impl<const SLOTS: usize, D: Disk> LoggedJournal<SLOTS, D> {
         ensures only_busy { (pass : ℕ) → result ≡ Upkeep.Busy pass → least_active (end_of self.old.journal.history).state ≡ Some pass }
         ensures told { (pass : ℕ) → result ≡ Upkeep.Busy pass → TellsBusy SLOTS self.old self.new pass }
         ensures log_full { result ≡ Upkeep.LogFull → self.old.journal.limits.log < bytes_counted self.old }
+        ensures too_long { result ≡ Upkeep.LogFull → IsPastLogToTurn SLOTS self.old }
+        ensures only_too_long { IsPastLogToTurn SLOTS self.old → (result ≡ Upkeep.LogFull) ⊎ (result ≡ Upkeep.Memory) }
         ensures log_marked { result ≡ Upkeep.LogFull → OnlyTakesRoom (record self.old { log_full = true }) self.new }
         ensures memory { result ≡ Upkeep.Memory → OnlyTakesRoom self.old self.new }
         ensures done { result ≡ Upkeep.Done → Turns SLOTS self.old self.new }
 
         // After it each image of the disk has every page in place, and names the other log area, which has the first batch alone.
         ensures turned { result ≡ Upkeep.Done → EachImage D.may_leave self.new.disk (IsTurned SLOTS (cells_of self.old.journal) (other_log self.old.log.area)) }
+
+        // The images that joined the log before that are those of the changed pages without a current one, ascending, each once.
+        ensures old_log { result ≡ Upkeep.Done → ForcesImages D.content frames.now self.old self.new }
         ensures fault { result ≡ Upkeep.DiskFault → FailsUpkeep D.faults self.old self.new }
         ensures later { D.faults self.old.disk ≤ D.faults self.new.disk }
+        ensures count { result ≢ Upkeep.DiskFault → D.faults self.new.disk ≡ D.faults self.old.disk }
 
         // At each moment of the call a power loss leaves a log of what was there for good before, or of all that was done. So
         // at each of them the store opens, to a graph that a crash before the call may leave.

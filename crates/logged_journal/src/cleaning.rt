@@ -40,6 +40,7 @@ impl<const SLOTS: usize, D: Disk> LoggedJournal<SLOTS, D> {
         ensures there { OnOk result (IfSome (D.content self.new.disk Pages) (λ area. Spells page frame.now.page (bytes_of_page SLOTS page area))) }
         ensures fault { OnErr result (FailsUpkeep D.faults self.old self.new) }
         ensures later { D.faults self.old.disk ≤ D.faults self.new.disk }
+        ensures count { OnOk result (D.faults self.new.disk ≡ D.faults self.old.disk) }
         ensures moments { LeavesOnlyImages D.moment D.left_since self.old.disk self.new.disk (MayHaveAll self.old) }
     {
         self.know_image(frame, page);
@@ -66,6 +67,7 @@ impl<const SLOTS: usize, D: Disk> LoggedJournal<SLOTS, D> {
         ensures clean { OnOk result (EachImage D.may_leave self.new.disk (IsClean page frame.now.page)) }
         ensures fault { OnErr result (FailsUpkeep D.faults self.old self.new) }
         ensures later { D.faults self.old.disk ≤ D.faults self.new.disk }
+        ensures count { OnOk result (D.faults self.new.disk ≡ D.faults self.old.disk) }
         ensures moments { LeavesOnlyImages D.moment D.left_since self.old.disk self.new.disk (MayHaveAll self.old) }
     {
         if self.write_page(frame, page).is_err() {
@@ -106,6 +108,7 @@ impl<const SLOTS: usize, D: Disk> LoggedJournal<SLOTS, D> {
         ensures clean { result ≡ Upkeep.Done → EachImage D.may_leave self.new.disk (IsClean page frame.now.page) }
         ensures fault { result ≡ Upkeep.DiskFault → FailsUpkeep D.faults self.old self.new }
         ensures later { D.faults self.old.disk ≤ D.faults self.new.disk }
+        ensures count { result ≢ Upkeep.DiskFault → D.faults self.new.disk ≡ D.faults self.old.disk }
         ensures moments { LeavesOnlyImages D.moment D.left_since self.old.disk self.new.disk (MayHaveAll self.old) }
     {
         self.log_wanted(frame, page);
@@ -160,6 +163,7 @@ impl<const SLOTS: usize, D: Disk> LoggedJournal<SLOTS, D> {
         ensures clean { result ≡ Upkeep.Done → EachImage D.may_leave self.new.disk (IsClean page frame.now.page) }
         ensures fault { result ≡ Upkeep.DiskFault → FailsUpkeep D.faults self.old self.new }
         ensures later { D.faults self.old.disk ≤ D.faults self.new.disk }
+        ensures count { result ≢ Upkeep.DiskFault → D.faults self.new.disk ≡ D.faults self.old.disk }
 
         // At each moment of the call a power loss leaves a log of what was there for good before, or of all that was done. So
         // at each of them the store opens, to a graph that a crash before the call may leave.

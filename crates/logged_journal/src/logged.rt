@@ -220,6 +220,9 @@ impl<const SLOTS: usize, D: Disk> LoggedJournal<SLOTS, D> {
         // It isn't above the count now, and neither is that at the opening.
         ensures now { IfSome result (λ f. f.faults ≤ D.faults self.now.disk) }
         ensures opened { self.now.opened ≤ D.faults self.now.disk }
+
+        // While it failed none, the disk's count is that at the opening.
+        ensures none { result ≡ None → D.faults self.now.disk ≡ self.now.opened }
     {
         self.failed
     }

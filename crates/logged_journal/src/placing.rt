@@ -43,7 +43,7 @@ fn write_run<D: Disk, const SLOTS: usize>(
 ) -> Result<(), PageRefusal>
     requires count { IsSlotCount SLOTS }
     requires reaches { IfSome (D.content disk.old Pages) (λ area. page_size SLOTS * «first» ≤ length area) }
-    requires copied { (k : ℕ) → page_size SLOTS * (k + 1) ≤ length run.old.items → EachImage D.may_leave disk.old (HasCopy (bytes_of_page SLOTS k run.old.items)) }
+    requires copied { (k : ℕ) → page_size SLOTS * (k + 1) ≤ length run.old.items → EachImage D.may_leave disk.old (HasCopy SLOTS («first» + k) (bytes_of_page SLOTS k run.old.items)) }
     ensures pages { OnOk result (IfSome (D.content disk.new Pages) (λ area. (k : ℕ) → page_size SLOTS * (k + 1) ≤ length run.old.items
         → bytes_of_page SLOTS («first» + k) area ≡ bytes_of_page SLOTS k run.old.items)) }
     ensures untold { OnOk result (D.content disk.old Pages ≡ None → D.content disk.new Pages ≡ None) }
@@ -78,7 +78,7 @@ pub(crate) fn place_changed<D: Disk, const SLOTS: usize>(
     requires few { length frames.now ≤ 1024 }
     requires spelled { (page : ℕ) → page < length frames.now → IsPage page (page_in frames.now page) }
     requires long { Leaves D.may_leave disk.old Pages (λ area. page_size SLOTS * length marks.now ≤ length area) }
-    requires copied { (page : ℕ) → page < length marks.now → has_changed marks.now page ≡ true → EachImage D.may_leave disk.old (HasCopy (page_bytes (page_in frames.now page))) }
+    requires copied { (page : ℕ) → page < length marks.now → has_changed marks.now page ≡ true → EachImage D.may_leave disk.old (HasCopy SLOTS page (page_bytes (page_in frames.now page))) }
     requires room { page_size SLOTS * length (changed_below marks.now (length marks.now)) ≤ vec_capacity run.old }
     ensures there { OnOk result (IfSome (D.content disk.new Pages) (AreThere frames.now marks.now (length marks.now))) }
     ensures only { OnlyPlaces D.content D.may_leave D.moment D.left_since D.faults SLOTS marks.now disk.old disk.new }

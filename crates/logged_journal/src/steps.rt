@@ -1,11 +1,12 @@
 //! The steps of upkeep: an image joins the tail, the tail is made to last, and so are the pages.
-ghost use Rattle.std.specs.Prelude.{◌≡◌, ◌↔◌, ℕ, ◌+◌, ◌*◌, ◌<◌, ◌≤◌, [], true, false, length, None, OnOk, OnErr, IsErrOf};
+ghost use Rattle.std.specs.Prelude.{◌≡◌, ◌↔◌, ℕ, ◌+◌, ◌*◌, ◌<◌, ◌≤◌, [], true, false, length, option_map, None, OnOk, OnErr, IsErrOf};
 ghost use Rattle.disk_model.specs.declared.area.Area.TheVariants.{Pages};
 ghost use Rattle.disk_model.specs.Told.{EachImage, Leaves, IsSettled, KeepsAll};
 ghost use Rattle.disk_model.specs.Time.{LeavesOnlyImages};
 ghost use Rattle.plain_model.specs.History.{end_of};
 ghost use Rattle.cell_page.specs.Stored.{HoldsPage};
 ghost use Rattle.gate_log.specs.Batches.{most_bytes};
+ghost use Rattle.gate_log.specs.State.{IsLogArea, forced_area};
 ghost use Rattle.opened_images.specs.Marks.{StandsInPlace};
 ghost use Rattle.core_store.specs.JournalView.{cells_of};
 ghost use Rattle.core_store.specs.Limited.{is_past_limit};
@@ -104,8 +105,11 @@ impl<const SLOTS: usize, D: Disk> LoggedJournal<SLOTS, D> {
         requires running { self.old.failed ≡ None }
         requires bounded { bytes_counted self.old + 5 ≤ most_bytes }
         ensures done { OnOk result (ForcesAll self.old self.new) }
+        ensures bytes { OnOk result (D.content self.new.disk self.old.log.area ≡ option_map (forced_area self.old.log.durable self.old.log.tail) (D.content self.old.disk self.old.log.area)) }
+        ensures area { OnOk result (IsLogArea self.old.log.area) }
         ensures fault { OnErr result (FailsUpkeep D.faults self.old self.new) }
         ensures later { D.faults self.old.disk ≤ D.faults self.new.disk }
+        ensures count { OnOk result (D.faults self.new.disk ≡ D.faults self.old.disk) }
         ensures moments { LeavesOnlyImages D.moment D.left_since self.old.disk self.new.disk (MayHaveAll self.old) }
     {
         if self.log.force(self.disk.as_mut()).is_err() {
@@ -130,6 +134,7 @@ impl<const SLOTS: usize, D: Disk> LoggedJournal<SLOTS, D> {
         ensures keeps { KeepsAll D.content D.may_leave self.old.disk self.new.disk }
         ensures fault { OnErr result (FailsUpkeep D.faults self.old self.new) }
         ensures later { D.faults self.old.disk ≤ D.faults self.new.disk }
+        ensures count { OnOk result (D.faults self.new.disk ≡ D.faults self.old.disk) }
         ensures moments { LeavesOnlyImages D.moment D.left_since self.old.disk self.new.disk (MayHaveAll self.old) }
     {
         if self.disk.as_mut().sync(Area::Pages).is_err() {

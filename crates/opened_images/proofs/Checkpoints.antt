@@ -1,9 +1,8 @@
 -- Pages that are written in place behind their images, and a log that begins anew.
 use Rattle.std.proofs.Common.{◌≡◌, ◌⊎◌, inl, inr, ⊎_elim, ℕ, ◌+◌, ◌*◌, ◌<◌, ◌≤◌, Bool, true, false, List, [], ◌∷◌, ◌++◌, length, fold, Option, Some, None, refl, sym, ap, subst, ◌∙◌, append_assoc, arith}
-use Rattle.std.specs.Prelude.{◌==◌, ◌%◌, if◌then◌else◌}
-use Rattle.std.specs.Int.{w16, w32, to_be_bytes}
+use Rattle.std.specs.Prelude.{◌==◌, if◌then◌else◌, Contains}
+use Rattle.std.specs.List.{AllByRecursion}
 use Rattle.std.proofs.lemmas.Bool.{cases_lt}
-use Rattle.std.proofs.lemmas.List.{append-nil}
 use Rattle.std.proofs.lemmas.List.Sums.{fold-append}
 use Rattle.std.proofs.Math.Nat.{mul-le-mul_left}
 use Rattle.cell_model.specs.Cells.{Cell, cell_at}
@@ -22,15 +21,15 @@ use Rattle.gate_log.specs.Batches.{batch_bytes, batches_bytes}
 use Rattle.gate_log.specs.OnDisk.{named_by}
 use Rattle.log_record.specs.declared.record.Record.{Record}
 use Rattle.log_record.specs.declared.record.Record.TheVariants.{OfCells, Image, Turn}
-use Rattle.log_record.specs.Spelling.{record_bytes}
+use Rattle.log_record.specs.Spelling.{known_version, HasSpelling, IsTypedRecord}
 use Rattle.page_area.specs.Place.{bytes_of_page}
-use Rattle.page_area.specs.InPlace.{HasCopy}
 use Rattle.page_area.proofs.InPlaceLaws.{torn_others}
 use Rattle.restart_laws.specs.Local.{is_in_page}
 use Rattle.restart_laws.specs.Unended.{Unended, unended_after, unended_after_all, AllFitUnended}
 use Rattle.restart_laws.specs.Restored.{CanRestart}
 use Rattle.restart_laws.proofs.ReopenLaws.{unended-append, cells-append, earlier-opened}
-use Rattle.opened_images.specs.LogRecords.{body_of, bodies_of, all_of, first_records}
+use Rattle.opened_images.specs.LogRecords.{all_of, first_records, HaveSpellings}
+use Rattle.store_model.proofs.StepLaws.{Contains-cons}
 use Rattle.opened_images.specs.Replayed.{cell_in_place}
 use Rattle.opened_images.specs.Opened.{Opened, OpensTo}
 use Rattle.opened_images.specs.GoesOn.{stored_records}
@@ -54,83 +53,78 @@ any_bytes slots pages first count rs before was now same long imaged torn page l
 
 -- ---- copies
 
--- these bytes stand among those
-record Has (bytes all : List ℕ) : Type 0 where
-  front : List ℕ
-  back : List ℕ
-  are : all ≡ front ++ bytes ++ back
+-- these records have an image of the page that is this one, and no other one behind it
+record HasLast {slots : ℕ} (page : ℕ) (rs : List (Record slots)) (held : List (PageCell slots)) : Type 0 where
+  front : List (Record slots)
+  back : List (Record slots)
+  are : rs ≡ front ++ Image page held ∷ back
+  last : (other : List (PageCell slots)) → Contains back (Image page other) → ⊥
 
-has_behind : (bytes more all : List ℕ) → Has bytes all → Has bytes (more ++ all)
-has_behind bytes more all h = record {
-  front = more ++ h.front;
-  back = h.back;
-  are = ap (λ (l : List ℕ). more ++ l) h.are ∙ sym (append_assoc more (h.front ++ bytes) h.back) ∙ ap (λ (l : List ℕ). l ++ h.back) (sym (append_assoc more h.front bytes));
-}
-
-has_before : (bytes all more : List ℕ) → Has bytes all → Has bytes (all ++ more)
-has_before bytes all more h = record {
-  front = h.front;
-  back = h.back ++ more;
-  are = ap (λ (l : List ℕ). l ++ more) h.are ∙ append_assoc (h.front ++ bytes) h.back more;
-}
-
-has_end : (more bytes : List ℕ) → Has bytes (more ++ bytes)
-has_end more bytes = has_behind bytes more bytes (record { front = []; back = []; are = sym (append-nil bytes) })
+-- they have none
+abbrev HasNone : {slots : ℕ} → ℕ → List (Record slots) → Type 0
+HasNone {slots} page rs = (other : List (PageCell slots)) → Contains rs (Image page other) → ⊥
 
 same_some : {X : Type 0} (a b : X) → Some a ≡ Some b → a ≡ b
 same_some a b e = cc
 
--- the last image among records was there before, or stands in their bytes
-image_in_body : {slots : ℕ} (page : ℕ) (rs : List (Record slots)) (last : Option (List (PageCell slots))) (held : List (PageCell slots)) → fold (image_by page) last rs ≡ Some held → (last ≡ Some held) ⊎ Has (page_bytes held) (body_of rs)
-image_in_body page [] last held is = inl is
-image_in_body {slots} page (OfCells r ∷ rs) last held is =
-    ⊎_elim (λ e. inl e) (λ h. inr (has_behind (page_bytes held) (record_bytes {slots = slots} (OfCells r)) (body_of rs) h)) (image_in_body page rs last held is)
-image_in_body {slots} page (Image other cells ∷ rs) last held is =
-    ⊎_elim (λ e. by (page == other) e) (λ h. inr (has_behind (page_bytes held) (record_bytes {slots = slots} (Image other cells)) (body_of rs) h)) (image_in_body page rs (image_by page last (Image other cells)) held is)
+-- behind a record that is no image of the page
+none_with : {slots : ℕ} (page : ℕ) (r : Record slots) (rs : List (Record slots)) → ((other : List (PageCell slots)) → r ≡ Image page other → ⊥) → HasNone page rs → HasNone page (r ∷ rs)
+none_with page r rs differs none other has = ⊎_elim (λ e. differs other e) (λ h. none other h) (Contains-cons r rs (Image page other) has)
+
+last_with : {slots : ℕ} (page : ℕ) (r : Record slots) (rs : List (Record slots)) (held : List (PageCell slots)) → HasLast page rs held → HasLast page (r ∷ rs) held
+last_with page r rs held h = record { front = r ∷ h.front; back = h.back; are = ap (λ (l : List (Record _)). r ∷ l) h.are; last = h.last }
+
+eq_page : (page other : ℕ) → (page == other) ≡ true → page ≡ other
+eq_page page other is = grind (arith, Rattle.std.proofs.lemmas.Bool.Decides.nat_tests)
+
+other_page : (page other : ℕ) → (page == other) ≡ false → other ≡ page → ⊥
+other_page page other is e = grind (arith, Rattle.std.proofs.lemmas.Bool.Decides.nat_tests)
+
+-- the last image among records was there before them, or is one of them
+image_among : {slots : ℕ} (page : ℕ) (rs : List (Record slots)) (last : Option (List (PageCell slots))) (held : List (PageCell slots)) → fold (image_by page) last rs ≡ Some held
+    → ((last ≡ Some held) × HasNone page rs) ⊎ HasLast page rs held
+image_among page [] last held is = inl (is, λ other has. absurd (let low = has.1 in omega (arith, low)))
+image_among page (OfCells r ∷ rs) last held is =
+    ⊎_elim (λ e. inl (e.0, none_with page (OfCells r) rs (λ other f. cc) e.1)) (λ h. inr (last_with page (OfCells r) rs held h)) (image_among page rs last held is)
+image_among {slots} page (Image other cells ∷ rs) last held is =
+    ⊎_elim (λ e. by (page == other) refl e.0 e.1) (λ h. inr (last_with page (Image other cells) rs held h)) (image_among page rs (image_by page last (Image other cells)) held is)
   where
-    by : (b : Bool) → (if b then Some cells else last) ≡ Some held → (last ≡ Some held) ⊎ Has (page_bytes held) (body_of (Image other cells ∷ rs))
-    by true e = inr (subst (λ (c : List (PageCell slots)). Has (page_bytes c) (body_of (Image other cells ∷ rs))) (same_some cells held e) (has_before (page_bytes cells) (record_bytes {slots = slots} (Image other cells)) (body_of rs) (has_end (13 ∷ to_be_bytes w16 other) (page_bytes cells))))
-    by false e = inl e
-image_in_body {slots} page (Turn version count ∷ rs) last held is =
-    ⊎_elim (λ e. inl e) (λ h. inr (has_behind (page_bytes held) (record_bytes {slots = slots} (Turn version count)) (body_of rs) h)) (image_in_body page rs last held is)
+    by : (b : Bool) → (page == other) ≡ b → (if page == other then Some cells else last) ≡ Some held → HasNone page rs
+        → ((last ≡ Some held) × HasNone page (Image other cells ∷ rs)) ⊎ HasLast page (Image other cells ∷ rs) held
+    by true e is none =
+        let same : cells ≡ held = same_some cells held (sym (ap (λ (b : Bool). if b then Some cells else last) e) ∙ is) in
+        let here : Image other cells ≡ Image page held = ap (λ (p : ℕ). Image p cells) (sym (eq_page page other e)) ∙ ap (λ (c : List (PageCell slots)). Image page c) same in
+        inr (record { front = []; back = rs; are = ap (λ (r : Record slots). r ∷ rs) here; last = none })
+    by false e is none = inl (
+      sym (ap (λ (b : Bool). if b then Some cells else last) e) ∙ is,
+      none_with page (Image other cells) rs (λ more f. other_page page other e (cc (f))) none,
+    )
+image_among page (Turn version count ∷ rs) last held is =
+    ⊎_elim (λ e. inl (e.0, none_with page (Turn version count) rs (λ other f. cc) e.1)) (λ h. inr (last_with page (Turn version count) rs held h)) (image_among page rs last held is)
 
--- so it is with batches
-image_in_batches : {slots : ℕ} (page : ℕ) (batches : List (List (Record slots))) (last : Option (List (PageCell slots))) (held : List (PageCell slots)) → fold (image_by page) last (all_of batches) ≡ Some held
-    → (last ≡ Some held) ⊎ Has (page_bytes held) (batches_bytes (bodies_of batches))
-image_in_batches page [] last held is = inl is
-image_in_batches {slots} page (batch ∷ batches) last held is =
-    ⊎_elim
-    (λ e. ⊎_elim (λ f. inl f) (λ h. inr (has_before (page_bytes held) (batch_bytes (body_of batch)) (batches_bytes (bodies_of batches)) (has_behind (page_bytes held) (1 ∷ to_be_bytes w32 (length (body_of batch))) (body_of batch) h))) (image_in_body page batch last held e))
-    (λ h. inr (has_behind (page_bytes held) (batch_bytes (body_of batch)) (batches_bytes (bodies_of batches)) h))
-    (image_in_batches page batches (fold (image_by page) last batch) held (sym (fold-append (image_by page) last batch (all_of batches)) ∙ is))
+each_spelled : {slots : ℕ} (rs : List (Record slots)) → HaveSpellings rs → AllByRecursion (λ (r : Record slots). HasSpelling r × IsTypedRecord r) rs
+each_spelled [] have = tt
+each_spelled (r ∷ rs) have = ((have.0, have.1), each_spelled rs have.2)
 
--- a named area is one of the two
-log_area : (super_area : List ℕ) (area : Area) (image : Bytes) → named_by super_area ≡ Some area → (in_area image area ≡ image.log_a) ⊎ (in_area image area ≡ image.log_b)
-log_area [] area image named = absurd (cc)
-log_area (byte ∷ rest) LogA image named = inl refl
-log_area (byte ∷ rest) LogB image named = inr refl
-log_area (byte ∷ rest) Pages image named = absurd (not_pages (byte % 2 == 0) named)
-  where
-    not_pages : (b : Bool) → Some (if b then LogA else LogB) ≡ Some Pages → ⊥
-    not_pages true e = cc
-    not_pages false e = cc
-log_area (byte ∷ rest) Super image named = absurd (not_super (byte % 2 == 0) named)
-  where
-    not_super : (b : Bool) → Some (if b then LogA else LogB) ≡ Some Super → ⊥
-    not_super true e = cc
-    not_super false e = cc
-
--- bytes that stand in what an area is
-copy_there : (bytes area all : List ℕ) (image : Bytes) → (area ≡ image.log_a) ⊎ (area ≡ image.log_b) → area ≡ all → Has bytes all → HasCopy bytes image
-copy_there bytes area all image of_log is has = record { area = area; of_log = of_log; front = has.front; back = has.back; are = is ∙ has.are }
-
--- the last image of a page in a log has the page's bytes
+-- the last image of a page in the log is a copy of it
 pub copied : CopyLaw
-copied slots pages page image area batches held named log is =
-    let first : List ℕ = body_of (first_records slots pages) in
-    let found = ⊎_elim (λ (e : None ≡ Some held). absurd (cc)) (λ h. h) (image_in_batches page batches None held is) in
-    copy_there (page_bytes held) (in_area image area) (batches_bytes (first ∷ bodies_of batches) ++ log.commit_byte ∷ log.rest) image (log_area image.super_area area image named) log.are
-    (has_before (page_bytes held) (batches_bytes (first ∷ bodies_of batches)) (log.commit_byte ∷ log.rest) (has_behind (page_bytes held) (batch_bytes first) (batches_bytes (bodies_of batches)) found))
+copied slots pages page image area batches held read is =
+    let turn : Record slots = Turn (known_version slots) pages in
+    let have = read.log.batches_are in
+    let found : HasLast page (all_of batches) held = ⊎_elim (λ (e : (None ≡ Some held) × HasNone page (all_of batches)). absurd (let f = e.0 in cc (f))) (λ h. h) (image_among page (all_of batches) None held is) in
+    record {
+      area = area;
+      named = read.named;
+      batches = first_records slots pages ∷ batches;
+      log = read.log.log;
+      spelled = (((refl, have.some, have.few), (let few = have.few in omega (arith, few))), each_spelled (all_of batches) have.spelled);
+      front = turn ∷ found.front;
+      held = held;
+      back = found.back;
+      there = ap (λ (l : List (Record slots)). turn ∷ l) found.are;
+      last = found.last;
+      are = refl;
+    }
 
 -- ---- a page that is spelled in place
 

@@ -17,7 +17,7 @@ use Rattle.page_area.specs.InPlace.{AreTorn, HasCopy}
 use Rattle.restart_laws.specs.Unended.{unended_after_all, AllFitUnended}
 use Rattle.restart_laws.specs.Restored.{opened, CanRestart}
 use Rattle.opened_images.specs.LogRecords.{body_of, bodies_of, all_of, first_records, HaveSpellings}
-use Rattle.opened_images.specs.Opened.{Opened, OpensTo}
+use Rattle.opened_images.specs.Opened.{Opened, OpensTo, IsLogRead}
 use Rattle.opened_images.specs.GoesOn.{IsEndedLog, IsBegun, logged_records, stored_records, AreWithin}
 use Rattle.opened_images.specs.WithImages.{AreOfEvents, HaveImages, is_imaged, AreSamePages}
 use Rattle.opened_images.specs.Marks.{last_image, StandsInPlace}
@@ -30,11 +30,11 @@ AnyBytesLaw =
     (slots pages «first» count : ℕ) (rs : List (Record slots)) (before was now : List ℕ) → AreSamePages pages rs before was → page_size slots * pages ≤ length was
     → ((page : ℕ) → «first» ≤ page → page < «first» + count → is_imaged page rs ≡ true) → AreTorn slots «first» count was now → AreSamePages pages rs before now
 
--- the last image of a page in a log has the page's bytes
+-- the last image of a page in the log is a copy of it
 abbrev pub CopyLaw : Type 0
 CopyLaw =
-    (slots pages page : ℕ) (image : Bytes) (area : Area) (batches : List (List (Record slots))) (held : List (PageCell slots)) → named_by image.super_area ≡ Some area
-    → IsLog most_bytes (body_of (first_records slots pages) ∷ bodies_of batches) (in_area image area) → last_image page (all_of batches) ≡ Some held → HasCopy (page_bytes held) image
+    (slots pages page : ℕ) (image : Bytes) (area : Area) (batches : List (List (Record slots))) (held : List (PageCell slots))
+    → IsLogRead image area pages batches → last_image page (all_of batches) ≡ Some held → HasCopy slots page (page_bytes held) image
 
 -- a page that is spelled in place stands there
 abbrev pub SpelledLaw : Type 0

@@ -25,7 +25,8 @@ use Rattle.restart_laws.specs.Unended.{Unended}
 use Rattle.store_opening.specs.Store.{Reads, AreCellsFound}
 use Rattle.store_undo.specs.Undone.{IsUndoneWithMarks}
 use Rattle.opened_store.proofs.OpenLaws.{bodies-behind, ended-behind, ended-before}
-use Rattle.opened_store.proofs.RoomLaws.{undo_size, undo-sized-all}
+use Rattle.store_opening.specs.Room.{undo_size}
+use Rattle.opened_store.proofs.RoomLaws.{undo-sized-all}
 
 -- ---- a disk that is told
 

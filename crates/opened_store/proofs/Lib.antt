@@ -6,3 +6,5 @@ pub mod LongerLaws
 pub mod BegunLaws
 pub mod StoreLaws
 pub mod RefusedLaws
+pub mod GoOnLaws
+pub mod TouchLaws

@@ -15,14 +15,10 @@ use Rattle.log_replay.specs.Replays.{Replaying}
 use Rattle.opened_images.specs.LogRecords.{body_of}
 use Rattle.restart_laws.specs.Unended.{Change, without_change}
 use Rattle.restart_laws.specs.Restored.{undo_of}
+use Rattle.store_opening.specs.Room.{undo_size}
 use Rattle.store_undo.specs.Undone.{Finishes}
 use Rattle.store_undo.proofs.UndoLaws.{EndsFirst, UndoesFirst, first-of, Step, step-of}
 use Rattle.restart_laws.specs.Unended.{Unended}
-
--- how many bytes they have: 25 for each change, and 2 for the end of each transaction
-abbrev pub undo_size : List (ℕ × Unended) → ℕ
-undo_size [] = 0
-undo_size (e ∷ es) = 2 + 25 * length e.1.changes + undo_size es
 
 -- the bytes of a record of an undo
 abbrev size_of : StoredRecord → ℕ

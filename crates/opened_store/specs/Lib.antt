@@ -1,3 +1,4 @@
 pub mod Steps
 pub mod Longer
 pub mod Unopened
+pub mod Touched

@@ -24,11 +24,6 @@ pub record HasBatches (slots : ℕ) (image : Bytes) (area : Area) (count : ℕ) 
   pub named : named_by other.super_area ≡ Some area
   pub log : IsLog most_bytes (body_of (first_records slots count) ∷ bodies) (in_area other area)
 
--- no call of the disk failed
-abbrev pub IsNoDisk : OpenRefusal → Type 0
-IsNoDisk Disk = ⊥
-IsNoDisk _ = ⊤
-
 -- the refusal tells nothing of the image
 abbrev pub IsLate : OpenRefusal → Type 0
 IsLate Disk = ⊤

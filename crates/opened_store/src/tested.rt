@@ -4,8 +4,8 @@ ghost use Rattle.cell_model.specs.Consistent.{AreConsistent};
 ghost use Rattle.cell_page.specs.Format.{IsSlotCount};
 ghost use Rattle.disk_model.specs.Areas.{Bytes};
 ghost use Rattle.log_replay.specs.Finishes.{AreNoneAwaited};
-ghost use Rattle.opened_store.specs.Steps.{IsStoreOf, IsNoDisk};
-ghost use Rattle.store_opening.specs.Store.{Refuses};
+ghost use Rattle.opened_store.specs.Steps.{IsStoreOf};
+ghost use Rattle.store_opening.specs.Store.{Refuses, IsNoDisk};
 ghost use Rattle.store_undo.specs.Undone.{IsUndone, IsUndoneWithMarks};
 
 use log_replay::Replay;
@@ -63,14 +63,14 @@ pub fn undo<const SLOTS: usize>(
 
 /// Tests the rules on the cells of a replayed log, and undoes what has not ended. The marks of the pages follow the undo.
 ///
-/// Of an image for which the replay stands, a refusal but [`OpenRefusal::Memory`] is what it opens to. That comes too where
-/// the log was told to have images that it had no more when it was replayed, as no disk does whose areas are told.
+/// Of an image for which the replay stands, a refusal but [`OpenRefusal::Memory`] is what it opens to.
 pub fn restart<const SLOTS: usize>(
     alloc: Global,
     replay: &mut Replay<SLOTS>,
     marks: &mut PageMarks,
 ) -> Result<Vec<u8>, OpenRefusal>
     requires size { IsSlotCount SLOTS }
+    requires skips { AreNoneAwaited replay.old.skips }
     requires as_many { length marks.old ≡ length replay.old.skips }
     ensures rules { OnOk result (AreConsistent SLOTS (8 * length replay.old.skips) replay.old.cells) }
     ensures done { IfOk result (λ bytes. IsUndone SLOTS replay.old bytes.items replay.new) }
@@ -78,9 +78,6 @@ pub fn restart<const SLOTS: usize>(
     ensures refused { (image : Bytes) → IsStoreOf SLOTS image replay.old → IfErr result (Refuses SLOTS image) }
     ensures no_disk { IfErr result IsNoDisk }
 {
-    if !replay.has_all_images() {
-        return Err(OpenRefusal::Memory);
-    }
     match test_rules(alloc, replay) {
         Ok(()) => undo(alloc, replay, marks),
         Err(refusal) => Err(refusal),

@@ -19,12 +19,21 @@ pub enum LockRefusal {
     #[error("another program has opened the store")]
     InUse,
     /// The operating system failed a call: `brahma.super` or its folder can't be opened, the folder
-    /// can't be synced, or the file can't be locked.
-    #[error("brahma.super can't be locked: {0}")]
+    /// can't be synced, the file can't be locked, the run can't be marked, or a file can't be made anew.
+    #[error("the store can't be had: {0}")]
     Failed(io::Error),
     /// Out of memory. Nothing was asked of the operating system.
     #[error("out of memory")]
     Memory,
+}
+
+impl From<TryLockError> for LockRefusal {
+    fn from(error: TryLockError) -> LockRefusal {
+        match error {
+            TryLockError::WouldBlock => LockRefusal::InUse,
+            TryLockError::Error(error) => LockRefusal::Failed(error),
+        }
+    }
 }
 
 /// The disk of the operating system: the files `brahma.pages`, `brahma.loga`, `brahma.logb` and
@@ -33,9 +42,14 @@ pub enum LockRefusal {
 ///
 /// A file that isn't there is made, empty, at the first call on its area. Its folder is synced then, so
 /// that its name lasts. A call on an area whose file can't be opened fails, and the next one tries again.
+/// Each is a plain file: a folder, a device or a link isn't opened. None has the descriptor of a standard
+/// stream, also where one was closed when the program started.
 ///
+/// A sync fails where a file no longer lies under its name, or has another length than it is to have.
 /// After a sync that failed each later sync fails: the operating system may have dropped what it could
-/// not write, and tells of it only once.
+/// not write, and tells of it only once. A later program could read it from the system's memory all the
+/// same. So a disk with the lock leaves a mark, the file `brahma.open`, which [`HostDisk::end_run`] takes
+/// away where no call failed; and where the mark of an earlier run is found, all files are made anew.
 #[derive(Drop)]
 pub struct HostDisk<R: Files<File = File>> {
     files: HostFiles<R>,
@@ -67,16 +81,26 @@ impl<R: Files<File = File> + Drop> HostDisk<R> {
     /// The disk of this folder, `.` for the current one, with the lock of `brahma.super`, which is made,
     /// empty, where it isn't there. It has the lock until it is dropped or the program ends.
     ///
+    /// Where the last run with the lock did not come to [`HostDisk::end_run`], or a call failed in it, each file
+    /// is made anew first, by way of the name `brahma.new`: a new file with the same bytes is made to last, and
+    /// then gets the name of the old one. Else only the names in the folder are made to last.
+    ///
     /// It is refused where another disk has the lock ([`LockRefusal::InUse`]), where the operating system
     /// fails a call ([`LockRefusal::Failed`]), and out of memory ([`LockRefusal::Memory`]).
     pub fn locked(alloc: Global, files: R, folder: &str) -> Result<HostDisk<R>, LockRefusal>
         ensures { IfOk result (λ disk. disk ≡ record { faults = 0; sync_failed = false }) }
     {
         let mut disk = HostDisk::new(alloc, files, folder).map_err(|_| LockRefusal::Memory)?;
-        match disk.files.lock() {
-            Ok(()) => Ok(disk),
-            Err(TryLockError::WouldBlock) => Err(LockRefusal::InUse),
-            Err(TryLockError::Error(error)) => Err(LockRefusal::Failed(error)),
+        disk.files.lock().map_err(LockRefusal::from)?;
+        disk.files.begin().map_err(LockRefusal::Failed)?;
+        Ok(disk)
+    }
+
+    /// Tells that the run ends, as the last thing that is done with this disk. Where no call of it failed, and it has the lock, the
+    /// mark of the run is taken away; else the next run with the lock makes all files anew.
+    pub fn end_run(&self) {
+        if self.faults == 0 {
+            self.files.end();
         }
     }
 

@@ -1,115 +1,66 @@
 //! The files under a disk of the operating system. No contract says which bytes they have.
+use crate::area_file::{AreaFile, OpenFile, sync_folder};
+use crate::high_file::open_high;
 use disk_model::Area;
 use std::alloc::{AllocError, Global};
 use std::fs::{File, Files, OpenOptions, TryLockError};
-use std::io;
 use std::io::ErrorKind;
-use std::os::unix::fs::FileExt;
 use std::path::{Path, PathBuf};
+use std::{fs, io};
 
-/// An open file, and how many bytes it has, where that was asked and no call on it failed since. Whoever works on the
-/// files has their lock, so nobody else changes the number.
+/// A file for each area.
 #[derive(Drop)]
-struct OpenFile {
-    file: File,
-    len: Option<u64>,
-}
-
-impl OpenFile {
-    /// How many bytes the file has.
-    fn len(&mut self) -> io::Result<u64> {
-        if let Some(len) = self.len {
-            return Ok(len);
-        }
-        let len = self.file.metadata()?.len();
-        self.len = Some(len);
-        Ok(len)
-    }
-
-    /// Fails where the file has fewer bytes than so many, and else gives how many it has.
-    fn require_bytes(&mut self, count: u64) -> io::Result<u64> {
-        let len = self.len()?;
-        if len < count {
-            return Err(ErrorKind::InvalidInput.into());
-        }
-        Ok(len)
-    }
-
-    /// Writes the bytes at this offset, which can't be past the end.
-    fn write_at(&mut self, at: u64, bytes: &[u8]) -> io::Result<()> {
-        let len = self.require_bytes(at)?;
-        self.len = None;
-        self.file.write_all_at(bytes, at)?;
-        self.len = Some(len.max(at.saturating_add(bytes.len() as u64)));
-        Ok(())
-    }
-
-    /// Takes the bytes from this length on away. The file can't be shorter.
-    fn cut(&mut self, len: u64) -> io::Result<()> {
-        self.require_bytes(len)?;
-        self.len = None;
-        self.file.set_len(len)?;
-        self.len = Some(len);
-        Ok(())
-    }
-}
-
-/// The file of an area, and whether it was opened.
-#[derive(Drop)]
-struct AreaFile {
-    path: PathBuf,
-    open: Option<OpenFile>,
-}
-
-impl AreaFile {
-    /// The file of this name in the folder, not opened yet.
-    fn new(alloc: Global, folder: Path<'_>, name: &str) -> Result<AreaFile, AllocError> {
-        Ok(AreaFile {
-            path: folder.join(alloc, name)?,
-            open: None,
-        })
-    }
-
-    /// The open file. The first call opens it.
-    fn opened<R: Files<File = File>>(
-        &mut self,
-        files: &R,
-        folder: Path<'_>,
-    ) -> io::Result<&mut OpenFile> {
-        if self.open.is_none() {
-            let file = open_for_good(files, folder, self.path.as_path())?;
-            self.open = Some(OpenFile { file, len: None });
-        }
-        Ok(self.open.as_mut().unwrap())
-    }
-}
-
-/// Opens the file, made empty where it isn't there, and then syncs its folder, so that its name lasts.
-///
-/// The folder is synced where the file was there too, since whoever made it may have ended before that.
-fn open_for_good<R: Files<File = File>>(
-    files: &R,
-    folder: Path<'_>,
-    path: Path<'_>,
-) -> io::Result<File> {
-    let file = OpenOptions::new()
-        .read(true)
-        .write(true)
-        .create(true)
-        .open(files, path)?;
-    File::open(files, folder)?.sync_all()?;
-    Ok(file)
-}
-
-/// A file for each area, all in one folder.
-#[derive(Drop)]
-pub(crate) struct HostFiles<R: Files<File = File>> {
-    files: R,
-    folder: PathBuf,
+struct AreaFiles {
     pages: AreaFile,
     log_a: AreaFile,
     log_b: AreaFile,
     super_area: AreaFile,
+}
+
+impl AreaFiles {
+    /// The files of this folder, none of them opened yet.
+    fn new(alloc: Global, folder: Path<'_>) -> Result<AreaFiles, AllocError> {
+        Ok(AreaFiles {
+            pages: AreaFile::new(alloc, folder, "brahma.pages")?,
+            log_a: AreaFile::new(alloc, folder, "brahma.loga")?,
+            log_b: AreaFile::new(alloc, folder, "brahma.logb")?,
+            super_area: AreaFile::new(alloc, folder, "brahma.super")?,
+        })
+    }
+
+    /// The file of this area.
+    fn of(&mut self, area: Area) -> &mut AreaFile {
+        match area {
+            Area::Pages => &mut self.pages,
+            Area::LogA => &mut self.log_a,
+            Area::LogB => &mut self.log_b,
+            Area::Super => &mut self.super_area,
+        }
+    }
+
+    /// Renews each file, by way of the spare name.
+    fn renew<R: Files<File = File>>(&mut self, files: &R, spare: Path<'_>) -> io::Result<()> {
+        self.pages.renew(files, spare)?;
+        self.log_a.renew(files, spare)?;
+        self.log_b.renew(files, spare)?;
+        self.super_area.renew(files, spare)
+    }
+}
+
+/// A file for each area, all in one folder.
+///
+/// Beside them lies, from the lock on to a good end, an empty file as a mark of the run. Where a run finds the mark of another one, that
+/// one did not end well: it was killed, or a call failed, maybe a sync. The system may then keep in memory, and give to whoever reads,
+/// what never reached the medium, and count it as written, so that no later sync writes it. So each file is renewed then. The mark is
+/// not synced: where it is lost, so is what the system kept in memory.
+#[derive(Drop)]
+pub(crate) struct HostFiles<R: Files<File = File>> {
+    files: R,
+    folder: PathBuf,
+    areas: AreaFiles,
+    mark: PathBuf,
+    has_mark: bool,
+    spare: PathBuf,
 }
 
 impl<R: Files<File = File> + Drop> HostFiles<R> {
@@ -119,28 +70,61 @@ impl<R: Files<File = File> + Drop> HostFiles<R> {
         Ok(HostFiles {
             files,
             folder: PathBuf::from_str(alloc, folder)?,
-            pages: AreaFile::new(alloc, path, "brahma.pages")?,
-            log_a: AreaFile::new(alloc, path, "brahma.loga")?,
-            log_b: AreaFile::new(alloc, path, "brahma.logb")?,
-            super_area: AreaFile::new(alloc, path, "brahma.super")?,
+            areas: AreaFiles::new(alloc, path)?,
+            mark: path.join(alloc, "brahma.open")?,
+            has_mark: false,
+            spare: path.join(alloc, "brahma.new")?,
         })
+    }
+
+    /// Takes the lock of the super area's file. It is held until these files are dropped.
+    pub(crate) fn lock(&mut self) -> Result<(), TryLockError> {
+        let folder = self.folder.as_path();
+        self.areas.super_area.try_lock(&self.files, folder)
+    }
+
+    /// Marks that a run has begun, and renews the files where another run did not end well. They have to be locked.
+    pub(crate) fn begin(&mut self) -> io::Result<()> {
+        self.drop_spare()?;
+        let mut how = OpenOptions::new();
+        how.write(true).create_new(true);
+        match open_high(&self.files, &how, self.mark.as_path()) {
+            Ok(_) => {}
+            Err(error) if error.kind() == ErrorKind::AlreadyExists => self.renew()?,
+            Err(error) => return Err(error),
+        }
+        self.has_mark = true;
+        Ok(())
+    }
+
+    /// Takes the mark of the run away, where it has one. If that fails the next run renews the files, and nothing else comes of it.
+    pub(crate) fn end(&self) {
+        if self.has_mark {
+            let _ = fs::remove_file(&self.files, self.mark.as_path());
+        }
+    }
+
+    /// Puts a new file in the place of each one, with the same bytes, and makes that last. Where it fails no part of a new one is left.
+    fn renew(&mut self) -> io::Result<()> {
+        if let Err(error) = self.areas.renew(&self.files, self.spare.as_path()) {
+            let _ = self.drop_spare();
+            return Err(error);
+        }
+        sync_folder(&self.files, self.folder.as_path())
+    }
+
+    /// Removes what is left of a new file.
+    fn drop_spare(&self) -> io::Result<()> {
+        match fs::remove_file(&self.files, self.spare.as_path()) {
+            Err(error) if error.kind() == ErrorKind::NotFound => Ok(()),
+            answer => answer,
+        }
     }
 
     /// The open file of the area. The first call on the area opens it.
     fn opened(&mut self, area: Area) -> io::Result<&mut OpenFile> {
         let folder = self.folder.as_path();
-        match area {
-            Area::Pages => self.pages.opened(&self.files, folder),
-            Area::LogA => self.log_a.opened(&self.files, folder),
-            Area::LogB => self.log_b.opened(&self.files, folder),
-            Area::Super => self.super_area.opened(&self.files, folder),
-        }
-    }
-
-    /// Takes the lock of the super area's file. It is held until these files are dropped.
-    pub(crate) fn lock(&mut self) -> Result<(), TryLockError> {
-        let open = self.opened(Area::Super).map_err(TryLockError::Error)?;
-        open.file.try_lock()
+        self.areas.of(area).opened(&self.files, folder)
     }
 
     /// How many bytes the area has.
@@ -150,9 +134,7 @@ impl<R: Files<File = File> + Drop> HostFiles<R> {
 
     /// Fills the buffer with the bytes of the area from this offset on. All of them have to be there.
     pub(crate) fn read_at(&mut self, area: Area, at: u64, into: &mut [u8]) -> io::Result<()> {
-        let open = self.opened(area)?;
-        open.require_bytes(at.saturating_add(into.len() as u64))?;
-        open.file.read_exact_at(into, at)
+        self.opened(area)?.read_at(at, into)
     }
 
     /// Writes the bytes at this offset of the area, which can't be past the end.
@@ -167,6 +149,7 @@ impl<R: Files<File = File> + Drop> HostFiles<R> {
 
     /// Makes what the area reads last.
     pub(crate) fn sync(&mut self, area: Area) -> io::Result<()> {
-        self.opened(area)?.file.sync_data()
+        let folder = self.folder.as_path();
+        self.areas.of(area).sync(&self.files, folder)
     }
 }

@@ -1,12 +1,13 @@
 -- A write of whole pages leaves all other pages, and what it wrote is read.
-use Rattle.std.proofs.Common.{◌≡◌, ◌⊎◌, ⊎_elim, ℕ, ◌+◌, ◌-◌, ◌*◌, ◌<◌, ◌≤◌, List, ◌++◌, length, take, drop, Option, Some, None, sym, ap, subst, ◌∙◌, arith, length-take, length-drop, length-append, add-zero, mul-zero, take_all}
-use Rattle.std.specs.Prelude.{slice_index, option_map, Result, Ok, Err, IfSome, OnOk}
+use Rattle.std.proofs.Common.{◌≡◌, ◌⊎◌, ⊎_elim, ℕ, ◌+◌, ◌-◌, ◌*◌, ◌<◌, ◌≤◌, Bool, true, false, List, [], ◌∷◌, ◌++◌, map, length, take, drop, Option, Some, None, sym, ap, subst, ◌∙◌, arith, length-take, length-drop, length-append, add-zero, mul-zero, take_all}
+use Rattle.std.specs.Prelude.{slice_index, option_map, Result, Ok, Err, IfSome, OnOk, ◌%◌, ◌==◌, if◌then◌else◌}
+use Rattle.std.proofs.lemmas.Bool.{cases_lt}
 use Rattle.std.proofs.Math.Nat.{mul-le-mul_left}
 use Rattle.std.proofs.Math.ListN.{get_or-append}
 use Rattle.std.proofs.lemmas.List.{ext_get_or, get_or-take, get_or-drop, get_or-append_right}
 use Rattle.disk_model.specs.declared.area.Area.{Area}
-use Rattle.disk_model.specs.declared.area.Area.TheVariants.{Pages}
-use Rattle.disk_model.specs.Areas.{in_area}
+use Rattle.disk_model.specs.declared.area.Area.TheVariants.{Pages, LogA, LogB, Super}
+use Rattle.disk_model.specs.Areas.{Bytes, in_area}
 use Rattle.disk_model.specs.Changes.{Torn, written}
 use Rattle.disk_model.specs.Told.{KeepsOthers, Follows, Steps, EachImage}
 use Rattle.disk_model.proofs.Images.{torn_written, torn_not}
@@ -15,7 +16,9 @@ use Rattle.cell_page.specs.declared.cell.Cell.{Cell}
 use Rattle.cell_page.specs.Format.{IsSlotCount, IsPage, AreTyped, Spells, cell_size, page_size, page_bytes}
 use Rattle.cell_page.proofs.Pages.{length-page_bytes, same_page}
 use Rattle.page_area.specs.Place.{bytes_of_page}
-use Rattle.page_area.specs.InPlace.{AreTorn, HasTornPages}
+use Rattle.gate_log.specs.Batches.{IsLog, most_bytes}
+use Rattle.gate_log.specs.OnDisk.{named_by}
+use Rattle.page_area.specs.InPlace.{AreTorn, HasTornPages, HasCopy, bytes_of_records}
 
 -- ---- so many bytes from an offset on
 
@@ -199,3 +202,55 @@ page_written-on_ok page cells bytes was is (Err x) known rules typed e wrote ins
 -- one page has the bytes of one
 pub one_page : {slots : ℕ} (page : ℕ) (cells : List (Cell slots)) (bytes : List ℕ) → IsSlotCount slots → IsPage page cells → AreTyped cells → bytes ≡ page_bytes cells → length bytes ≡ page_size slots * 1
 one_page page cells bytes known rules typed e = omega (arith, ap (λ (b : List ℕ). length b) e, page_length page cells known rules typed)
+
+page_some : (slots : ℕ) → IsSlotCount slots → 0 < page_size slots
+page_some slots known = ⊎_elim (λ six. subst (λ (n : ℕ). 0 < page_size n) (sym six) (omega arith)) (λ fourteen. subst (λ (n : ℕ). 0 < page_size n) (sym fourteen) (omega arith)) known
+
+only_first : (size k long : ℕ) → 0 < size → long ≡ size * 1 → size * (k + 1) ≤ long → k ≡ 0
+only_first size k long some is low =
+    ⊎_elim (λ (more : 0 < k). let twice : size * 2 ≤ size * (k + 1) = mul-le-mul_left size (omega (arith, more)) in absurd (omega (arith, twice, low, is, some))) (λ (none : k ≤ 0). omega (arith, none)) (cases_lt 0 k)
+
+-- what holds of the page holds of each page that they have
+pub of_one_page : {slots : ℕ} (page k : ℕ) (cells : List (Cell slots)) (bytes : List ℕ) (P : ℕ → List ℕ → Type 0) → IsSlotCount slots → IsPage page cells → AreTyped cells → bytes ≡ page_bytes cells
+    → page_size slots * (k + 1) ≤ length bytes → P page (page_bytes cells) → P (page + k) (bytes_of_page slots k bytes)
+of_one_page {slots} page k cells bytes P known rules typed e low has =
+    let size = page_size slots in
+    let long = one_page page cells bytes known rules typed e in
+    let none = only_first size k (length bytes) (page_some slots known) long low in
+    let front : size * k ≡ 0 = ap (λ (n : ℕ). size * n) none ∙ mul-zero size in
+    let here : bytes_of_page slots k bytes ≡ page_bytes cells = ap (λ (n : ℕ). take size (drop n bytes)) front ∙ take_all size bytes (omega (arith, long)) ∙ e in
+    subst (λ (b : List ℕ). P (page + k) b) (sym here) (subst (λ (n : ℕ). P n (page_bytes cells)) (sym (ap (λ (n : ℕ). page + n) none ∙ add-zero page)) has)
+
+-- ---- copies
+
+-- a named area is one of the two
+log_there : (super_area : List ℕ) (area : Area) (before now : Bytes) → named_by super_area ≡ Some area → before.log_a ≡ now.log_a → before.log_b ≡ now.log_b → in_area before area ≡ in_area now area
+log_there [] area before now named a b = absurd (cc)
+log_there (byte ∷ rest) LogA before now named a b = a
+log_there (byte ∷ rest) LogB before now named a b = b
+log_there (byte ∷ rest) Pages before now named a b = absurd (not_pages (byte % 2 == 0) named)
+  where
+    not_pages : (b : Bool) → Some (if b then LogA else LogB) ≡ Some Pages → ⊥
+    not_pages true e = cc
+    not_pages false e = cc
+log_there (byte ∷ rest) Super before now named a b = absurd (not_super (byte % 2 == 0) named)
+  where
+    not_super : (b : Bool) → Some (if b then LogA else LogB) ≡ Some Super → ⊥
+    not_super true e = cc
+    not_super false e = cc
+
+-- a copy hangs on the super area and the log areas alone
+pub copy_stays : (slots page : ℕ) (bytes : List ℕ) (before now : Bytes) → before.log_a ≡ now.log_a → before.log_b ≡ now.log_b → before.super_area ≡ now.super_area → HasCopy slots page bytes before → HasCopy slots page bytes now
+copy_stays slots page bytes before now a b s copy = record {
+  area = copy.area;
+  named = subst (λ (c : List ℕ). named_by c ≡ Some copy.area) s copy.named;
+  batches = copy.batches;
+  log = subst (λ (c : List ℕ). IsLog most_bytes (map bytes_of_records copy.batches) c) (log_there before.super_area copy.area before now copy.named a b) copy.log;
+  spelled = copy.spelled;
+  front = copy.front;
+  held = copy.held;
+  back = copy.back;
+  there = copy.there;
+  last = copy.last;
+  are = copy.are;
+}

@@ -1,12 +1,18 @@
 -- Pages that are written in place.
-use Rattle.std.specs.Prelude.{◌≡◌, ◌⊎◌, ℕ, ◌+◌, ◌*◌, ◌<◌, ◌≤◌, List, ◌++◌, length}
+use Rattle.std.specs.Prelude.{◌≡◌, ◌⊎◌, ℕ, ◌+◌, ◌*◌, ◌<◌, ◌≤◌, List, ◌∷◌, ◌++◌, length, map, flat_map, Contains, Some}
+use Rattle.std.specs.List.{AllByRecursion}
 use Rattle.disk_model.specs.declared.area.Area.{Area}
 use Rattle.disk_model.specs.declared.area.Area.TheVariants.{Pages}
-use Rattle.disk_model.specs.Areas.{Bytes}
+use Rattle.disk_model.specs.Areas.{Bytes, in_area}
 use Rattle.disk_model.specs.Changes.{written, Torn}
 use Rattle.disk_model.specs.Told.{IsImageBut}
 use Rattle.cell_page.specs.declared.cell.Cell.{Cell}
 use Rattle.cell_page.specs.Format.{IsSlotCount, IsPage, AreTyped, Spells, page_size, page_bytes}
+use Rattle.gate_log.specs.Batches.{IsLog, most_bytes}
+use Rattle.gate_log.specs.OnDisk.{named_by}
+use Rattle.log_record.specs.declared.record.Record.{Record}
+use Rattle.log_record.specs.declared.record.Record.TheVariants.{Image}
+use Rattle.log_record.specs.Spelling.{record_bytes, HasSpelling, IsTypedRecord}
 use Rattle.page_area.specs.Place.{bytes_of_page}
 
 -- in this pages area a write of so many pages, from this one on, was cut off: it may have any bytes in them, and is as before
@@ -20,13 +26,27 @@ module _ {D : Type 0} (may_leave : D → Area → List ℕ → Type 0) where
   HasTornPages disk slots «first» count image =
       IsImageBut may_leave disk Pages (λ area. (was : List ℕ) × may_leave disk Pages was × AreTorn slots «first» count was area) image
 
--- in this image the bytes stand in one of the log areas too
-pub record HasCopy (bytes : List ℕ) (image : Bytes) : Type 0 where
-  pub area : List ℕ
-  pub of_log : (area ≡ image.log_a) ⊎ (area ≡ image.log_b)
-  pub front : List ℕ
-  pub back : List ℕ
-  pub are : area ≡ front ++ bytes ++ back
+-- the bytes of these records, one behind another
+abbrev pub bytes_of_records : {slots : ℕ} → List (Record slots) → List ℕ
+bytes_of_records records = flat_map record_bytes records
+
+-- In this image the log that the super area names has an image of this page in front of its closed commit byte, the last one of
+-- the page, and it is these bytes.
+pub record HasCopy (slots page : ℕ) (bytes : List ℕ) (image : Bytes) : Type 0 where
+  -- the log area that the super area names, and the records of its batches
+  pub area : Area
+  pub named : named_by image.super_area ≡ Some area
+  pub batches : List (List (Record slots))
+  pub log : IsLog most_bytes (map bytes_of_records batches) (in_area image area)
+  -- each of them is spelled by the rules of the format
+  pub spelled : AllByRecursion (λ (r : Record slots). HasSpelling r × IsTypedRecord r) (flat_map (λ rs. rs) batches)
+  -- the image, and the records before it and behind it
+  pub front : List (Record slots)
+  pub held : List (Cell slots)
+  pub back : List (Record slots)
+  pub there : flat_map (λ rs. rs) batches ≡ front ++ Image page held ∷ back
+  pub last : (other : List (Cell slots)) → Contains back (Image page other) → ⊥
+  pub are : bytes ≡ page_bytes held
 
 -- ---- laws
 

@@ -18,7 +18,7 @@ use disk_model::{Area, Disk};
 /// memory. What it wrote lasts once the pages area was synced.
 ///
 /// At each moment, and whatever it answers, a power loss leaves what it left before, but for any bytes in these pages. So
-/// each of them stands in the log too, for good. [`PageRefusal::Disk`], the only refusal, comes only where the disk's count
+/// each of them is, for good, the last image of its page in the log that the super area names. [`PageRefusal::Disk`], the only refusal, comes only where the disk's count
 /// of faults rose in this call.
 pub fn write_pages<D: Disk, const SLOTS: usize>(
     disk: &mut D,
@@ -27,7 +27,7 @@ pub fn write_pages<D: Disk, const SLOTS: usize>(
 ) -> Result<(), PageRefusal>
     requires count { IsSlotCount SLOTS }
     requires reaches { IfSome (D.content disk.old Pages) (λ area. page_size SLOTS * «first» ≤ length area) }
-    requires copied { (k : ℕ) → page_size SLOTS * (k + 1) ≤ length bytes.now → EachImage D.may_leave disk.old (HasCopy (bytes_of_page SLOTS k bytes.now)) }
+    requires copied { (k : ℕ) → page_size SLOTS * (k + 1) ≤ length bytes.now → EachImage D.may_leave disk.old (HasCopy SLOTS («first» + k) (bytes_of_page SLOTS k bytes.now)) }
     ensures bytes { OnOk result (D.content disk.new Pages ≡ option_map (written (page_size SLOTS * «first») bytes.now) (D.content disk.old Pages)) }
     ensures pages { OnOk result (IfSome (D.content disk.new Pages) (λ area. (k : ℕ) → page_size SLOTS * (k + 1) ≤ length bytes.now
         → bytes_of_page SLOTS («first» + k) area ≡ bytes_of_page SLOTS k bytes.now)) }
@@ -47,7 +47,7 @@ pub fn write_pages<D: Disk, const SLOTS: usize>(
 /// Writes the page in place, by its one spelling. It takes no memory. What it wrote lasts once the pages area was synced.
 ///
 /// At each moment, and whatever it answers, a power loss leaves what it left before, but for any bytes in this page. So the
-/// page stands in the log too, for good, and a log that has it as an image needs no bytes in place.
+/// page is, for good, its last image in the log that the super area names, and such a log needs no bytes of it in place.
 /// [`PageRefusal::Disk`], the only refusal, comes only where the disk's count of faults rose in this call.
 pub fn write_in_place<D: Disk, const SLOTS: usize>(
     disk: &mut D,
@@ -57,7 +57,7 @@ pub fn write_in_place<D: Disk, const SLOTS: usize>(
     requires count { IsSlotCount SLOTS }
     requires spelled { IsPage page frame.now }
     requires reaches { IfSome (D.content disk.old Pages) (λ area. page_size SLOTS * page ≤ length area) }
-    requires copied { EachImage D.may_leave disk.old (HasCopy (page_bytes frame.now)) }
+    requires copied { EachImage D.may_leave disk.old (HasCopy SLOTS page (page_bytes frame.now)) }
     ensures bytes { OnOk result (D.content disk.new Pages ≡ option_map (written (page_size SLOTS * page) (page_bytes frame.now)) (D.content disk.old Pages)) }
     ensures there { OnOk result (IfSome (D.content disk.new Pages) (λ area. Spells page frame.now (bytes_of_page SLOTS page area))) }
     ensures torn { Steps (AreTorn SLOTS page 1) (D.content disk.old Pages) (D.content disk.new Pages) }

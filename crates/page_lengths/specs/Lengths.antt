@@ -13,7 +13,8 @@ pub record Extends (before now : List ℕ) : Type 0 where
 abbrev pub lengthened : ℕ → List ℕ → List ℕ
 lengthened wanted bytes = bytes ++ replicate (wanted - length bytes) 0
 
--- a refusal `Disk` comes only where the disk's count of faults rose, and that never falls
+-- the disk's count of faults never falls; it rose where the answer is the refusal `Disk`, and is as before at each other answer
 pub record HasLengthCause {T : Type 0} (before now : ℕ) (result : Result T LengthRefusal) : Type 0 where
   pub later : before ≤ now
   pub failed : result ≡ Err Disk → Rose before now
+  pub kept : (result ≡ Err Disk → ⊥) → now ≡ before

@@ -38,7 +38,7 @@ use Rattle.quiet_rounds.specs.Quiet.{IsQuietWalk, IsQuietRound}
 use Rattle.quiet_rounds.specs.Laws.{IsQuietEvent}
 use Rattle.quiet_rounds.specs.WholeRounds.{OpenRun, BoundLaw}
 use Rattle.quiet_rounds.specs.WholeRounds as whole
-use Rattle.quiet_rounds.proofs.GreenAt.{asked-green, at-flip, at-into, at-strengthen}
+use Rattle.core_store.proofs.GreenAt.{asked-green, at-flip, at-into, at-strengthen}
 use Rattle.quiet_rounds.proofs.Gains.{Gains, count-most, score, rest_count, found-gains, testing-gains, tested-gains, flip-gains, into-gains, strengthen-gains}
 use Rattle.quiet_rounds.proofs.Rounds.{quiet-events}
 use Rattle.quiet_rounds.proofs.Looks.{quiet-looks}

@@ -36,7 +36,7 @@ use Rattle.quiet_rounds.proofs.Ends.{held-counts, left-green}
 use Rattle.quiet_rounds.proofs.FromStart.{IsFrom, from-start, weaken-from, weakened-count}
 use Rattle.quiet_rounds.proofs.Moves.{weakened}
 use Rattle.quiet_rounds.proofs.Runs.{run-quiet, opening-cells, opening-quiet, last-quiet}
-use Rattle.quiet_rounds.proofs.Strengths.{turn-graph}
+use Rattle.core_store.proofs.Strengths.{turn-graph}
 use Rattle.quiet_rounds.proofs.Sweeps.{condemned-left, cut-weak}
 
 -- ---- what is kept

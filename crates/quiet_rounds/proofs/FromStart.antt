@@ -28,7 +28,7 @@ use Rattle.quiet_rounds.specs.WholeRounds.{IsDominated, itself, joins}
 use Rattle.quiet_rounds.specs.RoundNotes.{is_to_join, listed_if}
 use Rattle.quiet_rounds.proofs.Ends.{held-counts}
 use Rattle.quiet_rounds.proofs.Moves.{weakened, weakened-less, weakened-here}
-use Rattle.quiet_rounds.proofs.Strengths.{AreSameGraph, counted-parts, counted-from, turn-graph, turn-which, turn-apart}
+use Rattle.core_store.proofs.Strengths.{AreSameGraph, counted-parts, counted-from, turn-graph, turn-which, turn-apart}
 
 -- the cells of a round of these objects, as they came from those at its start
 pub record IsFrom (start : List Cell) (x : ℕ) (cells : List Cell) (list : List ℕ) : Type 0 where

@@ -11,7 +11,7 @@ use Rattle.green_walk.specs.declared.copied_slots.CopiedSlot.{CopiedSlot}
 use Rattle.green_walk.specs.declared.sweep.Found.TheVariants.{Nothing, Made, Strong}
 use Rattle.green_walk.specs.Greening.{GreenStage, AtSeed, AtInto, AtOut, Greening, waits, may_lead_to, first_with, behind_first, walking, settled_out, settled, greened, moved, first_seed, found_at_seed, found_in, found, testing, tested}
 use Rattle.green_walk.proofs.GreenSteps.{waits-parts, into-none, into-some, out-there, out-done}
-use Rattle.quiet_rounds.proofs.GreenAt.{IsAtFlip, IsAtInto, IsAtStrengthen}
+use Rattle.core_store.proofs.GreenAt.{IsAtFlip, IsAtInto, IsAtStrengthen}
 
 -- ---- how many slots have a property
 

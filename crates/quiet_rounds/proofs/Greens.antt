@@ -24,8 +24,8 @@ use Rattle.core_store.specs.Collects.{Flips, Weakens, Strengthens}
 use Rattle.core_store.specs.RoundView.{Sweeping, round_of}
 use Rattle.quiet_rounds.specs.Quiet.{IsToWeaken, WasWalked, IsHeldStrongly, IsQuietSweep, IsQuietRound}
 use Rattle.quiet_rounds.specs.Laws.{IsQuietEvent, NoneJoins}
-use Rattle.quiet_rounds.proofs.GreenAt.{asks, asked-green, IsAtFlip, at-flip, IsAtInto, at-into, IsAtStrengthen, at-strengthen}
-use Rattle.quiet_rounds.proofs.Strengths.{counted-parts, counted-from, weak-to, flip-graph, flip-zero, flip-apart, flip-into, flip-held, switched_at, turn-which, turn-graph, turn-switched, turn-apart, turn-held, turn-zero}
+use Rattle.core_store.proofs.GreenAt.{asks, asked-green, IsAtFlip, at-flip, IsAtInto, at-into, IsAtStrengthen, at-strengthen}
+use Rattle.core_store.proofs.Strengths.{counted-parts, counted-from, weak-to, flip-graph, flip-zero, flip-apart, flip-into, flip-held, switched_at, turn-which, turn-graph, turn-switched, turn-apart, turn-held, turn-zero}
 use Rattle.quiet_rounds.proofs.Kept.{waits-more, waits-none, waits-yes, waits-apart, behind-first, other-kept, copied-kept, led-kept, IsQuietGreen, quiet-green, queue-stays, left-stored, left-lives, stored-live, some-within, null-waits, waits-zero}
 
 -- ---- a flip

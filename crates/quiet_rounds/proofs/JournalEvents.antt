@@ -62,15 +62,15 @@ moment-step slots j v h = subst (λ (n : ℕ). IsInStep slots n v) (sym (end_of-
 
 -- ---- an event
 
-module _ (slots : ℕ) (i j : JournalView) (r : Collect) (s : IsSoundJournal slots i) (quiet : NoneActive (core_of i)) (m : MakesEvent slots i j r) (opening : j.opening ≡ i.opening) (t : IsSoundJournal slots j) where
-  -- the event's record fits the cells before it
-  event-fits : IfSome m.logged (FitsCells (cells_of i))
-  event-fits =
-      let records = ap logged_in m.noted ∙ map-append (λ (n : Note). option_map record_of n.logged) i.notes _ in
-      let all = subst (λ (rs : List (Option Record)). AllFit slots i.opening rs) records (subst (λ (cells : List Cell). AllFit slots cells (logged_in j.notes)) opening t.fit) in
-      let last = fits-last slots i.opening (logged_in i.notes) (option_map record_of m.logged) all in
-      fits-logged (cells_of i) m.logged (subst (λ (n : ℕ). IfSome (option_map record_of m.logged) (Fits (cells_after n i.opening (logged_in i.notes)))) (sym s.slots_are) last)
+-- the event's record fits the cells before it
+pub last-fits : (slots : ℕ) (i j : JournalView) (r : Collect) → IsSoundJournal slots i → (m : MakesEvent slots i j r) → j.opening ≡ i.opening → IsSoundJournal slots j → IfSome m.logged (FitsCells (cells_of i))
+last-fits slots i j r s m opening t =
+    let records = ap logged_in m.noted ∙ map-append (λ (n : Note). option_map record_of n.logged) i.notes _ in
+    let all = subst (λ (rs : List (Option Record)). AllFit slots i.opening rs) records (subst (λ (cells : List Cell). AllFit slots cells (logged_in j.notes)) opening t.fit) in
+    let last = fits-last slots i.opening (logged_in i.notes) (option_map record_of m.logged) all in
+    fits-logged (cells_of i) m.logged (subst (λ (n : ℕ). IfSome (option_map record_of m.logged) (Fits (cells_after n i.opening (logged_in i.notes)))) (sym s.slots_are) last)
 
+module _ (slots : ℕ) (i j : JournalView) (r : Collect) (s : IsSoundJournal slots i) (quiet : NoneActive (core_of i)) (m : MakesEvent slots i j r) (opening : j.opening ≡ i.opening) (t : IsSoundJournal slots j) where
   ids-same : j.history.ids ≡ i.history.ids
   ids-same = ap (λ (x : History). x.ids) m.entry
 
@@ -83,7 +83,7 @@ module _ (slots : ℕ) (i j : JournalView) (r : Collect) (s : IsSoundJournal slo
     behind = refl;
     in_step = moment-step slots i i.round s.in_step;
     in_step_behind = moment-step slots i j.round (subst (λ (n : ℕ). IsInStep slots n j.round) ids-same t.in_step);
-    fits = event-fits;
+    fits = last-fits slots i j r s m opening t;
     proceeds = subst (λ (n : ℕ). Proceeds slots n i.round m.event m.logged j.round) (sym (end_of-ids i.history)) m.proceeds;
     begins = m.begins;
     after = m.core;

@@ -28,7 +28,7 @@ use Rattle.core_store.specs.RoundView.{Walking, Sweeping, IsWalking}
 use Rattle.quiet_rounds.specs.Quiet.{NoneActive, IsQuietWalk, HasOther, IsLedTo, from_seed, over, AreCopied, IsQuietSweep, IsQuietRound}
 use Rattle.quiet_rounds.specs.Laws.{IsQuietEvent, NoneJoins}
 use Rattle.quiet_rounds.proofs.Pointers.{other-pointer}
-use Rattle.quiet_rounds.proofs.Copies.{copy-of, copied-tells, copied-has}
+use Rattle.core_store.proofs.Copies.{copy-of, copied-tells, copied-has}
 
 -- ---- lists
 

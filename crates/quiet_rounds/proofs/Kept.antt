@@ -25,8 +25,8 @@ use Rattle.core_store.specs.declared.act.Act.TheVariants as act
 use Rattle.core_store.specs.RoundView.{RoundView, Sweeping, IsGreeningOf}
 use Rattle.quiet_rounds.specs.Quiet.{HasOther, IsLedTo, from_seed, from_green, over, AreCopied, IsQuietSweep}
 use Rattle.quiet_rounds.specs.Laws.{IsQuietEvent, NoneJoins}
-use Rattle.quiet_rounds.proofs.GreenAt.{all-freed}
-use Rattle.quiet_rounds.proofs.Strengths.{AreSameGraph}
+use Rattle.core_store.proofs.GreenAt.{all-freed}
+use Rattle.core_store.proofs.Strengths.{AreSameGraph}
 
 -- ---- what waits
 

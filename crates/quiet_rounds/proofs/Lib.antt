@@ -1,7 +1,5 @@
 pub mod FewQueued
-pub mod Copies
 pub mod Ends
-pub mod GreenAt
 pub mod Greens
 pub mod Judge
 pub mod Kept
@@ -11,7 +9,6 @@ pub mod Nothing
 pub mod Pointers
 pub mod Rounds
 pub mod Settled
-pub mod Strengths
 pub mod Sweeps
 pub mod Walks
 pub mod Bounds
@@ -29,3 +26,5 @@ pub mod NotedLists
 pub mod OpenRounds
 pub mod NotedRounds
 pub mod StepsEnd
+pub mod PlainLooks
+pub mod PlainEvents

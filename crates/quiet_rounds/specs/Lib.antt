@@ -5,3 +5,4 @@ pub mod Collections
 pub mod JournalSteps
 pub mod RoundNotes
 pub mod StepsEnd
+pub mod PlainWalk

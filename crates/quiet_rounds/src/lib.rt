@@ -1,8 +1,11 @@
 //! Laws of collector rounds beside which no client is active. Each is the contract of a function with an empty body, so
 //! that the check accepts this crate only where each law is proved.
 //!
-//! The first three speak of the stores that a journal has, one after another. The last three speak of journals, by what
+//! The first three speak of the stores that a journal has, one after another. The last ones speak of journals, by what
 //! their calls ensure, and are what a user of a journal cites.
+//!
+//! One law speaks of rounds beside clients too: what is looked at and done in the green walk is what the plain walk looks
+//! at and does, which saves no look.
 #![tactic(auto)]
 
 ghost use Rattle.quiet_rounds.specs.Laws.{QuietEventLaw, QuietLooksLaw};
@@ -10,6 +13,7 @@ ghost use Rattle.quiet_rounds.specs.WholeRounds.{DominatedLaw, DeletedLaw, KeptL
 ghost use Rattle.quiet_rounds.specs.Collections.{RoundsLaw, QueueLaw, AtRestLaw};
 ghost use Rattle.quiet_rounds.specs.JournalSteps.{JournalEventLaw, JournalLooksLaw, NotedLaw};
 ghost use Rattle.quiet_rounds.specs.RoundNotes.{NotedRoundLaw, NotedDominatedLaw, NotedDeletedLaw, NotedKeptLaw, NotedFewerLaw, NotedBoundLaw};
+ghost use Rattle.quiet_rounds.specs.PlainWalk.{PlainLooksLaw, PlainEventsLaw};
 ghost use Rattle.quiet_rounds.specs.StepsEnd.{StepsQueueLaw, StepsRoundsLaw, StepsEndLaw, StepsIdleLaw};
 
 /// A round that was quiet since it opened stays so as long as no client begins. It takes no object into the queue.
@@ -59,4 +63,11 @@ pub fn quiet_steps_end()
     ensures rounds { StepsRoundsLaw }
     ensures end { StepsEndLaw }
     ensures idle { StepsIdleLaw }
+{}
+
+/// The green walk of a journal's collector, beside clients too: its looks are looks of the plain walk, and each of its
+/// events is the one that the plain walk finds next. So no look that it saves would find anything.
+pub fn green_walks_are_plain()
+    ensures looks { PlainLooksLaw }
+    ensures events { PlainEventsLaw }
 {}

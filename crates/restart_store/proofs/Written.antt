@@ -7,41 +7,41 @@ use Rattle.disk_model.specs.Areas.{Bytes}
 use Rattle.disk_model.specs.Told.{KeepsOthers, IsImage, IsImageBut}
 use Rattle.disk_model.specs.Time.{Elapses, LeavesOnlyImages}
 use Rattle.disk_model.proofs.Moments.{none_in, free_more, keeps_on}
-use Rattle.restart_store.specs.Fresh.{fresh_pages, fresh_page_bytes}
+use Rattle.restart_store.specs.Fresh.{fresh_pages_of, fresh_page_bytes_of}
 use Rattle.restart_store.proofs.Pages.{none_yet, next_behind}
 
 module _ {D : Type 0} (content : D → Area → Option (List ℕ)) (may_leave : D → Area → List ℕ → Type 0) (moment : D → ℕ) (left_since : D → ℕ → Bytes → Type 0) (faults : D → ℕ) where
   -- the first pages are written, and all else is as before
-  pub record IsWriting (before now : D) (pages : ℕ) : Type 0 where
-    pub so_far : content now Pages ≡ option_map (λ _. fresh_pages pages) (content before Pages)
+  pub record IsWriting (slots : ℕ) (before now : D) (pages : ℕ) : Type 0 where
+    pub so_far : content now Pages ≡ option_map (λ _. fresh_pages_of slots pages) (content before Pages)
     pub run : LeavesOnlyImages moment left_since before now (IsImageBut may_leave before Pages (λ _. ⊤))
     pub keeps : KeepsOthers content may_leave before now Pages
-    pub later : faults before ≤ faults now
+    pub kept : faults now ≡ faults before
 
 module _ {D : Type 0} {content : D → Area → Option (List ℕ)} {may_leave : D → Area → List ℕ → Type 0} {moment : D → ℕ} {left_since : D → ℕ → Bytes → Type 0} {faults : D → ℕ} where
   -- none yet
-  pub none_written : (disk : D) → ((disk : D) (image : Bytes) → left_since disk (moment disk) image → IsImage may_leave disk image)
-      → IfSome (content disk Pages) (λ c. c ≡ []) → IsWriting content may_leave moment left_since faults disk disk 0
-  none_written disk only_now empty =
+  pub none_written : (slots : ℕ) (disk : D) → ((disk : D) (image : Bytes) → left_since disk (moment disk) image → IsImage may_leave disk image)
+      → IfSome (content disk Pages) (λ c. c ≡ []) → IsWriting content may_leave moment left_since faults slots disk disk 0
+  none_written slots disk only_now empty =
       record {
-        so_far = none_yet (content disk Pages) empty;
+        so_far = none_yet slots (content disk Pages) empty;
         run = none_in may_leave Pages (λ _. ⊤) only_now (λ image may. tt);
         keeps = λ other apart. record { same = refl; no_more = λ c may. may };
-        later = omega arith;
+        kept = refl;
       }
 
   -- one more
-  pub one_written : {before mid now : D} {pages : ℕ} → IsWriting content may_leave moment left_since faults before mid pages
-      → content now Pages ≡ option_map (λ c. c ++ fresh_page_bytes pages) (content mid Pages)
-      → KeepsOthers content may_leave mid now Pages → Elapses may_leave moment left_since mid now → faults mid ≤ faults now
-      → IsWriting content may_leave moment left_since faults before now (pages + 1)
-  one_written {before = before} {mid = mid} {now = now} {pages = pages} was next keeps time later =
+  pub one_written : {before mid now : D} {pages : ℕ} (slots : ℕ) → IsWriting content may_leave moment left_since faults slots before mid pages
+      → content now Pages ≡ option_map (λ c. c ++ fresh_page_bytes_of slots pages) (content mid Pages)
+      → KeepsOthers content may_leave mid now Pages → Elapses may_leave moment left_since mid now → faults now ≡ faults mid
+      → IsWriting content may_leave moment left_since faults slots before now (pages + 1)
+  one_written {before = before} {mid = mid} {now = now} {pages = pages} slots was next keeps time kept =
       record {
         so_far =
             let one_more : suc pages ≡ pages + 1 = omega arith in
-            next_behind (content before Pages) (content mid Pages) (content now Pages) pages was.so_far next
-            ∙ ap (λ (n : ℕ). option_map (λ _. fresh_pages n) (content before Pages)) one_more;
+            next_behind slots (content before Pages) (content mid Pages) (content now Pages) pages was.so_far next
+            ∙ ap (λ (n : ℕ). option_map (λ _. fresh_pages_of slots n) (content before Pages)) one_more;
         run = free_more was.run time (keeps_on was.keeps keeps);
         keeps = keeps_on was.keeps keeps;
-        later = omega (arith, was.later, later);
+        kept = kept ∙ was.kept;
       }

@@ -5,80 +5,98 @@ ghost use Rattle.disk_model.specs.Areas.{in_area};
 ghost use Rattle.disk_model.specs.Told.{Keeps, KeepsOthers, IsImageBut};
 ghost use Rattle.disk_model.specs.Time.{Elapses, LeavesOnlyImages};
 ghost use Rattle.disk_model.specs.declared.area.Area.TheVariants.{Pages, Super};
-ghost use Rattle.restart_store.specs.Fresh.{IsMade, fresh_page_bytes, fresh_pages, first_body, fresh_store};
+ghost use Rattle.cell_page.specs.Format.{IsSlotCount, page_size};
+ghost use Rattle.log_record.specs.Spelling.{known_version};
+ghost use Rattle.restart_store.specs.Fresh.{IsMade, fresh_page_bytes_of, fresh_pages_of, first_body_of, fresh_store};
 
 use cell_page::Page;
 use disk_model::{Area, Disk, DiskFailed};
 use gate_log::make_anew;
 
-/// How many bytes a page takes.
-const PAGE_BYTES: usize = 512;
+/// How many bytes the longest page takes.
+const LONGEST_PAGE: usize = 1024;
 
 /// The kind of the record that a log begins with.
 const TURN: u8 = 14;
 
 /// The version of the format.
-const VERSION: u8 = 1;
+fn version<const SLOTS: usize>() -> u8
+    requires { IsSlotCount SLOTS }
+    ensures { result ≡ known_version SLOTS }
+{
+    if SLOTS == 6 { 1 } else { 2 }
+}
 
 /// Writes the page of this number at the end of the pages area, where it belongs.
-fn write_page<D: Disk>(disk: &mut D, page: u16) -> Result<(), DiskFailed>
-    requires place { IfSome (D.content disk.old Pages) (λ c. length c ≡ 512 * page) }
-    ensures bytes { OnOk result (D.content disk.new Pages ≡ option_map (λ c. c ++ fresh_page_bytes page) (D.content disk.old Pages)) }
+fn write_page<D: Disk, const SLOTS: usize>(disk: &mut D, page: u16) -> Result<(), DiskFailed>
+    requires count { IsSlotCount SLOTS }
+    requires few { SLOTS ≤ 14 }
+    requires place { IfSome (D.content disk.old Pages) (λ c. length c ≡ page_size SLOTS * page) }
+    ensures bytes { OnOk result (D.content disk.new Pages ≡ option_map (λ c. c ++ fresh_page_bytes_of SLOTS page) (D.content disk.old Pages)) }
     ensures keeps { KeepsOthers D.content D.may_leave disk.old disk.new Pages }
     ensures time { Elapses D.may_leave D.moment D.left_since disk.old disk.new }
     ensures cause { HasCause (D.faults disk.old) (D.faults disk.new) result }
 {
-    let mut bytes = [0; PAGE_BYTES];
-    Page::<6>::fresh(page).encode(&mut bytes);
-    disk.write_at(Area::Pages, PAGE_BYTES as u64 * page as u64, &bytes)
+    let len = Page::<SLOTS>::encoded_len();
+    let mut bytes = [0; LONGEST_PAGE];
+    let spelled = &mut bytes[..len];
+    Page::<SLOTS>::fresh(page).encode(spelled);
+    disk.write_at(Area::Pages, len as u64 * page as u64, spelled)
 }
 
 /// Writes so many pages into the pages area, which is empty.
-fn write_pages<D: Disk>(disk: &mut D, pages: u16) -> Result<(), DiskFailed>
+fn write_pages<D: Disk, const SLOTS: usize>(disk: &mut D, pages: u16) -> Result<(), DiskFailed>
+    requires count { IsSlotCount SLOTS }
     requires empty { IfSome (D.content disk.old Pages) (λ c. c ≡ []) }
-    ensures bytes { OnOk result (D.content disk.new Pages ≡ option_map (λ _. fresh_pages pages) (D.content disk.old Pages)) }
+    ensures bytes { OnOk result (D.content disk.new Pages ≡ option_map (λ _. fresh_pages_of SLOTS pages) (D.content disk.old Pages)) }
     ensures moments { LeavesOnlyImages D.moment D.left_since disk.old disk.new (IsImageBut D.may_leave disk.old Pages (λ _. ⊤)) }
     ensures keeps { KeepsOthers D.content D.may_leave disk.old disk.new Pages }
     ensures cause { HasCause (D.faults disk.old) (D.faults disk.new) result }
 {
     for page in 0..pages {
-        write_page(disk, page)?;
+        write_page::<D, SLOTS>(disk, page)?;
     }
     Ok(())
 }
 
 /// Makes the pages area anew, for good.
-fn make_pages<D: Disk>(disk: &mut D, pages: u16) -> Result<(), DiskFailed>
-    ensures made { OnOk result (IsMade D.content D.may_leave disk.old disk.new Pages (fresh_pages pages)) }
+fn make_pages<D: Disk, const SLOTS: usize>(disk: &mut D, pages: u16) -> Result<(), DiskFailed>
+    requires count { IsSlotCount SLOTS }
+    ensures made { OnOk result (IsMade D.content D.may_leave disk.old disk.new Pages (fresh_pages_of SLOTS pages)) }
     ensures moments { LeavesOnlyImages D.moment D.left_since disk.old disk.new (IsImageBut D.may_leave disk.old Pages (λ _. ⊤)) }
     ensures keeps { KeepsOthers D.content D.may_leave disk.old disk.new Pages }
     ensures cause { HasCause (D.faults disk.old) (D.faults disk.new) result }
 {
     disk.cut(Area::Pages, 0)?;
-    write_pages(disk, pages)?;
+    write_pages::<D, SLOTS>(disk, pages)?;
     disk.sync(Area::Pages)?;
     Ok(())
 }
 
-/// The body of a log's first batch, which is one `Turn` record.
-fn turn_body(pages: u16) -> [u8; 4]
-    ensures { result ≡ first_body pages }
+/// The body of the first batch of a log of so many pages: one `Turn` record, of the version of stores with so many slots.
+pub fn first_body<const SLOTS: usize>(pages: u16) -> [u8; 4]
+    requires count { IsSlotCount SLOTS }
+    ensures { result ≡ first_body_of SLOTS pages }
 {
     let pages = pages.to_be_bytes();
-    [TURN, VERSION, pages[0], pages[1]]
+    [TURN, version::<SLOTS>(), pages[0], pages[1]]
 }
 
 /// Makes all areas of a fresh store anew but the super area, for good.
 ///
 /// At each moment a loss of power leaves the super area as before, whatever it answers.
-pub(crate) fn make_areas<D: Disk>(disk: &mut D, pages: u16) -> Result<(), DiskFailed>
-    ensures made { OnOk result ((area : _) → area ≢ Super → IsMade D.content D.may_leave disk.old disk.new area (in_area (fresh_store pages 0) area)) }
+pub(crate) fn make_areas<D: Disk, const SLOTS: usize>(
+    disk: &mut D,
+    pages: u16,
+) -> Result<(), DiskFailed>
+    requires count { IsSlotCount SLOTS }
+    ensures made { OnOk result ((area : _) → area ≢ Super → IsMade D.content D.may_leave disk.old disk.new area (in_area (fresh_store SLOTS pages 0) area)) }
     ensures moments { LeavesOnlyImages D.moment D.left_since disk.old disk.new (λ image. D.may_leave disk.old Super (in_area image Super)) }
     ensures keeps { Keeps D.content D.may_leave disk.old disk.new Super }
     ensures cause { HasCause (D.faults disk.old) (D.faults disk.new) result }
 {
-    let first = turn_body(pages);
-    make_pages(disk, pages)?;
+    let first = first_body::<SLOTS>(pages);
+    make_pages::<D, SLOTS>(disk, pages)?;
     make_anew(disk, Area::LogA, &first)?;
     make_anew(disk, Area::LogB, &first)?;
     Ok(())

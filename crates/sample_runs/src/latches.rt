@@ -1,15 +1,11 @@
-//! Holds of a table of words, one beside another and in two threads.
+//! Holds of a table of words, one beside another: a free word is claimed, and one that is held is told with its holder.
 
-ghost use Rattle.std.specs.Prelude.{◌≡◌, ℕ, ◌<◌, [], ◌∷◌, true, Some, None, MatchBool, IfOk};
+ghost use Rattle.std.specs.Prelude.{◌≡◌, ℕ, [], ◌∷◌, Some, None, IfOk};
 ghost use Rattle.latch_table.specs.Views.{story, no_marks, first_view};
-ghost use Rattle.latch_table.specs.Holds.{HasNone, IsAlone};
 
 use latch_table::{Chronicle, Held, Hold, Latches};
 use std::alloc::{AllocError, Global};
-use std::sync::Wait;
 use std::test::Fail;
-use std::thread;
-use std::thread::Threads;
 
 /// Pairs of a page and its new value. They speak for no number.
 #[derive(Drop)]
@@ -69,26 +65,6 @@ fn add(
     Ok(())
 }
 
-/// Claims the log and appends a pair, with the page in hand. It answers whether it did.
-fn write(
-    latches: &Latches<Pairs, u64>,
-    hold: &mut Hold<Pairs, u64>,
-    page: u16,
-    value: u64,
-) -> Result<bool, AllocError>
-    requires of { (hold.old.table ≡ latches.now.table) }
-    requires free { hold.old.view.hands.log ≡ None }
-    requires page { (old : ℕ) × (hold.old.view.hands.pages ≡ (page, old) ∷ []) }
-    ensures of { IfOk result (λ _. (hold.new.table ≡ latches.now.table) × (hold.new.view.hands.log ≡ None) × (hold.new.view.station ≡ hold.old.view.station)) }
-    ensures written { IfOk result (λ done. MatchBool done (hold.new.view.hands.pages ≡ (page, value) ∷ []) (hold.new.view.hands.pages ≡ hold.old.view.hands.pages)) }
-{
-    let Ok(pairs) = latches.claim_log(hold) else {
-        return Ok(false);
-    };
-    add(latches, hold, pairs, page, value)?;
-    Ok(true)
-}
-
 #[test]
 fn words_name_their_holders(rt: HostRuntime) -> Result<(), Fail> {
     let (latches, mut main) = opened(rt.alloc())?;
@@ -127,74 +103,5 @@ fn words_name_their_holders(rt: HostRuntime) -> Result<(), Fail> {
     let (pairs, frames) = latches.close(main);
     assert_eq!(rt; pairs.pairs.as_slice(), [(1, 7)].as_slice());
     assert_eq!(rt; frames.as_slice(), [0, 7, 0].as_slice());
-    Ok(())
-}
-
-/// Each turn writes the page once.
-fn write_often<R: Wait>(
-    rt: &R,
-    latches: &Latches<Pairs, u64>,
-    mut hold: Hold<Pairs, u64>,
-    page: u16,
-) -> Result<Hold<Pairs, u64>, AllocError>
-    requires of { (hold.table ≡ latches.now.table) × HasNone hold.view }
-    requires page { page < latches.now.pages }
-    ensures { IfOk result (λ h. (h.table ≡ latches.now.table) × HasNone h.view × (h.view.station ≡ hold.view.station)) }
-{
-    'values: for value in 0..1000u64 {
-        'tries: for _ in rt.forever() {
-            let Ok(old) = latches.claim_page(&mut hold, page) else {
-                thread::yield_now();
-                continue;
-            };
-            if write(latches, &mut hold, page, value)? {
-                latches.drop_page(&mut hold, page, value);
-                break;
-            }
-            latches.drop_page(&mut hold, page, old);
-            thread::yield_now();
-        }
-    }
-    Ok(hold)
-}
-
-/// The two holds write in threads of their own, and the first takes in the second.
-fn write_in_two_threads<R: Threads + Wait + Sync>(
-    rt: &R,
-    latches: &Latches<Pairs, u64>,
-    one: Hold<Pairs, u64>,
-    other: Hold<Pairs, u64>,
-) -> Result<Hold<Pairs, u64>, AllocError>
-    requires holds { (one.table ≡ latches.now.table) × (other.table ≡ latches.now.table) }
-    requires none { HasNone one.view × HasNone other.view }
-    requires main { (one.view.station.main ≡ true) × (one.view.station.others ≡ 1) }
-    requires pages { 0 < latches.now.pages }
-    ensures { IfOk result (λ h. (h.table ≡ latches.now.table) × HasNone h.view × IsAlone h.view) }
-{
-    let (one, other) = thread::join(
-        rt,
-        move || -> Result<Hold<Pairs, u64>, AllocError>
-            requires { (one.table ≡ latches.now.table) × HasNone one.view × (0 < latches.now.pages) }
-            ensures { IfOk result (λ h. (h.table ≡ latches.entry.now.table) × HasNone h.view × (h.view.station ≡ one.view.station)) }
-        { write_often(rt, latches, one, 0) },
-        move || -> Result<Hold<Pairs, u64>, AllocError>
-            requires { (other.table ≡ latches.now.table) × HasNone other.view × (0 < latches.now.pages) }
-            ensures { IfOk result (λ h. (h.table ≡ latches.entry.now.table) × HasNone h.view × (h.view.station ≡ other.view.station)) }
-        { write_often(rt, latches, other, 0) },
-    );
-    let mut one = one?;
-    let other = other?;
-    latches.join(&mut one, other);
-    Ok(one)
-}
-
-#[test]
-fn two_threads_append_all(rt: HostRuntime) -> Result<(), Fail> {
-    let (latches, mut main) = opened(rt.alloc())?;
-    let b = latches.split(&mut main, 1);
-    let main = write_in_two_threads(&rt, &latches, main, b)?;
-    let (pairs, frames) = latches.close(main);
-    assert_eq!(rt; pairs.pairs.len(), 2000);
-    assert_eq!(rt; frames.as_slice(), [999, 0, 0].as_slice());
     Ok(())
 }

@@ -1,10 +1,9 @@
-//! Runs of lower crates by their public calls, above all by those no example reaches, with the answers that were meant.
+//! Runs of lower crates by their public calls, with the answers that were meant: where memory is left a call that may be out of it
+//! succeeds, a free word is claimed, and what stands outside the program, files and streams, is asked.
 //!
 //! They stand apart from those crates, so that each of these is proved once, without its runs.
 #![tactic(auto)]
 
-#[cfg(test)]
-mod disk;
 #[cfg(test)]
 mod edges;
 #[cfg(test)]
@@ -12,20 +11,4 @@ mod host_disk;
 #[cfg(test)]
 mod latches;
 #[cfg(test)]
-mod log;
-#[cfg(test)]
-mod made;
-#[cfg(test)]
-mod openings;
-#[cfg(test)]
-mod options;
-#[cfg(test)]
-mod pages;
-#[cfg(test)]
 mod plain_machine;
-#[cfg(test)]
-mod records;
-#[cfg(test)]
-mod replays;
-#[cfg(test)]
-mod undos;

@@ -7,7 +7,7 @@ use Rattle.script_lines.specs.declared.verb.Verb.TheVariants.{Begin, Read, Make,
 use Rattle.script_lines.specs.declared.grammar.Line.{Line}
 use Rattle.script_lines.specs.declared.grammar.Line.TheVariants as line
 use Rattle.script_lines.specs.Fields.{fields_of}
-use Rattle.script_lines.specs.Numbers.{client_of, register_of, slot_of, page_of, pick_of, payload_of, source_of}
+use Rattle.script_lines.specs.Numbers.{object_slots, client_of, register_of, slot_of, page_of, pick_of, payload_of, source_of}
 
 infixl 10 ◌>>=◌
 abbrev pub ◌>>=◌ : {A B : Type 0} → Option A → (A → Option B) → Option B
@@ -155,9 +155,9 @@ IsRefused ids number bytes = IsAccepted ids number bytes → ⊥
 abbrev pub IsClient : ℕ → Type 0
 IsClient client = (1 ≤ client) × (client ≤ 64)
 
--- the client exists, and so do the registers and slots, in objects of six slots; and an abort isn't asked as a call
+-- the client exists, and so do the registers and slots, in objects of the program's store; and an abort isn't asked as a call
 abbrev pub IsLineInRange : Line → Type 0
-IsLineInRange (line.Ask client c) = IsClient client × IsInRange 6 c × (c ≢ call.Abort)
+IsLineInRange (line.Ask client c) = IsClient client × IsInRange object_slots c × (c ≢ call.Abort)
 IsLineInRange (line.Abort client) = IsClient client
 IsLineInRange (line.Undo client) = IsClient client
 IsLineInRange other = Unit {0}

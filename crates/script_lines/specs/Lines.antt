@@ -2,12 +2,15 @@
 use Rattle.std.specs.Prelude.{ℕ, Bool, false, ◌==◌, ◌&&◌, if◌then◌else◌, List, [], ◌∷◌, take, count_by}
 use Rattle.std.specs.List.{onto_first}
 
+-- the byte that ends a line
 abbrev pub line_feed : ℕ
 line_feed = 10
 
+-- the byte that may stand before it
 abbrev pub carriage_return : ℕ
 carriage_return = 13
 
+-- whether the text begins with a line feed
 abbrev pub begins_with_line_feed : List ℕ → Bool
 begins_with_line_feed [] = false
 begins_with_line_feed (b ∷ bs) = b == line_feed

@@ -23,9 +23,13 @@ client_of field = number_within 1 65 field
 abbrev pub register_of : List ℕ → Option ℕ
 register_of field = number_within 0 8 field
 
--- a slot: 0 to 5
+-- so many slots an object of the program's store has
+abbrev pub object_slots : ℕ
+object_slots = 6
+
+-- a slot of such an object
 abbrev pub slot_of : List ℕ → Option ℕ
-slot_of field = number_within 0 6 field
+slot_of field = number_within 0 object_slots field
 
 -- a page: 0 to 1,023. Whether a store has it is for the store to say
 abbrev pub page_of : List ℕ → Option ℕ

@@ -3,7 +3,7 @@ use Rattle.std.specs.Prelude.{◌≡◌, ◌⊎◌, ℕ, List, [], ◌∷◌, �
 use Rattle.std.specs.Io.KnownBytes.{Appends}
 use Rattle.plain_model.specs.Text.{newline, numbers}
 use Rattle.store_opening.specs.declared.open_refusal.OpenRefusal.{OpenRefusal}
-use Rattle.store_opening.specs.declared.open_refusal.OpenRefusal.TheVariants.{Disk, Damaged, NoStore, UnknownVersion, Unsound, Memory}
+use Rattle.store_opening.specs.declared.open_refusal.OpenRefusal.TheVariants.{Disk, Damaged, NoStore, UnknownVersion, Unsound, Memory, LogFull}
 use Rattle.store_opening.specs.declared.open_refusal.Place.{Place}
 use Rattle.store_opening.specs.declared.open_refusal.Place.TheVariants.{LogA, LogB, Page}
 use Rattle.disk_model.specs.Causes.{Rose}
@@ -54,6 +54,7 @@ open_refusal_text NoStore = codes "no store"
 open_refusal_text (UnknownVersion byte) = codes "version " ++ decimal byte
 open_refusal_text (Unsound id rule) = codes "object " ++ decimal id ++ codes " rule " ++ decimal rule
 open_refusal_text Memory = codes "memory"
+open_refusal_text LogFull = codes "log"
 
 -- the last line where a store isn't opened
 abbrev pub open_refusal_line : OpenRefusal → List ℕ

@@ -1,8 +1,11 @@
 //! What a field spells.
 ghost use Rattle.std.specs.Prelude.{◌≡◌, ◌<◌, ◌≤◌, ◌^◌, ◌+◌, ◌*◌, IsTrue, SomeIff, IfSome};
 ghost use Rattle.std.specs.Char.{is_ascii_digit, digit_value};
-ghost use Rattle.script_lines.specs.Numbers.{number_within, client_of, register_of, slot_of, page_of, pick_of, pages_of, seed_of, clients_of, transactions_of, payload_of, source_of};
+ghost use Rattle.script_lines.specs.Numbers.{object_slots, number_within, client_of, register_of, slot_of, page_of, pick_of, pages_of, seed_of, clients_of, transactions_of, payload_of, source_of};
 ghost use Rattle.script_lines.specs.Grammar.{IsClient};
+
+/// How many slots an object of the program's store has: a slot is a number below this.
+pub const SLOTS: usize = 6;
 
 /// The most digits that a number may have.
 const MAX_DIGITS: usize = 20;
@@ -49,12 +52,11 @@ fn number_within(low: u64, limit: u64, field: &[u8]) -> Option<u64>
 /// The number below `limit` that a field spells, which mostly is one digit.
 #[inline(always)]
 fn number_below(limit: u8, field: &[u8]) -> Option<u8>
-    requires { limit ≤ 10 }
     ensures value { result ≡ number_within 0 limit field.now }
     ensures below { IfSome result (λ n. n < limit) }
 {
     match field {
-        [digit] if b'0' <= *digit && *digit < b'0' + limit => Some(*digit - b'0'),
+        [digit] if b'0' <= *digit && *digit <= b'9' && *digit - b'0' < limit => Some(*digit - b'0'),
         _ => Some(number_within(0, u64::from(limit), field)? as u8),
     }
 }
@@ -84,9 +86,9 @@ pub(crate) fn register_of(field: &[u8]) -> Option<u8>
 #[inline(always)]
 pub(crate) fn slot_of(field: &[u8]) -> Option<u8>
     ensures value { result ≡ slot_of field.now }
-    ensures below { IfSome result (λ s. s < 6) }
+    ensures below { IfSome result (λ s. s < object_slots) }
 {
-    number_below(6, field)
+    number_below(SLOTS as u8, field)
 }
 
 /// The page that a field names: 0 to 1,023, whether or not a store has it.

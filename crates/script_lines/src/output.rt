@@ -242,6 +242,7 @@ fn push_open_refusal(line: &mut ArrayString<LINE_ROOM>, refusal: &OpenRefusal)
             push_number(line, u64::from(rule));
         }
         OpenRefusal::Memory => line.push_str("memory"),
+        OpenRefusal::LogFull => line.push_str("log"),
     }
 }
 

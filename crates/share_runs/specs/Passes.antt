@@ -1,9 +1,9 @@
 -- What the runs ask of a pass, and what each of their calls keeps of it.
-use Rattle.std.specs.Prelude.{◌≡◌, ◌≢◌, ◌≤◌}
+use Rattle.std.specs.Prelude.{◌≡◌, ◌≢◌}
 use Rattle.plain_model.specs.declared.calls.Call.{Call}
 use Rattle.plain_model.specs.declared.calls.Call.TheVariants.{Abort}
 use Rattle.plain_model.specs.Machine.{IsInRange}
-use Rattle.latch_table.specs.Holds.{IsAlone, TableView}
+use Rattle.latch_table.specs.Holds.{TableView}
 use Rattle.shared_store.specs.Passes.{PassView, IsClient}
 
 -- the pass is a client's, of this store
@@ -13,12 +13,6 @@ IsClientOf store pass = (pass.table ≡ store.table) × IsClient pass.view.stati
 -- it is still that pass of this store
 abbrev pub StaysOf : TableView → PassView 6 → PassView 6 → Type 0
 StaysOf store old new = (new.table ≡ store.table) × (new.view.station ≡ old.view.station)
-
--- the pass is a client's, of this store, which has a page, and no other one is out
-pub record IsLoneOf (store : TableView) (pass : PassView 6) : Type 0 where
-  pub client : IsClientOf store pass
-  pub pages : 1 ≤ store.pages
-  pub alone : IsAlone pass.view
 
 -- a call with registers and slots that there are, and not an abort, which is made in steps
 abbrev pub IsToCall : Call → Type 0

@@ -1,20 +1,13 @@
-//! Runs of the shared store by its public calls, with the answers that were meant: a lone pass, two threads, a look at a cell
-//! beside a commit that the disk holds, and a commit that the disk fails.
+//! The run of docs/EMBEDDING.md: two threads, each of which works through a pass of its own.
 //!
-//! They stand apart from shared_store, so that it is proved once, without its runs.
+//! It stands apart from shared_store, so that this is proved once, without its run.
 #![tactic(auto)]
 
 #[cfg(test)]
 mod calls;
 #[cfg(test)]
-mod holding;
-#[cfg(test)]
-mod lone;
-#[cfg(test)]
-mod looks;
-#[cfg(test)]
 mod made;
 #[cfg(test)]
-mod stopped;
-#[cfg(test)]
 mod threads;
+#[cfg(test)]
+mod untold;

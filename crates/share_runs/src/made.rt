@@ -3,47 +3,28 @@ ghost use Rattle.std.specs.Prelude.{◌≡◌, ◌≤◌, [], None, IfOk};
 ghost use Rattle.framed_journal.specs.Holding.{AreFramesOf};
 ghost use Rattle.latch_table.specs.Holds.{IsAlone};
 ghost use Rattle.latch_table.specs.Views.{first_station};
-ghost use Rattle.share_runs.specs.Passes.{IsLoneOf};
 
 use core_store::{Frame, Limits, Note, Notes};
 use disk_model::{Disk, MemoryDisk};
 use framed_journal::FramedJournal;
 use journal_opening::open;
 use logged_journal::LoggedJournal;
-use plain_model::{Entry, Ids};
+use plain_model::Entry;
 use restart_store::init;
 use shared_store::{Pass, Store};
 use std::alloc::{AllocError, Global};
 
 // Each call with a large contract is made in a function of its own, whose clauses are what the next call asks for.
 
-/// The disk with a new store of so many pages.
-fn made_on<D: Disk>(mut disk: D, pages: u16) -> Result<D, AllocError>
-    requires { (1 ≤ pages) × (pages ≤ 1024) }
-{
-    match init(&mut disk, pages) {
-        Ok(()) => Ok(disk),
-        Err(_) => Err(AllocError),
-    }
-}
-
 /// A disk in memory with a new store of so many pages.
 pub(crate) fn disk_on(alloc: Global, pages: u16) -> Result<MemoryDisk, AllocError>
     requires { (1 ≤ pages) × (pages ≤ 1024) }
 {
-    made_on(MemoryDisk::new(alloc), pages)
-}
-
-/// The same, where the disk fails the call of this number, counted from the first one of the making on.
-pub(crate) fn failing_disk_on(
-    alloc: Global,
-    pages: u16,
-    call: u64,
-) -> Result<MemoryDisk, AllocError>
-    requires { (1 ≤ pages) × (pages ≤ 1024) }
-{
-    let disk = MemoryDisk::failing(alloc, Vec::from_array(alloc, [call])?, None);
-    made_on(disk, pages)
+    let mut disk = MemoryDisk::new(alloc);
+    match init::<_, 6>(&mut disk, pages) {
+        Ok(()) => Ok(disk),
+        Err(_) => Err(AllocError),
+    }
 }
 
 /// The journal of the store that the disk holds.
@@ -86,29 +67,6 @@ pub(crate) fn store_on<D: Disk>(
     store_over(alloc, journal)
 }
 
-/// A pass for client 1, which is alone, out of the first pass of a store.
-fn lone_of<D: Disk>(store: &Store<6, D>, mut main: Pass<6, D>) -> Pass<6, D>
-    requires of { (main.table ≡ store.now.table) × (main.view.station ≡ first_station) }
-    requires pages { 1 ≤ store.now.pages }
-    ensures { IsLoneOf store.now result }
-{
-    let mut one = store.share(&mut main, 1);
-    store.join(&mut one, main);
-    one
-}
-
-/// The store that the disk holds, with a pass for client 1, which is alone.
-pub(crate) fn lone_on<D: Disk>(
-    alloc: Global,
-    disk: D,
-) -> Result<(Store<6, D>, Pass<6, D>), AllocError>
-    ensures { IfOk result (λ r. IsLoneOf r.0 r.1) }
-{
-    let (store, main) = store_on(alloc, disk)?;
-    let one = lone_of(&store, main);
-    Ok((store, one))
-}
-
 /// Closes the store.
 pub(crate) fn close<D: Disk>(
     store: Store<6, D>,
@@ -144,27 +102,6 @@ pub(crate) fn calls_of<D: Disk>(logged: &LoggedJournal<6, D>, client: u8) -> usi
     // No more are counted than there are.
     let _ = notes.len();
     notes.iter().filter(|note| is_of(note, client)).count()
-}
-
-/// How many calls the disk has failed.
-pub(crate) fn faults_of<D: Disk>(logged: &LoggedJournal<6, D>) -> u64 {
-    logged.disk().faults()
-}
-
-/// The disk of the journal, which is closed.
-pub(crate) fn disk_in<D: Disk>(logged: LoggedJournal<6, D>) -> D {
-    logged.into_disk()
-}
-
-/// The objects that the journal has stored.
-fn stored_in<D: Disk>(journal: &FramedJournal<6, D>) -> Result<Ids, AllocError> {
-    journal.logged().journal().stored()
-}
-
-/// The objects of the store that the disk holds.
-pub(crate) fn stored_on<D: Disk>(alloc: Global, disk: D) -> Result<Ids, AllocError> {
-    let journal = journal_on(alloc, disk)?;
-    stored_in(&journal)
 }
 
 /// How many objects are stored.

@@ -1,11 +1,11 @@
-//! README's two threads, each of which works through a pass of its own.
+//! The two threads of docs/EMBEDDING.md, each of which works through a pass of its own.
 ghost use Rattle.std.specs.Prelude.{◌≡◌};
 ghost use Rattle.latch_table.specs.Views.{first_station};
 ghost use Rattle.share_runs.specs.Passes.{IsClientOf, StaysOf};
 
 use crate::calls::{TestPass, TestStore, ask_on};
-use crate::holding::{HoldingDisk, Signals};
 use crate::made::{calls_of, close, disk_on, entries_in, objects_in, store_on};
+use crate::untold::UntoldDisk;
 use disk_model::Disk;
 use logged_journal::LoggedJournal;
 use plain_model::Call;
@@ -15,7 +15,7 @@ use std::test::Fail;
 use std::thread::{Threads, join_mut};
 
 /// Makes an object with a payload and commits it. No register holds it then.
-fn commit<'s, R: Wait>(rt: &R, store: &TestStore<'s>, pass: &mut TestPass<'s>)
+fn commit<R: Wait>(rt: &R, store: &TestStore, pass: &mut TestPass)
     requires { IsClientOf store.now pass.old }
     ensures { StaysOf store.now pass.old pass.new }
 {
@@ -26,7 +26,7 @@ fn commit<'s, R: Wait>(rt: &R, store: &TestStore<'s>, pass: &mut TestPass<'s>)
 }
 
 /// Does so fifty times.
-fn work<'s, R: Wait>(rt: &R, store: &TestStore<'s>, pass: &mut TestPass<'s>)
+fn work<R: Wait>(rt: &R, store: &TestStore, pass: &mut TestPass)
     requires { IsClientOf store.now pass.old }
     ensures { StaysOf store.now pass.old pass.new }
 {
@@ -35,12 +35,12 @@ fn work<'s, R: Wait>(rt: &R, store: &TestStore<'s>, pass: &mut TestPass<'s>)
     }
 }
 
-/// What README shows.
-fn two_threads<'s, R: Threads + Wait + Sync>(
+/// What docs/EMBEDDING.md shows.
+fn two_threads<R: Threads + Wait + Sync>(
     rt: &R,
-    store: TestStore<'s>,
-    mut main: TestPass<'s>,
-) -> LoggedJournal<6, HoldingDisk<'s>>
+    store: TestStore,
+    mut main: TestPass,
+) -> LoggedJournal<6, UntoldDisk>
     requires { (main.table ≡ store.table) × (main.view.station ≡ first_station) }
 {
     let mut one = store.share(&mut main, 1);
@@ -57,11 +57,11 @@ fn two_threads<'s, R: Threads + Wait + Sync>(
 }
 
 /// Runs that on the store that the disk holds.
-fn shared_run<'s, R: Threads + Wait + Sync>(
+fn shared_run<R: Threads + Wait + Sync>(
     rt: &R,
     alloc: Global,
-    disk: HoldingDisk<'s>,
-) -> Result<LoggedJournal<6, HoldingDisk<'s>>, AllocError> {
+    disk: UntoldDisk,
+) -> Result<LoggedJournal<6, UntoldDisk>, AllocError> {
     let (store, main) = store_on(alloc, disk)?;
     Ok(two_threads(rt, store, main))
 }
@@ -78,10 +78,10 @@ fn counts<D: Disk>(logged: &LoggedJournal<6, D>) -> Result<[usize; 4], AllocErro
 }
 
 /// What two threads leave on a new store.
-fn run_and_count<'s, R: Threads + Wait + Sync>(
+fn run_and_count<R: Threads + Wait + Sync>(
     rt: &R,
     alloc: Global,
-    disk: HoldingDisk<'s>,
+    disk: UntoldDisk,
 ) -> Result<[usize; 4], AllocError> {
     let logged = shared_run(rt, alloc, disk)?;
     counts(&logged)
@@ -89,8 +89,7 @@ fn run_and_count<'s, R: Threads + Wait + Sync>(
 
 #[test]
 fn readme(rt: HostRuntime) -> Result<(), Fail> {
-    let signals = Signals::new();
-    let disk = HoldingDisk::over(disk_on(rt.alloc(), 20)?, &signals);
+    let disk = UntoldDisk::over(disk_on(rt.alloc(), 20)?);
     let found = run_and_count(&rt, rt.alloc(), disk)?;
     assert!(rt; found == [400, 200, 200, 101]);
     Ok(())

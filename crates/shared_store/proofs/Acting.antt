@@ -12,7 +12,7 @@ use Rattle.logged_journal.specs.View.{LoggedView}
 use Rattle.logged_journal.specs.Calls.{KeepsFrames}
 use Rattle.latch_table.specs.declared.view.Station.{Station}
 use Rattle.latch_table.specs.Account.{Marks}
-use Rattle.latch_table.specs.Views.{frame_of, met, story, log_claimed, no_marks}
+use Rattle.latch_table.specs.Views.{frame_of, story, log_claimed, no_marks, with_claims}
 use Rattle.latch_table.specs.Holds.{HoldView, IsAnother}
 use Rattle.latch_table.specs.Rule.{IsInHand, IsLater}
 use Rattle.latch_table.specs.Steps.{IsNext}
@@ -25,7 +25,7 @@ use Rattle.journal_chronicle.proofs.Goings.{marks-same, marks-disk, stays-goes_o
 use Rattle.journal_chronicle.proofs.Tables.{in-hand, is-next}
 use Rattle.shared_store.specs.declared.refused.Refused.{Refused}
 use Rattle.shared_store.specs.Passes.{Known, IsPass}
-use Rattle.shared_store.specs.Acts.{met_if, Acts, IsToDrop}
+use Rattle.shared_store.specs.Acts.{met_if, Acts, IsToDrop, Takes}
 use Rattle.shared_store.specs.Holding.{pairs_onto, pairs_of, with_pages, HasJournal}
 use Rattle.shared_store.proofs.Pairs.{with_none, both-false}
 
@@ -67,21 +67,21 @@ seen-met : {slots : ℕ} (v : Known slots) (found : Option (ℕ × ℕ)) → (me
 seen-met v None = refl
 seen-met v (Some f) = refl
 
-hand-met : {D : Type 0} (slots : ℕ) (v : Known slots) (found : Option (ℕ × ℕ)) (ps : List (ℕ × Frame slots)) (j : LoggedView D) → IsInHand (account D slots) v j → IsInHand (account D slots) (met_if (with_pages v ps) found) j
-hand-met slots v None ps j h = record { fixed = h.fixed; log = h.log }
-hand-met slots v (Some f) ps j h = record { fixed = h.fixed; log = h.log }
+hand-met : {D : Type 0} (slots : ℕ) (v : Known slots) (found : Option (ℕ × ℕ)) (cs : List (Option ℕ × ℕ)) (ps : List (ℕ × Frame slots)) (j : LoggedView D) → IsInHand (account D slots) v j → IsInHand (account D slots) (met_if (with_pages (with_claims v cs) ps) found) j
+hand-met slots v None cs ps j h = record { fixed = h.fixed; log = h.log }
+hand-met slots v (Some f) cs ps j h = record { fixed = h.fixed; log = h.log }
 
 -- ---- the journal behind the work
 
 module _ {D : Type 0} (slots pages : ℕ) (v w : Known slots) (j k : LoggedView D) (held : List (HeldFrame slots)) (marked : Marks) (found : Option (ℕ × ℕ)) (has : HasJournal slots pages v j) where
   act-hand : (entered : Option Entry) → Acts slots v w j k held entered marked found → IsInHand (account D slots) w j
-  act-hand entered a = subst (λ (z : Known slots). IsInHand (account D slots) z j) (sym a.view) (hand-met slots v found (pairs_of a.first) j has.in_hand)
+  act-hand entered a = subst (λ (z : Known slots). IsInHand (account D slots) z j) (sym a.view.1) (hand-met slots v found a.view.0 (pairs_of a.first) j has.in_hand)
 
   act-pages : (entered : Option Entry) → (a : Acts slots v w j k held entered marked found) → w.hands.pages ≡ pairs_of a.first
-  act-pages entered a = ap (λ (z : Known slots). z.hands.pages) a.view ∙ ap (λ h. h.pages) (hands-met (with_pages v (pairs_of a.first)) found)
+  act-pages entered a = ap (λ (z : Known slots). z.hands.pages) a.view.1 ∙ ap (λ h. h.pages) (hands-met (with_pages (with_claims v a.view.0) (pairs_of a.first)) found)
 
   pub act-station : (entered : Option Entry) → Acts slots v w j k held entered marked found → w.station ≡ v.station
-  act-station entered a = ap (λ (z : Known slots). z.station) a.view ∙ station-met (with_pages v (pairs_of a.first)) found
+  act-station entered a = ap (λ (z : Known slots). z.station) a.view.1 ∙ station-met (with_pages (with_claims v a.view.0) (pairs_of a.first)) found
 
   act-next : (entered : Option Entry) → Acts slots v w j k held entered marked found → IsSome entered → IfSome entered (λ e. (speaker_of e ≡ None) ⊎ (speaker_of e ≡ Some v.station.name)) → IsNext (account D slots) pages w k
   act-next None a some speaks = absurd (cc)
@@ -98,7 +98,7 @@ module _ {D : Type 0} (slots pages : ℕ) (v w : Known slots) (j k : LoggedView 
   to-drop entered b a iff speaks = record {
     first = a.first;
     hands = act-pages entered a;
-    idle = ap (λ (z : Known slots). z.hands.moving) a.view ∙ ap (λ h. h.moving) (hands-met (with_pages v (pairs_of a.first)) found);
+    idle = ap (λ (z : Known slots). z.hands.moving) a.view.1 ∙ ap (λ h. h.moving) (hands-met (with_pages (with_claims v a.view.0) (pairs_of a.first)) found);
     same = a.pages;
     once = a.once;
     frames = a.frames;
@@ -107,7 +107,7 @@ module _ {D : Type 0} (slots pages : ℕ) (v w : Known slots) (j k : LoggedView 
   }
 
 pub acts-seen : {D : Type 0} (slots : ℕ) (v w : Known slots) (j k : LoggedView D) (held : List (HeldFrame slots)) (entered : Option Entry) (marked : Marks) (found : Option (ℕ × ℕ)) → Acts slots v w j k held entered marked found → w.knowledge.seen ≡ v.knowledge.seen
-acts-seen slots v w j k held entered marked found a = ap (λ (z : Known slots). z.knowledge.seen) a.view ∙ seen-met (with_pages v (pairs_of a.first)) found
+acts-seen slots v w j k held entered marked found a = ap (λ (z : Known slots). z.knowledge.seen) a.view.1 ∙ seen-met (with_pages (with_claims v a.view.0) (pairs_of a.first)) found
 
 -- ---- how the work may end
 
@@ -125,7 +125,7 @@ acts-stopped slots v j held none idle empty failed = record {
 }
 
 -- another hold had a word
-pub acts-found : {D : Type 0} (slots : ℕ) (v w : Known slots) (j : LoggedView D) (held : List (HeldFrame slots)) (word seat : ℕ) → w ≡ met (with_pages v (pairs_of held)) word seat → IsAnother v seat → AreOnce held → AreHeldOf j.journal held
+pub acts-found : {D : Type 0} (slots : ℕ) (v w : Known slots) (j : LoggedView D) (held : List (HeldFrame slots)) (word seat : ℕ) → Takes v w (pairs_of held) (Some (word, seat)) → IsAnother v seat → AreOnce held → AreHeldOf j.journal held
     → Acts slots v w j j held None no_marks (Some (word, seat))
 acts-found slots v w j held word seat is other once frames = record {
   first = held;
@@ -139,11 +139,11 @@ acts-found slots v w j held word seat is other once frames = record {
 }
 
 -- the journal went on
-pub acts-on : {D : Type 0} (slots : ℕ) (v w : Known slots) (j k : LoggedView D) (held new : List (HeldFrame slots)) (entered : Option Entry) (marked : Marks) (found : Option (ℕ × ℕ)) → w ≡ with_pages v (pairs_of held) → found ≡ None → AreOnce held → AreHeldOf j.journal held
+pub acts-on : {D : Type 0} (slots : ℕ) (v w : Known slots) (j k : LoggedView D) (held new : List (HeldFrame slots)) (entered : Option Entry) (marked : Marks) (found : Option (ℕ × ℕ)) → Takes v w (pairs_of held) None → found ≡ None → AreOnce held → AreHeldOf j.journal held
     → KeepsFrames j.journal k.journal held new → GoesOnWith slots (is_held held) j k entered marked → (entered ≡ None → new ≡ held) → Acts slots v w j k new entered marked found
 acts-on slots v w j k held new entered marked found is none once frames keeps goes rest = record {
   first = held;
-  view = is ∙ ap (met_if (with_pages v (pairs_of held))) (sym none);
+  view = subst (λ (o : Option (ℕ × ℕ)). Takes v w (pairs_of held) o) (sym none) is;
   another = subst (λ (o : Option (ℕ × ℕ)). IfSome o (λ f. IsAnother v f.1)) (sym none) tt;
   pages = keeps.pages;
   once = AreOnce-pages held new (sym keeps.pages) once;

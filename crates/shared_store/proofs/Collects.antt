@@ -4,13 +4,11 @@ use Rattle.std.specs.Prelude.{is_some, IfOk, IfSome, IsErrOf}
 use Rattle.plain_model.specs.declared.calls.Entry.{Entry}
 use Rattle.plain_model.specs.declared.calls.Entry.TheVariants.{Hidden, Delete}
 use Rattle.plain_model.specs.History.{IsLegal}
-use Rattle.store_model.specs.Sound.{IsSound}
 use Rattle.core_store.specs.declared.collect.Collect.{Collect}
 use Rattle.core_store.specs.declared.collect.Collect.TheVariants.{Idle, Did, Deleted, TraceFull, Memory}
 use Rattle.core_store.specs.declared.three.HeldFrame.{HeldFrame}
 use Rattle.core_store.specs.Frames.{AreOnce, is_held}
-use Rattle.core_store.specs.JournalView.{cells_of, core_of, opening_of}
-use Rattle.core_store.specs.Leads.{AreLed}
+use Rattle.core_store.specs.JournalView.{cells_of}
 use Rattle.core_store.specs.Limited.{is_past_limit}
 use Rattle.core_store.specs.RoundView.{asked, is_event}
 use Rattle.core_store.specs.Steppings.{OnlyLooks}
@@ -22,27 +20,20 @@ use Rattle.logged_journal.specs.declared.collect.CollectRefusal.TheVariants as r
 use Rattle.logged_journal.specs.declared.failed.FailedCall.{FailedCall}
 use Rattle.logged_journal.specs.View.{LoggedView, history_of}
 use Rattle.latch_table.specs.Account.{Marks}
-use Rattle.latch_table.specs.Views.{joined_marks, met, no_marks}
+use Rattle.latch_table.specs.Views.{joined_marks, no_marks}
 use Rattle.latch_table.specs.Holds.{IsAnother}
 use Rattle.journal_chronicle.specs.Clients.{speaker_of}
-use Rattle.journal_chronicle.specs.View.{history_after, notes_of, origin_of}
 use Rattle.journal_chronicle.specs.Steps.{GoesOnWith, no_page}
 use Rattle.shared_store.specs.declared.answers.CollectRefusal.{CollectRefusal}
 use Rattle.shared_store.specs.declared.answers.CollectRefusal.TheVariants.{Again, Stopped, LogFull}
 use Rattle.shared_store.specs.declared.refused.Refused.{Refused}
 use Rattle.shared_store.specs.Passes.{Known, AreMarked}
-use Rattle.shared_store.specs.Acts.{Acts}
-use Rattle.shared_store.specs.Calls.{GoesOnAs, DoesCollectOn, entered_by_collecting, marked_by_collecting, refused_by_collecting}
-use Rattle.shared_store.specs.Holding.{pairs_of, with_pages}
+use Rattle.shared_store.specs.Acts.{Acts, Takes}
+use Rattle.shared_store.specs.Calls.{GoesOnAs, DoesCollectOn, WasNoted, entered_by_collecting, marked_by_collecting, refused_by_collecting}
+use Rattle.shared_store.specs.Holding.{pairs_of}
 use Rattle.shared_store.proofs.Goings.{marked-joined, truth-some}
 use Rattle.shared_store.proofs.Looks.{goes-behind}
 use Rattle.shared_store.proofs.Replies.{marked-disk, marked-trace, marked-log}
-
--- what the journal was that the pass claimed
-pub record WasNoted {D : Type 0} (slots : ℕ) (v : LoggedView D) : Type 0 where
-  pub sound : IsSound (core_of v.journal)
-  pub led : AreLed slots (opening_of v.journal) v.journal.notes (core_of v.journal)
-  pub history : history_after slots (origin_of v) (notes_of v) ≡ history_of v
 
 -- it speaks for nobody
 pub collect-speaks : (name : ℕ) (r : Result Collect CollectRefusal) → IfSome (entered_by_collecting r) (λ e. (speaker_of e ≡ None) ⊎ (speaker_of e ≡ Some name))
@@ -89,7 +80,7 @@ collect-stopped {D} slots j f failed legal noted = record {
 }
 
 -- another hold had a word, when the collector had looked on
-pub acts-looked_found : {D : Type 0} (slots : ℕ) (v w : Known slots) (j k : LoggedView D) (held : List (HeldFrame slots)) (word seat : ℕ) → w ≡ met (with_pages v (pairs_of held)) word seat → IsAnother v seat → AreOnce held → AreHeldOf k.journal held
+pub acts-looked_found : {D : Type 0} (slots : ℕ) (v w : Known slots) (j k : LoggedView D) (held : List (HeldFrame slots)) (word seat : ℕ) → Takes v w (pairs_of held) (Some (word, seat)) → IsAnother v seat → AreOnce held → AreHeldOf k.journal held
     → GoesOnWith slots no_page j k None no_marks → Acts slots v w j k held None no_marks (Some (word, seat))
 acts-looked_found slots v w j k held word seat is other once frames look = record {
   first = held;

@@ -10,14 +10,14 @@ use Rattle.logged_journal.specs.declared.upkeep.Upkeep.TheVariants as upkeep
 use Rattle.logged_journal.specs.View.{LoggedView}
 use Rattle.latch_table.specs.Account.{Marks}
 use Rattle.latch_table.specs.declared.hold.Held.{Held}
-use Rattle.latch_table.specs.Views.{joined_marks, no_marks, page_claimed, page_dropped, without}
+use Rattle.latch_table.specs.Views.{joined_marks, no_marks, page_claimed, page_dropped, with_claims, without}
 use Rattle.latch_table.specs.Holds.{IsAnother}
 use Rattle.latch_table.proofs.Frames.{if_same}
 use Rattle.journal_chronicle.specs.Clients.{speaker_of}
 use Rattle.journal_chronicle.specs.Steps.{GoesOnWith, no_page}
 use Rattle.shared_store.specs.declared.refused.Refused.{Refused}
 use Rattle.shared_store.specs.Passes.{Known, AreMarked}
-use Rattle.shared_store.specs.Acts.{met_if, Acts}
+use Rattle.shared_store.specs.Acts.{met_if, Acts, Takes}
 use Rattle.shared_store.specs.Calls.{GoesOnAs}
 use Rattle.shared_store.specs.Holding.{pairs_of, with_pages}
 use Rattle.shared_store.specs.Upkeep.{entered_by_upkeep_of, marked_by_upkeep_of, refused_by_upkeep_of}
@@ -57,7 +57,7 @@ marked-upkeep x a m h (Ok upkeep.DiskFault) = marked-disk x a m h (refused_by_up
 marked-upkeep x a m h (Err held) = marked-joined x a (joined_marks m no_marks) h
 
 -- no page is in hand behind it
-pub acts-none : {D : Type 0} (slots : ℕ) (v w : Known slots) (j k : LoggedView D) (entered : Option Entry) (marked : Marks) (found : Option (ℕ × ℕ)) → w ≡ met_if (with_pages v []) found → IfSome found (λ f. IsAnother v f.1) → GoesOnWith slots no_page j k entered marked
+pub acts-none : {D : Type 0} (slots : ℕ) (v w : Known slots) (j k : LoggedView D) (entered : Option Entry) (marked : Marks) (found : Option (ℕ × ℕ)) → Takes v w [] found → IfSome found (λ f. IsAnother v f.1) → GoesOnWith slots no_page j k entered marked
     → Acts slots v w j k [] entered marked found
 acts-none slots v w j k entered marked found is other goes = record {
   first = [];
@@ -71,11 +71,13 @@ acts-none slots v w j k entered marked found is other goes = record {
 }
 
 -- a page was claimed and dropped
-pub dropped-alone : {slots : ℕ} (v w z : Known slots) (page : ℕ) (frame : Frame slots) → v.hands.pages ≡ [] → w ≡ page_claimed v page frame → z ≡ page_dropped w page → z ≡ with_pages v []
-dropped-alone {slots} v w z page frame none claimed dropped =
-    dropped
-    ∙ (ap (λ (x : Known slots). page_dropped x page) claimed
-    ∙ ap (with_pages v) (if_same page page (without v.hands.pages page) ((page, frame) ∷ without v.hands.pages page) refl ∙ ap (λ (ps : List (ℕ × Frame slots)). without ps page) none))
+pub dropped-alone : {slots : ℕ} (v w z : Known slots) (page : ℕ) (frame : Frame slots) → v.hands.pages ≡ [] → w ≡ page_claimed v page frame → z ≡ page_dropped w page → Takes v z [] None
+dropped-alone {slots} v w z page frame none claimed dropped = (
+  (Some page, v.station.number) ∷ [],
+  dropped
+      ∙ (ap (λ (x : Known slots). page_dropped x page) claimed
+      ∙ ap (with_pages (with_claims v ((Some page, v.station.number) ∷ []))) (if_same page page (without v.hands.pages page) ((page, frame) ∷ without v.hands.pages page) refl ∙ ap (λ (ps : List (ℕ × Frame slots)). without ps page) none)),
+)
 
 -- what was seen stays while a call works
 seen-met : {slots : ℕ} (v : Known slots) (found : Option (ℕ × ℕ)) → (met_if v found).knowledge.seen ≡ v.knowledge.seen
@@ -83,4 +85,4 @@ seen-met v None = refl
 seen-met v (Some f) = refl
 
 pub act-seen : {D : Type 0} (slots : ℕ) (v w : Known slots) (j k : LoggedView D) (held : List (HeldFrame slots)) (entered : Option Entry) (marked : Marks) (found : Option (ℕ × ℕ)) → Acts slots v w j k held entered marked found → w.knowledge.seen ≡ v.knowledge.seen
-act-seen slots v w j k held entered marked found a = ap (λ (z : Known slots). z.knowledge.seen) a.view ∙ seen-met (with_pages v (pairs_of a.first)) found
+act-seen slots v w j k held entered marked found a = ap (λ (z : Known slots). z.knowledge.seen) a.view.1 ∙ seen-met (with_pages (with_claims v a.view.0) (pairs_of a.first)) found

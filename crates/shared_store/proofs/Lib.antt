@@ -7,6 +7,7 @@ mod Goings
 mod Passing
 mod Joins
 mod Replies
+mod Wanted
 mod Steps
 mod Collects
 mod Upkeeps

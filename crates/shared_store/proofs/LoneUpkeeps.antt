@@ -27,7 +27,7 @@ use Rattle.journal_chronicle.specs.Pages.{AreShownBy}
 use Rattle.journal_chronicle.specs.Steps.{EntersIf, GoesOnWith, no_page}
 use Rattle.journal_chronicle.specs.View.{Origin, account, origin_of, notes_of, frame_after}
 use Rattle.shared_store.specs.Passes.{Known}
-use Rattle.shared_store.specs.Acts.{Acts, IsToDrop}
+use Rattle.shared_store.specs.Acts.{Acts, IsToDrop, Takes}
 use Rattle.shared_store.specs.Holding.{with_pages, HasJournal}
 use Rattle.shared_store.specs.Upkeep.{found_by_upkeep}
 use Rattle.shared_store.specs.Lone.{TakesAll, IsLone}
@@ -90,7 +90,7 @@ pub record HasLog {D : Type 0} (slots pages : ℕ) (v : Known slots) (j : Logged
 
 pub few-dropped : {D : Type 0} (slots : ℕ) (store : TableView) (h : HoldView Note Origin (Frame slots)) (v : Known slots) (j : LoggedView D) (held : List (HeldFrame slots)) → IsLone slots store h j held → v ≡ with_pages h.view [] → HasLog slots store.pages v j
 few-dropped slots store h v j held lone is = record {
-  journal = has-with store.pages h.view v [] j lone.journal is;
+  journal = has-with store.pages h.view v [] j lone.journal ([], is);
   none = ap (λ (z : Known slots). z.hands.pages) is;
   alone = (ap (λ (z : Known slots). z.station.main) is ∙ lone.alone.0, ap (λ (z : Known slots). z.station.others) is ∙ lone.alone.1);
 }
@@ -149,9 +149,9 @@ pub never-err : {X E : Type 0} {P : E → Type 0} (r : Result X E) → ((x : X) 
 never-err (Ok x) other err none = other x refl
 never-err (Err e) other err none = none e err
 
-pub meets-none : {slots : ℕ} (v w : Known slots) (ps : List (ℕ × Frame slots)) (seat : ℕ) → IsAlone v → w ≡ with_pages v ps → IsAnother w seat → ⊥
+pub meets-none : {slots : ℕ} (v w : Known slots) (ps : List (ℕ × Frame slots)) (seat : ℕ) → IsAlone v → Takes v w ps None → IsAnother w seat → ⊥
 meets-none v w ps seat lone is other =
-    other.2 (ap (λ (z : Known _). z.station.main) is ∙ lone.0) (ap (λ (z : Known _). z.station.others) is ∙ lone.1)
+    other.2 (ap (λ (z : Known _). z.station.main) is.1 ∙ lone.0) (ap (λ (z : Known _). z.station.others) is.1 ∙ lone.1)
 
 pub no-many : {slots : ℕ} {F : Type 0} (held : List (HeldFrame slots)) (o : Option F) → o ≡ None → is_some o ≡ nat_lt 3 (length held) → 3 < length held → ⊥
 no-many held o none some more = let few = lt-few (sym some ∙ ap is_some none) in omega (arith, few, more)

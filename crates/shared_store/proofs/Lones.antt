@@ -36,7 +36,7 @@ use Rattle.journal_chronicle.specs.Pages.{AreShownBy}
 use Rattle.journal_chronicle.specs.Steps.{EntersIf, GoesOnWith, entered_by_abort_step, entered_by_collect_step, entered_by_upkeep}
 use Rattle.journal_chronicle.specs.View.{Origin, account, failed_note, origin_of, marks_of, notes_of, frame_after}
 use Rattle.shared_store.specs.Passes.{Known}
-use Rattle.shared_store.specs.Acts.{Acts, IsToDrop}
+use Rattle.shared_store.specs.Acts.{Acts, IsToDrop, Takes}
 use Rattle.shared_store.specs.Holding.{pairs_onto, pairs_of, with_pages, HasJournal}
 use Rattle.shared_store.specs.Lone.{HoldsEach, TakesAll, IsLone}
 use Rattle.shared_store.proofs.Acting.{to-drop, within-pages}
@@ -50,8 +50,8 @@ lone-none v lone None other = refl
 lone-none v lone (Some f) other = absurd (other.2 lone.0 lone.1)
 
 -- what it has in hand is what it has
-pub with-same : {slots : ℕ} (v : Known slots) (ps : List (ℕ × Frame slots)) → v.hands.pages ≡ ps → v.hands.moving ≡ None → v ≡ with_pages v ps
-with-same v ps e f = λ i. record { station = v.station; hands = record { pages = e i; log = v.hands.log; moving = f i }; knowledge = v.knowledge }
+pub with-same : {slots : ℕ} (v : Known slots) (ps : List (ℕ × Frame slots)) → v.hands.pages ≡ ps → v.hands.moving ≡ None → Takes v v ps None
+with-same v ps e f = ([], λ i. record { station = v.station; hands = record { pages = e i; log = v.hands.log; moving = f i }; knowledge = v.knowledge })
 
 -- ---- how many notes there are
 
@@ -184,12 +184,12 @@ pub taken-lone : {D : Type 0} (slots : ℕ) (store : TableView) (h g : HoldView 
     → g.table ≡ store.table → IsAlone h.view → 1 ≤ store.pages → store.pages ≤ 1024 → IsSlotCount slots → HasJournal slots store.pages h.view j → TakesAll slots store.pages h.view g.view j held → IsLone slots store g j held
 taken-lone slots store h g j held of lone some few size has takes = record {
   of = of;
-  alone = (ap (λ (v : Known slots). v.station.main) takes.view ∙ lone.0, ap (λ (v : Known slots). v.station.others) takes.view ∙ lone.1);
+  alone = (ap (λ (v : Known slots). v.station.main) takes.view.1 ∙ lone.0, ap (λ (v : Known slots). v.station.others) takes.view.1 ∙ lone.1);
   some = some;
   few = few;
   size = size;
   journal = has-with store.pages h.view g.view (pairs_of held) j has takes.view;
-  pages = ap (λ (v : Known slots). v.hands.pages) takes.view;
+  pages = ap (λ (v : Known slots). v.hands.pages) takes.view.1;
   each = takes.each;
 }
 

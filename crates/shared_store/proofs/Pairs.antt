@@ -1,6 +1,6 @@
 -- The pages that a hold has are the held frames.
 use Rattle.std.proofs.Common.{◌≡◌, ◌≢◌, ℕ, ◌*◌, ◌<◌, true, false, Bool, List, [], ◌∷◌, ◌++◌, Some, None, refl, sym, ap, ◌∙◌, subst, arith, ne_eqb}
-use Rattle.std.specs.Prelude.{◌==◌, ◌||◌}
+use Rattle.std.specs.Prelude.{◌==◌, ◌||◌, Option}
 use Rattle.std.specs.List.{AllByRecursion}
 use mathlib.Core.Logic.{dite}
 use native.Mathlib.Decide.{ℕ_discrete}
@@ -12,11 +12,13 @@ use Rattle.core_store.specs.Frames.{is_held, AreOnce}
 use Rattle.core_store.proofs.PageLaws.{Agree-put}
 use Rattle.framed_journal.specs.Holding.{AreHeldOf}
 use Rattle.logged_journal.specs.View.{LoggedView}
-use Rattle.latch_table.specs.Views.{frame_of, without, page_claimed, page_dropped}
+use Rattle.latch_table.specs.Views.{frame_of, without, met, page_claimed, page_dropped, with_claims}
+use Rattle.latch_table.specs.Holds.{IsAnother}
 use Rattle.latch_table.specs.Rule.{AgreesWithLog}
 use Rattle.latch_table.proofs.Frames.{if_same, if_other, none_some, frame_new}
 use Rattle.journal_chronicle.specs.View.{account, origin_of, notes_of, frame_after}
 use Rattle.shared_store.specs.Passes.{Known}
+use Rattle.shared_store.specs.Acts.{Takes}
 use Rattle.shared_store.specs.Holding.{pairs_onto, pairs_of, with_pages, HasJournal}
 
 rest-false : (a b : Bool) → (a || b) ≡ false → b ≡ false
@@ -106,18 +108,28 @@ module _ {slots : ℕ} where
   pub told-frame : {D : Type 0} (pages : ℕ) (v : Known slots) (j : LoggedView D) (page : ℕ) (frame : Frame slots) → HasJournal slots pages v j → AgreesWithLog (account D slots) v page frame → frame ≡ frame_after slots (origin_of j) (notes_of j) page
   told-frame pages v j page frame has agrees = agrees (origin_of j) has.in_hand.log.0 has.in_hand.fixed has.in_hand.log.1 ∙ ap (λ es. frame_after slots (origin_of j) es page) has.in_hand.log.2
 
-  pub with_none : (v : Known slots) → v.hands.pages ≡ [] → v.hands.moving ≡ None → v ≡ with_pages v []
-  with_none v e f = λ i. record { station = v.station; hands = record { pages = e i; log = v.hands.log; moving = f i }; knowledge = v.knowledge }
+  pub with_none : (v : Known slots) → v.hands.pages ≡ [] → v.hands.moving ≡ None → Takes v v [] None
+  with_none v e f = ([], λ i. record { station = v.station; hands = record { pages = e i; log = v.hands.log; moving = f i }; knowledge = v.knowledge })
 
-  pub has-with : {D : Type 0} (pages : ℕ) (v w : Known slots) (ps : List (ℕ × Frame slots)) (j : LoggedView D) → HasJournal slots pages v j → w ≡ with_pages v ps → HasJournal slots pages w j
-  has-with {D} pages v w ps j h e = subst (λ (z : Known slots). HasJournal slots pages z j) (sym e) (record {
+  pub has-with : {D : Type 0} (pages : ℕ) (v w : Known slots) (ps : List (ℕ × Frame slots)) (j : LoggedView D) → HasJournal slots pages v j → Takes v w ps None → HasJournal slots pages w j
+  has-with {D} pages v w ps j h e = subst (λ (z : Known slots). HasJournal slots pages z j) (sym e.1) (record {
     ids = h.ids;
     in_hand = record { fixed = h.in_hand.fixed; log = h.in_hand.log };
     idle = refl;
   })
 
   -- one page more is claimed
-  pub claimed-more : (v w w' : Known slots) (held new : List (HeldFrame slots)) (page : ℕ) (frame : Frame slots) → w ≡ with_pages v (pairs_of held) → w' ≡ page_claimed w page frame → new ≡ held ++ record { page = page; frame = frame } ∷ [] → w' ≡ with_pages v (pairs_of new)
+  pub claimed-more : (v w w' : Known slots) (held new : List (HeldFrame slots)) (page : ℕ) (frame : Frame slots) → Takes v w (pairs_of held) None → w' ≡ page_claimed w page frame → new ≡ held ++ record { page = page; frame = frame } ∷ [] → Takes v w' (pairs_of new) None
   claimed-more v w w' held new page frame e claimed more =
-      claimed ∙ ap (λ (z : Known slots). page_claimed z page frame) e
-      ∙ ap (with_pages v) (sym (pairs-put held (record { page = page; frame = frame })) ∙ ap pairs_of (sym more))
+      let claims : List (Option ℕ × ℕ) = (Some page, v.station.number) ∷ e.0 in (
+        claims,
+        claimed ∙ ap (λ (z : Known slots). page_claimed z page frame) e.1
+            ∙ ap (with_pages (with_claims v claims)) (sym (pairs-put held (record { page = page; frame = frame })) ∙ ap pairs_of (sym more)),
+      )
+
+  -- another hold had the word of the next page
+  pub claim-met : (v w w' : Known slots) (held new : List (HeldFrame slots)) (word seat : ℕ) → Takes v w (pairs_of held) None → new ≡ held → IsAnother w seat → w' ≡ met w word seat → IsAnother v seat × Takes v w' (pairs_of new) (Some (word, seat))
+  claim-met v w w' held new word seat e same other is = (
+    subst (λ (z : Known slots). IsAnother z seat) e.1 other,
+    (e.0, is ∙ (ap (λ (z : Known slots). met z word seat) e.1 ∙ ap (λ (hs : List (HeldFrame slots)). met (with_pages (with_claims v e.0) (pairs_of hs)) word seat) (sym same))),
+  )

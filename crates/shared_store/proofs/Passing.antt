@@ -32,7 +32,7 @@ pub record IsDone {D : Type 0} (slots : ℕ) (v z : Known slots) (j k : LoggedVi
   pub told : tells ≡ true → (note : Note) × (notes_of k ≡ log_of worked ++ note ∷ []) × (z ≡ log_dropped (with_pages (told_of (account D slots) worked k note) []) (marks_of k))
   pub same : tells ≡ false → z ≡ log_dropped (with_pages worked []) (marks_of k)
 
-pub done-comes : {D : Type 0} (slots : ℕ) (v z : Known slots) (j k : LoggedView D) (entered : Option Entry) (marked : Marks) (found : Option (ℕ × ℕ)) → IsDone slots v z j k entered marked found → Comes v z k entered found
+pub done-comes : {D : Type 0} (slots : ℕ) (v z : Known slots) (j k : LoggedView D) (entered : Option Entry) (marked : Marks) (found : Option (ℕ × ℕ)) → IsDone slots v z j k entered marked found → Comes v z j k entered found
 done-comes slots v z j k entered marked found d = comes slots v d.claimed d.worked z j k d.held entered marked found d.tells d.claim d.later d.acts d.iff d.told d.same
 
 module _ {slots : ℕ} (h h' : HoldView Note Origin (Frame slots)) (main : Bool) (number : ℕ) (txn : Bool) (seen : ℕ) (refused : Refused) (left : List Bool) (p : IsPass h main number txn seen refused left) (table : h'.table ≡ h.table) where

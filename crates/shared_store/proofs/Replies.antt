@@ -19,9 +19,9 @@ use Rattle.journal_chronicle.specs.Clients.{speaker_of, begins_or_ends, has_afte
 use Rattle.journal_chronicle.specs.Steps.{entered_by_call, marked_by_call}
 use Rattle.shared_store.specs.declared.refused.Refused.{Refused}
 use Rattle.shared_store.specs.Passes.{Known, AreMarked}
-use Rattle.shared_store.specs.Acts.{Acts, IsToDrop}
+use Rattle.shared_store.specs.Acts.{Acts, IsToDrop, Takes}
 use Rattle.shared_store.specs.Calls.{GoesOnAs, DoesCallOn, found_by_call, refused_by_call}
-use Rattle.shared_store.specs.Holding.{HasJournal, pairs_of, with_pages}
+use Rattle.shared_store.specs.Holding.{HasJournal, pairs_of}
 use Rattle.shared_store.proofs.Acting.{acts-found, to-drop}
 use Rattle.shared_store.proofs.Goings.{found-log, marked-joined, or-left, truth-some}
 
@@ -141,7 +141,7 @@ does-stopped {D} slots faults j client c f failed legal = record {
 -- ---- another pass had a word
 
 module _ (client : ℕ) (c : TransactionCall) (r : Reply) (word seat : ℕ) (again : r ≡ reply.Again word seat) where
-  pub again-acts : {D : Type 0} (slots : ℕ) (v w : Known slots) (j : LoggedView D) (held : List (HeldFrame slots)) → w ≡ met (with_pages v (pairs_of held)) word seat → IsAnother v seat → AreOnce held → AreHeldOf j.journal held
+  pub again-acts : {D : Type 0} (slots : ℕ) (v w : Known slots) (j : LoggedView D) (held : List (HeldFrame slots)) → Takes v w (pairs_of held) (Some (word, seat)) → IsAnother v seat → AreOnce held → AreHeldOf j.journal held
       → Acts slots v w j j held (entered_by_call client c r) (marked_by_call r) (found_by_call r)
   again-acts slots v w j held is other once frames =
       subst (λ (x : Reply). Acts slots v w j j held (entered_by_call client c x) (marked_by_call x) (found_by_call x)) (sym again) (acts-found slots v w j held word seat is other once frames)

@@ -1,5 +1,5 @@
 -- The frames of the first pages, as held ones.
-use Rattle.std.proofs.Common.{◌≡◌, ℕ, suc, zero, ◌+◌, ◌<◌, ◌≤◌, false, List, [], ◌∷◌, ◌++◌, length, Some, refl, sym, ap, ◌∙◌, subst, arith, ne_eqb}
+use Rattle.std.proofs.Common.{◌≡◌, ℕ, suc, zero, ◌+◌, ◌<◌, ◌≤◌, false, List, [], ◌∷◌, ◌++◌, length, Some, None, refl, sym, ap, ◌∙◌, subst, arith, ne_eqb}
 use Rattle.std.specs.Prelude.{◌==◌, slice_get}
 use Rattle.cell_model.specs.Cells.{Cell}
 use Rattle.cell_page.specs.Stored.{HoldsPage}
@@ -9,7 +9,8 @@ use Rattle.core_store.specs.Frames.{is_held, AllAgree, AreOnce}
 use Rattle.latch_table.proofs.Frames.{some_is}
 use Rattle.latch_table.specs.Views.{frame_of, page_claimed, without}
 use Rattle.shared_store.specs.Passes.{Known}
-use Rattle.shared_store.specs.Holding.{pairs_of, with_pages}
+use Rattle.shared_store.specs.Acts.{Takes}
+use Rattle.shared_store.specs.Holding.{pairs_of}
 use Rattle.shared_store.specs.Upkeep.{held_from}
 use Rattle.shared_store.proofs.Pairs.{both-false, claimed-more, pairs-last, pairs-dropped}
 
@@ -50,7 +51,7 @@ module _ {slots : ℕ} where
   agree-more cells fs new f all it more = subst (AllAgree cells) (sym more) (each-more (λ (p : ℕ) (g : Frame slots). HoldsPage cells p g.page) fs f all it)
 
   -- the next page is claimed
-  pub claimed-next : (v w w' : Known slots) (fs new : List (Frame slots)) (f : Frame slots) → w ≡ with_pages v (pairs_of (held_from 0 fs)) → w' ≡ page_claimed w (length fs) f → new ≡ fs ++ f ∷ [] → w' ≡ with_pages v (pairs_of (held_from 0 new))
+  pub claimed-next : (v w w' : Known slots) (fs new : List (Frame slots)) (f : Frame slots) → Takes v w (pairs_of (held_from 0 fs)) None → w' ≡ page_claimed w (length fs) f → new ≡ fs ++ f ∷ [] → Takes v w' (pairs_of (held_from 0 new)) None
   claimed-next v w w' fs new f e claimed more =
       let at : 0 + length fs ≡ length fs = omega arith in
       claimed-more v w w' (held_from 0 fs) (held_from 0 new) (length fs) f e claimed

@@ -20,9 +20,9 @@ use Rattle.shared_store.specs.declared.answers.StepRefusal.{StepRefusal}
 use Rattle.shared_store.specs.declared.answers.StepRefusal.TheVariants.{Again, Stopped}
 use Rattle.shared_store.specs.declared.refused.Refused.{Refused}
 use Rattle.shared_store.specs.Passes.{Known, AreMarked}
-use Rattle.shared_store.specs.Acts.{Acts, IsToDrop}
+use Rattle.shared_store.specs.Acts.{Acts, IsToDrop, Takes}
 use Rattle.shared_store.specs.Calls.{GoesOnAs, DoesStepOn, entered_by_step, marked_by_step, found_by_step, refused_by_step, has_after_step}
-use Rattle.shared_store.specs.Holding.{HasJournal, pairs_of, with_pages}
+use Rattle.shared_store.specs.Holding.{HasJournal, pairs_of}
 use Rattle.shared_store.proofs.Acting.{acts-found, to-drop}
 use Rattle.shared_store.proofs.Goings.{found-log, marked-joined, truth-some}
 use Rattle.shared_store.proofs.Replies.{marked-disk}
@@ -62,7 +62,7 @@ step-stopped {D} slots j client f failed legal = record {
 -- ---- another pass had a word
 
 module _ (client : ℕ) (r : StepRefusal) (word seat : ℕ) (again : r ≡ Again word seat) where
-  pub again-step : {D : Type 0} (slots : ℕ) (v w : Known slots) (j : LoggedView D) (held : List (HeldFrame slots)) → w ≡ met (with_pages v (pairs_of held)) word seat → IsAnother v seat → AreOnce held → AreHeldOf j.journal held
+  pub again-step : {D : Type 0} (slots : ℕ) (v w : Known slots) (j : LoggedView D) (held : List (HeldFrame slots)) → Takes v w (pairs_of held) (Some (word, seat)) → IsAnother v seat → AreOnce held → AreHeldOf j.journal held
       → Acts slots v w j j held (entered_by_step client (Err r)) (marked_by_step (Err r)) (found_by_step (Err r))
   again-step slots v w j held is other once frames =
       subst (λ (x : StepRefusal). Acts slots v w j j held (entered_by_step client (Err x)) (marked_by_step (Err x)) (found_by_step (Err x))) (sym again) (acts-found slots v w j held word seat is other once frames)

@@ -2,6 +2,8 @@
 use Rattle.std.proofs.Common.{◌≡◌, ◌≢◌, ◌⊎◌, ℕ, ◌≤◌, Bool, true, false, List, Option, Some, None, Result, Ok, Err, refl, sym, ap, ◌∙◌, subst, inl, inr, arith}
 use Rattle.std.specs.Prelude.{◌↔◌, is_some, IfOk, IfSome, IsSome}
 use Rattle.disk_model.specs.declared.area.Area.{Area}
+use Rattle.disk_model.specs.Areas.{Bytes}
+use Rattle.disk_model.specs.Time.{LeavesOnlyImages}
 use Rattle.plain_model.specs.History.{IsLegal, end_of, least_active}
 use Rattle.cell_page.specs.declared.cell.Cell.{Cell as PageCell}
 use Rattle.core_store.specs.Limited.{is_past_limit}
@@ -10,12 +12,14 @@ use Rattle.logged_journal.specs.declared.upkeep.Upkeep.{Upkeep}
 use Rattle.logged_journal.specs.declared.upkeep.Upkeep.TheVariants as upkeep
 use Rattle.logged_journal.specs.View.{LoggedView, OnlyTakesRoom, history_of}
 use Rattle.logged_journal.specs.Calls.{KeepsDisk}
+use Rattle.logged_journal.specs.Opens.{OpensAfter}
 use Rattle.logged_journal.specs.Upkeep.{IsPastLogToClean, Cleans, Turns, TellsBusy, FailsUpkeep}
 use Rattle.latch_table.specs.declared.hold.Held.{Held}
 use Rattle.latch_table.specs.Holds.{IsAlone}
 use Rattle.latch_table.specs.Rule.{IsLater, KeepsEachOnce}
 use Rattle.journal_chronicle.specs.Steps.{entered_by_upkeep}
 use Rattle.journal_chronicle.specs.View.{account, notes_of}
+use Rattle.shared_store.specs.Calls.{Finds}
 use Rattle.shared_store.specs.Passes.{Known}
 use Rattle.shared_store.specs.Upkeep.{DoesCleanOn, DoesTurnOn, MakesClean, MakesTurn}
 
@@ -252,17 +256,20 @@ module _ {D : Type 0} (slots : ℕ) (faults : D → ℕ) (may_leave : D → Area
 
 -- ---- on the journal that the pass claimed
 
--- what the pass knew of it
-pub record KnewOf {D : Type 0} (slots : ℕ) (v : Known slots) (j : LoggedView D) : Type 0 where
+-- what the pass knew of it, and keeps of it
+pub record KnewOf {D : Type 0} (slots : ℕ) (v z : Known slots) (j : LoggedView D) : Type 0 where
   pub later : IsLater (account D slots) v j
   pub covered : IsAlone v → KeepsEachOnce (notes_of j) v.knowledge.entries
+  pub found : Finds v z j
 
-pub makes-clean : {D : Type 0} (slots : ℕ) (faults : D → ℕ) (may_leave : D → Area → List ℕ → Type 0) (v w : Known slots) (j k : LoggedView D) (page : ℕ) (r : Result Upkeep Held) → v ≡ w → KnewOf slots v j → IfOk r (λ u. DoesCleanOn slots faults may_leave j k page u)
-    → IfOk r (λ u. MakesClean D slots faults may_leave w page u)
-makes-clean {D} slots faults may_leave v w j k page (Ok u) same knew made = let n = subst (λ (x : Known slots). KnewOf slots x j) same knew in record { before = j; after = k; later = n.later; covered = n.covered; made = made }
-makes-clean slots faults may_leave v w j k page (Err h) same knew made = tt
+pub makes-clean : {D : Type 0} (slots : ℕ) (faults : D → ℕ) (may_leave : D → Area → List ℕ → Type 0) (moment : D → ℕ) (left_since : D → ℕ → Bytes → Type 0) (v w z : Known slots) (j k : LoggedView D) (page : ℕ) (r : Result Upkeep Held) → v ≡ w → KnewOf slots v z j
+    → IfOk r (λ u. DoesCleanOn slots faults may_leave j k page u) → IfOk r (λ _. LeavesOnlyImages moment left_since j.disk k.disk (OpensAfter slots (history_of j))) → IfOk r (λ u. MakesClean D slots faults may_leave moment left_since w z page u)
+makes-clean {D} slots faults may_leave moment left_since v w z j k page (Ok u) same knew made opens =
+    let n = subst (λ (x : Known slots). KnewOf slots x z j) same knew in record { before = j; after = k; later = n.later; covered = n.covered; found = n.found; made = made; opens = opens }
+makes-clean slots faults may_leave moment left_since v w z j k page (Err h) same knew made opens = tt
 
-pub makes-turn : {D : Type 0} (slots : ℕ) (faults : D → ℕ) (may_leave : D → Area → List ℕ → Type 0) (v w : Known slots) (j k : LoggedView D) (r : Result Upkeep Held) → v ≡ w → KnewOf slots v j → IfOk r (λ u. DoesTurnOn slots faults may_leave j k u)
-    → IfOk r (λ u. MakesTurn D slots faults may_leave w u)
-makes-turn {D} slots faults may_leave v w j k (Ok u) same knew made = let n = subst (λ (x : Known slots). KnewOf slots x j) same knew in record { before = j; after = k; later = n.later; covered = n.covered; made = made }
-makes-turn slots faults may_leave v w j k (Err h) same knew made = tt
+pub makes-turn : {D : Type 0} (slots : ℕ) (faults : D → ℕ) (may_leave : D → Area → List ℕ → Type 0) (moment : D → ℕ) (left_since : D → ℕ → Bytes → Type 0) (v w z : Known slots) (j k : LoggedView D) (r : Result Upkeep Held) → v ≡ w → KnewOf slots v z j
+    → IfOk r (λ u. DoesTurnOn slots faults may_leave j k u) → IfOk r (λ _. LeavesOnlyImages moment left_since j.disk k.disk (OpensAfter slots (history_of j))) → IfOk r (λ u. MakesTurn D slots faults may_leave moment left_since w z u)
+makes-turn {D} slots faults may_leave moment left_since v w z j k (Ok u) same knew made opens =
+    let n = subst (λ (x : Known slots). KnewOf slots x z j) same knew in record { before = j; after = k; later = n.later; covered = n.covered; found = n.found; made = made; opens = opens }
+makes-turn slots faults may_leave moment left_since v w z j k (Err h) same knew made opens = tt

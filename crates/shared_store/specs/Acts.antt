@@ -1,12 +1,13 @@
 -- What is done while a pass has the log word.
 use Rattle.std.specs.Prelude.{◌≡◌, ℕ, Bool, true, false, List, Option, Some, None, IfSome}
 use Rattle.plain_model.specs.declared.calls.Entry.{Entry}
+use Rattle.core_store.specs.declared.frame.Frame.{Frame}
 use Rattle.core_store.specs.declared.three.HeldFrame.{HeldFrame}
 use Rattle.core_store.specs.Frames.{AreOnce, is_held, pages_held}
 use Rattle.framed_journal.specs.Holding.{AreHeldOf}
 use Rattle.logged_journal.specs.View.{LoggedView}
 use Rattle.latch_table.specs.Account.{Marks}
-use Rattle.latch_table.specs.Views.{met}
+use Rattle.latch_table.specs.Views.{met, with_claims}
 use Rattle.latch_table.specs.Holds.{IsAnother}
 use Rattle.latch_table.specs.Rule.{IsInHand}
 use Rattle.latch_table.specs.Steps.{IsNext}
@@ -20,12 +21,16 @@ abbrev pub met_if : {slots : ℕ} → Known slots → Option (ℕ × ℕ) → Kn
 met_if v None = v
 met_if v (Some f) = met v f.0 f.1
 
+-- the hold made claims besides, has these pages in hand, and found this number in a word, if one
+abbrev pub Takes : {slots : ℕ} → Known slots → Known slots → List (ℕ × Frame slots) → Option (ℕ × ℕ) → Type 0
+Takes old new pages found = (claims : List (Option ℕ × ℕ)) × (new ≡ met_if (with_pages (with_claims old claims) pages) found)
+
 -- Of a hold with the log word: it claimed pages, of which these frames are held now, and the journal went on from the first to
 -- the second with this entry and mark, if any. Or it found this number in a word.
 pub record Acts {D : Type 0} (slots : ℕ) (old new : Known slots) (before after : LoggedView D) (held : List (HeldFrame slots)) (entered : Option Entry) (marked : Marks) (found : Option (ℕ × ℕ)) : Type 0 where
   -- the frames as they were claimed
   pub first : List (HeldFrame slots)
-  pub view : new ≡ met_if (with_pages old (pairs_of first)) found
+  pub view : Takes old new (pairs_of first) found
   pub another : IfSome found (λ f. IsAnother old f.1)
   pub pages : pages_held held ≡ pages_held first
   pub once : AreOnce held

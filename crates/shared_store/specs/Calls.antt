@@ -1,5 +1,9 @@
 -- What calls of a pass do.
 use Rattle.std.specs.Prelude.{◌≡◌, ◌≢◌, ◌⊎◌, ◌↔◌, ℕ, ◌+◌, ◌≤◌, Bool, true, false, List, [], ◌∷◌, ◌++◌, length, Option, Some, None, Result, Ok, Err, IfSome, IsSome, IfOk}
+use Rattle.std.specs.List.{Contains}
+use Rattle.disk_model.specs.Areas.{Bytes}
+use Rattle.disk_model.specs.Causes.{Rose}
+use Rattle.disk_model.specs.Time.{LeavesOnlyImages}
 use Rattle.plain_model.specs.declared.calls.Call.{Call as TransactionCall}
 use Rattle.plain_model.specs.declared.calls.Call.TheVariants.{Commit}
 use Rattle.plain_model.specs.declared.calls.Reply.{Reply}
@@ -15,17 +19,19 @@ use Rattle.core_store.specs.declared.collect.Collect.{Collect}
 use Rattle.core_store.specs.declared.collect.Collect.TheVariants as collect
 use Rattle.core_store.specs.JournalView.{core_of, opening_of}
 use Rattle.core_store.specs.Leads.{AreLed}
+use Rattle.core_store.specs.Limited.{pages_for_call}
 use Rattle.logged_journal.specs.declared.upkeep.Upkeep.{Upkeep}
 use Rattle.logged_journal.specs.declared.upkeep.Upkeep.TheVariants as upkeep
+use Rattle.logged_journal.specs.Opens.{OpensDuring}
 use Rattle.logged_journal.specs.View.{KeepsLog, LoggedView, history_of}
 use Rattle.logged_journal.specs.Calls.{IsOfJournal, IsGranted, IsPastLog, DoesCall, GoesOn, FailsCommit, DoesAbortStep, KeepsDisk}
 use Rattle.framed_journal.specs.Steps.{CollectsNext, CollectsOnFrames, FillsLog}
 use Rattle.latch_table.specs.Account.{Marks}
-use Rattle.latch_table.specs.Views.{KeepMarks, no_marks}
+use Rattle.latch_table.specs.Views.{KeepMarks, no_marks, story}
 use Rattle.latch_table.specs.Holds.{HasNone, IsAlone, IsAnother}
 use Rattle.latch_table.specs.Rule.{IsLater, KeepsEachOnce}
 use Rattle.journal_chronicle.specs.Steps.{entered_by_abort_step, entered_by_collect_step, marked_by_collect_step, disk_mark, log_mark}
-use Rattle.journal_chronicle.specs.View.{account, has_transaction, history_after, notes_of, origin_of}
+use Rattle.journal_chronicle.specs.View.{account, has_transaction, history_after, marks_of, notes_of, origin_of}
 use Rattle.shared_store.specs.declared.answers.StepRefusal.{StepRefusal}
 use Rattle.shared_store.specs.declared.answers.StepRefusal.TheVariants as step
 use Rattle.shared_store.specs.declared.answers.CollectRefusal.{CollectRefusal}
@@ -105,6 +111,16 @@ refused_by_upkeep _ r = r
 
 -- ---- the journal as a call found it and left it
 
+-- the journal is sound, and as its notes give it, with the history that they give
+pub record WasNoted {D : Type 0} (slots : ℕ) (v : LoggedView D) : Type 0 where
+  pub sound : IsSound (core_of v.journal)
+  pub led : AreLed slots (opening_of v.journal) v.journal.notes (core_of v.journal)
+  pub history : history_after slots (origin_of v) (notes_of v) ≡ history_of v
+
+-- the pass keeps the notes and the marks of this journal besides, and by the table's rule those are the store's
+abbrev pub Finds : {D : Type 0} {slots : ℕ} → Known slots → Known slots → LoggedView D → Type 0
+Finds old new before = new.knowledge.stories ≡ old.knowledge.stories ++ story (notes_of before) (marks_of before) ∷ []
+
 -- the journal does the call of this client and answers so
 pub record DoesCallOn {D : Type 0} (slots : ℕ) (faults : D → ℕ) (before after : LoggedView D) (client : ℕ) (c : TransactionCall) (result : Reply) : Type 0 where
   pub legal : IsLegal (history_of after)
@@ -122,14 +138,30 @@ pub record DoesCallOn {D : Type 0} (slots : ℕ) (faults : D → ℕ) (before af
   pub fault : result ≡ reply.DiskFault → FailsCommit faults before after client c
   pub later : faults before.disk ≤ faults after.disk
 
--- The call was made on a journal of which all holds that the pass knew, and this is what the journal did. A pass that is alone
--- keeps each note of it, once
-pub record MakesCall (D : Type 0) (slots : ℕ) (faults : D → ℕ) (old : Known slots) (c : TransactionCall) (result : Reply) : Type 0 where
+-- The call was made on the store's journal as it was found, of which all holds that the pass knew, and this is what the journal
+-- did. A pass that is alone keeps each note of it, once. Where the disk failed no call before, each image that a power loss
+-- leaves meanwhile opens
+pub record MakesCall (D : Type 0) (slots : ℕ) (faults : D → ℕ) (moment : D → ℕ) (left_since : D → ℕ → Bytes → Type 0) (old new : Known slots) (c : TransactionCall) (result : Reply) : Type 0 where
   pub before : LoggedView D
   pub after : LoggedView D
   pub later : IsLater (account D slots) old before
   pub covered : IsAlone old → KeepsEachOnce (notes_of before) old.knowledge.entries
+  pub found : Finds old new before
+  pub noted : WasNoted slots before
+  -- the count that a failed call left is above that of the opening
+  pub counted : IfSome before.failed (λ f. Rose before.opened f.faults)
   pub made : DoesCallOn slots faults before after old.station.name c result
+  pub opens : before.failed ≡ None → LeavesOnlyImages moment left_since before.disk after.disk (OpensDuring slots before old.station.name c)
+
+-- The page is one that the call needs, made on the store's journal as it was found: that of its object, of what the slot holds, or
+-- of what the slot is to hold
+pub record NeedsPage (D : Type 0) (slots : ℕ) (old new : Known slots) (c : TransactionCall) (page : ℕ) : Type 0 where
+  pub before : LoggedView D
+  pub later : IsLater (account D slots) old before
+  pub found : Finds old new before
+  pub noted : WasNoted slots before
+  pub running : before.failed ≡ None
+  pub needed : Contains (pages_for_call before.journal old.station.name c) page
 
 -- ---- steps of an abort, steps of the collector
 

@@ -1,5 +1,5 @@
 -- A store whose first hold stays the only one, and has all words between calls.
-use Rattle.std.specs.Prelude.{◌≡◌, ℕ, ◌≤◌, List, length}
+use Rattle.std.specs.Prelude.{◌≡◌, ℕ, ◌≤◌, List, length, None}
 use Rattle.cell_page.specs.Format.{IsSlotCount}
 use Rattle.core_store.specs.declared.note.Note.{Note}
 use Rattle.core_store.specs.declared.frame.Frame.{Frame}
@@ -10,7 +10,8 @@ use Rattle.latch_table.specs.Holds.{TableView, HoldView, IsAlone}
 use Rattle.framed_journal.specs.Holding.{AreHeldOf}
 use Rattle.journal_chronicle.specs.View.{Origin}
 use Rattle.shared_store.specs.Passes.{Known}
-use Rattle.shared_store.specs.Holding.{HasJournal, pairs_of, with_pages}
+use Rattle.shared_store.specs.Acts.{Takes}
+use Rattle.shared_store.specs.Holding.{HasJournal, pairs_of}
 
 -- the held frames are those of all pages of the journal's store, of which there are so many, each once
 pub record HoldsEach {D : Type 0} (slots pages : ℕ) (j : LoggedView D) (held : List (HeldFrame slots)) : Type 0 where
@@ -21,7 +22,7 @@ pub record HoldsEach {D : Type 0} (slots pages : ℕ) (j : LoggedView D) (held :
 
 -- the hold claimed all pages, and these are their frames
 pub record TakesAll {D : Type 0} (slots pages : ℕ) (old new : Known slots) (j : LoggedView D) (held : List (HeldFrame slots)) : Type 0 where
-  pub view : new ≡ with_pages old (pairs_of held)
+  pub view : Takes old new (pairs_of held) None
   pub each : HoldsEach slots pages j held
 
 -- The hold is that of the store, which has a page, and no other is out. It has all words: the journal and the frames of all pages

@@ -1,6 +1,8 @@
 -- What upkeep of a pass does: it cleans a page, or turns the log.
 use Rattle.std.specs.Prelude.{◌≡◌, ◌≢◌, ◌⊎◌, ◌↔◌, ℕ, ◌+◌, ◌<◌, ◌≤◌, true, false, List, [], ◌∷◌, Option, Some, None, Result, Ok, Err, IfSome, IsSome}
 use Rattle.disk_model.specs.declared.area.Area.{Area}
+use Rattle.disk_model.specs.Areas.{Bytes}
+use Rattle.disk_model.specs.Time.{LeavesOnlyImages}
 use Rattle.disk_model.specs.Told.{EachImage}
 use Rattle.plain_model.specs.declared.calls.Entry.{Entry}
 use Rattle.plain_model.specs.History.{IsLegal, end_of, least_active}
@@ -11,6 +13,7 @@ use Rattle.core_store.specs.JournalView.{cells_of}
 use Rattle.core_store.specs.Limited.{is_past_limit}
 use Rattle.logged_journal.specs.declared.upkeep.Upkeep.{Upkeep}
 use Rattle.logged_journal.specs.declared.upkeep.Upkeep.TheVariants as upkeep
+use Rattle.logged_journal.specs.Opens.{OpensAfter}
 use Rattle.logged_journal.specs.View.{LoggedView, OnlyTakesRoom, bytes_counted, history_of}
 use Rattle.logged_journal.specs.Upkeep.{IsPastLogToClean, IsTurned, Turns, TellsBusy, FailsUpkeep}
 use Rattle.framed_journal.specs.Upkeep.{CleansPage}
@@ -22,7 +25,7 @@ use Rattle.latch_table.specs.Rule.{IsLater, KeepsEachOnce}
 use Rattle.journal_chronicle.specs.Steps.{entered_by_upkeep, marked_by_upkeep}
 use Rattle.journal_chronicle.specs.View.{account, notes_of}
 use Rattle.shared_store.specs.declared.refused.Refused.{Refused}
-use Rattle.shared_store.specs.Calls.{refused_by_upkeep}
+use Rattle.shared_store.specs.Calls.{Finds, refused_by_upkeep}
 use Rattle.shared_store.specs.Passes.{Known}
 
 -- ---- answers
@@ -66,13 +69,15 @@ pub record DoesCleanOn {D : Type 0} (slots : ℕ) (faults : D → ℕ) (may_leav
   pub later : faults before.disk ≤ faults after.disk
 
 -- The page was cleaned on a journal of which all holds that the pass knew, and this is what the journal did. A pass that is alone
--- keeps each note of it, once
-pub record MakesClean (D : Type 0) (slots : ℕ) (faults : D → ℕ) (may_leave : D → Area → List ℕ → Type 0) (old : Known slots) (page : ℕ) (result : Upkeep) : Type 0 where
+-- keeps each note of it, once. Each image that a power loss leaves meanwhile opens
+pub record MakesClean (D : Type 0) (slots : ℕ) (faults : D → ℕ) (may_leave : D → Area → List ℕ → Type 0) (moment : D → ℕ) (left_since : D → ℕ → Bytes → Type 0) (old new : Known slots) (page : ℕ) (result : Upkeep) : Type 0 where
   pub before : LoggedView D
   pub after : LoggedView D
   pub later : IsLater (account D slots) old before
   pub covered : IsAlone old → KeepsEachOnce (notes_of before) old.knowledge.entries
+  pub found : Finds old new before
   pub made : DoesCleanOn slots faults may_leave before after page result
+  pub opens : LeavesOnlyImages moment left_since before.disk after.disk (OpensAfter slots (history_of before))
 
 -- the journal turns its log, or refuses to, and answers so; where it was done, each image of the disk has every page in place and
 -- names the other log area
@@ -94,10 +99,12 @@ pub record DoesTurnOn {D : Type 0} (slots : ℕ) (faults : D → ℕ) (may_leave
   pub later : faults before.disk ≤ faults after.disk
 
 -- The log was turned on a journal of which all holds that the pass knew, and this is what the journal did. A pass that is alone
--- keeps each note of it, once
-pub record MakesTurn (D : Type 0) (slots : ℕ) (faults : D → ℕ) (may_leave : D → Area → List ℕ → Type 0) (old : Known slots) (result : Upkeep) : Type 0 where
+-- keeps each note of it, once. Each image that a power loss leaves meanwhile opens
+pub record MakesTurn (D : Type 0) (slots : ℕ) (faults : D → ℕ) (may_leave : D → Area → List ℕ → Type 0) (moment : D → ℕ) (left_since : D → ℕ → Bytes → Type 0) (old new : Known slots) (result : Upkeep) : Type 0 where
   pub before : LoggedView D
   pub after : LoggedView D
   pub later : IsLater (account D slots) old before
   pub covered : IsAlone old → KeepsEachOnce (notes_of before) old.knowledge.entries
+  pub found : Finds old new before
   pub made : DoesTurnOn slots faults may_leave before after result
+  pub opens : LeavesOnlyImages moment left_since before.disk after.disk (OpensAfter slots (history_of before))

@@ -1,12 +1,16 @@
 //! The calls of a client.
-ghost use Rattle.std.specs.Prelude.{◌≡◌, ◌↔◌, ℕ, [], true, false, unwrap_or, None, IsSome};
+ghost use Rattle.std.specs.Prelude.{◌≡◌, ◌⊎◌, ◌↔◌, ℕ, Contains, [], true, false, unwrap_or, None, IfSome, IsSome};
+ghost use Rattle.disk_model.specs.Causes.{Rose};
+ghost use Rattle.disk_model.specs.Time.{LeavesOnlyImages};
 ghost use Rattle.plain_model.specs.Machine.{IsInRange};
+ghost use Rattle.core_store.specs.Limited.{pages_for_call};
+ghost use Rattle.logged_journal.specs.Opens.{OpensDuring};
 ghost use Rattle.journal_chronicle.specs.Clients.{begins_or_ends};
 ghost use Rattle.journal_chronicle.specs.Steps.{entered_by_call, marked_by_call};
 ghost use Rattle.journal_chronicle.specs.View.{has_transaction, notes_of};
 ghost use Rattle.shared_store.specs.Passes.{IsClient};
 ghost use Rattle.shared_store.specs.Acts.{Acts};
-ghost use Rattle.shared_store.specs.Calls.{GoesOnAs, DoesCallOn, MakesCall, found_by_call, refused_by_call};
+ghost use Rattle.shared_store.specs.Calls.{GoesOnAs, DoesCallOn, MakesCall, NeedsPage, WasNoted, found_by_call, refused_by_call};
 ghost use Rattle.shared_store.specs.Holding.{HasJournal};
 
 use crate::counting::count_call;
@@ -85,10 +89,15 @@ impl<const SLOTS: usize, D: Disk> Store<SLOTS, D> {
         requires no_abort { call.now ≡ Call.Abort → has_transaction (notes_of journal.old) client ≡ false }
         ensures of { hold.new.table ≡ self.now.table }
         ensures acts { Acts SLOTS hold.old.view hold.new.view journal.old journal.new held.new (entered_by_call client call.now result) (marked_by_call result) (found_by_call result) }
+        ensures noted { WasNoted SLOTS journal.old }
+        ensures counted { IfSome journal.old.failed (λ f. Rose journal.old.opened f.faults) }
         ensures made { found_by_call result ≡ None → DoesCallOn SLOTS D.faults journal.old journal.new client call.now result }
+        ensures opens { journal.old.failed ≡ None → found_by_call result ≡ None → LeavesOnlyImages D.moment D.left_since journal.old.disk journal.new.disk (OpensDuring SLOTS journal.old client call.now) }
+        ensures again { (word seat : ℕ) → result ≡ Reply.Again word seat → (journal.old.failed ≡ None) × Contains (pages_for_call journal.old.journal client call.now) word }
     {
         let _ = &self.latches;
         journal.know_history();
+        let _ = journal.logged().journal().history();
         if let Some(failed) = journal.logged().failed() {
             return Reply::Stopped {
                 faults: failed.faults,
@@ -104,7 +113,8 @@ impl<const SLOTS: usize, D: Disk> Store<SLOTS, D> {
     }
 
     /// Does the call of the pass's client, and answers what its entry says. The pass keeps that entry, at a place that isn't
-    /// below what it had seen. It doesn't wait: `Reply::Again` names a word that another pass has, and then nothing was done.
+    /// below what it had seen. It doesn't wait: `Reply::Again` names a word that another pass has, the log's or that of a page
+    /// that the call needs, and then nothing was done.
     ///
     /// The call is made on the journal as some moment of this call finds it, under the log word and those of the pages on which
     /// it works; there each answer has its cause.
@@ -116,7 +126,8 @@ impl<const SLOTS: usize, D: Disk> Store<SLOTS, D> {
         ensures of { pass.new.table ≡ self.now.table }
         ensures knows { GoesOnAs pass.old.view pass.new.view (entered_by_call pass.old.view.station.name call.now result) (found_by_call result) }
         ensures refused { pass.new.refused ≡ refused_by_call result pass.old.refused }
-        ensures made { found_by_call result ≡ None → MakesCall D SLOTS D.faults pass.old.view call.now result }
+        ensures made { found_by_call result ≡ None → MakesCall D SLOTS D.faults D.moment D.left_since pass.old.view pass.new.view call.now result }
+        ensures again { (word seat : ℕ) → result ≡ Reply.Again word seat → (word ≡ self.now.pages) ⊎ NeedsPage D SLOTS pass.old.view pass.new.view call.now word }
     {
         let mut journal = match self.latches.claim_log(&mut pass.hold) {
             Ok(journal) => journal,

@@ -1,5 +1,5 @@
 //! Which pages a call claims, and how they are dropped.
-ghost use Rattle.std.specs.Prelude.{◌≡◌, List, [], ◌∷◌, ◌++◌, None, IfOk, IfErr};
+ghost use Rattle.std.specs.Prelude.{◌≡◌, Contains, List, [], ◌∷◌, ◌++◌, None, Some, IfOk, IfErr};
 ghost use Rattle.core_store.specs.Frames.{AreOnce, IsNext, pages_held};
 ghost use Rattle.core_store.specs.JournalView.{cells_of};
 ghost use Rattle.core_store.specs.Logged.{want_of};
@@ -9,6 +9,7 @@ ghost use Rattle.latch_table.specs.Views.{met, no_marks, page_claimed};
 ghost use Rattle.latch_table.specs.Holds.{IsAnother};
 ghost use Rattle.journal_chronicle.specs.Steps.{GoesOnWith, no_page};
 ghost use Rattle.framed_journal.specs.Holding.{AreHeldOf};
+ghost use Rattle.shared_store.specs.Acts.{Takes};
 ghost use Rattle.shared_store.specs.Holding.{HasJournal, pairs_of, with_pages};
 
 use crate::store::Store;
@@ -34,6 +35,7 @@ impl<const SLOTS: usize, D: Disk> Store<SLOTS, D> {
         ensures held { AreHeldOf journal.now.journal held.new }
         ensures once { AreOnce held.old → AreOnce held.new }
         ensures ok { IfOk result (λ _. (frame : Frame SLOTS) × (held.new ≡ held.old ++ record { page = page; frame = frame } ∷ []) × (hold.new.view ≡ page_claimed hold.old.view page frame)) }
+        ensures word { IfErr result (λ h. h.word ≡ page) }
         ensures met { IfErr result (λ h. (held.new ≡ held.old) × IsAnother hold.old.view h.seat × (hold.new.view ≡ met hold.old.view h.word h.seat)) }
     {
         journal.know_frames();
@@ -58,8 +60,9 @@ impl<const SLOTS: usize, D: Disk> Store<SLOTS, D> {
         ensures held { AreHeldOf journal.now.journal held.new }
         ensures once { AreOnce held.new }
         ensures ready { IfOk result (λ _. want_of (pages_of_work (cells_of journal.now.journal) work) (pages_held held.new) ≡ Want.Ready) }
-        ensures ok { IfOk result (λ _. hold.new.view ≡ with_pages hold.old.view (pairs_of held.new)) }
-        ensures met { IfErr result (λ h. IsAnother hold.old.view h.seat × (hold.new.view ≡ met (with_pages hold.old.view (pairs_of held.new)) h.word h.seat)) }
+        ensures needed { IfErr result (λ h. Contains (pages_of_work (cells_of journal.now.journal) work) h.word) }
+        ensures ok { IfOk result (λ _. Takes hold.old.view hold.new.view (pairs_of held.new) None) }
+        ensures met { IfErr result (λ h. IsAnother hold.old.view h.seat × Takes hold.old.view hold.new.view (pairs_of held.new) (Some (h.word, h.seat))) }
     {
         let _ = &self.latches;
         'pages: while let Want::Page(page) = journal.logged().journal().wants_for(work, held) {
@@ -86,8 +89,8 @@ impl<const SLOTS: usize, D: Disk> Store<SLOTS, D> {
         ensures looks { OnlyLooks SLOTS journal.old.journal journal.new.journal }
         ensures same { journal.new ≡ record journal.old { journal = journal.new.journal } }
         ensures chronicle { GoesOnWith SLOTS no_page journal.old journal.new None no_marks }
-        ensures ok { IfOk result (λ _. hold.new.view ≡ with_pages hold.old.view (pairs_of held.new)) }
-        ensures met { IfErr result (λ h. IsAnother hold.old.view h.seat × (hold.new.view ≡ met (with_pages hold.old.view (pairs_of held.new)) h.word h.seat)) }
+        ensures ok { IfOk result (λ _. Takes hold.old.view hold.new.view (pairs_of held.new) None) }
+        ensures met { IfErr result (λ h. IsAnother hold.old.view h.seat × Takes hold.old.view hold.new.view (pairs_of held.new) (Some (h.word, h.seat))) }
     {
         let _ = &self.latches;
         'pages: loop {

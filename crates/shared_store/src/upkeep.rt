@@ -1,5 +1,5 @@
 //! Upkeep: pages are cleaned, and the log is turned.
-ghost use Rattle.std.specs.Prelude.{◌≡◌, ◌↔◌, ℕ, ◌<◌, ◌≤◌, [], ◌∷◌, ◌++◌, true, length, vec_len, vec_capacity, None, IfOk, IfErr, IsSome};
+ghost use Rattle.std.specs.Prelude.{◌≡◌, ◌↔◌, ℕ, ◌<◌, ◌≤◌, [], ◌∷◌, ◌++◌, true, length, vec_len, vec_capacity, None, Some, IfOk, IfErr, IsSome};
 ghost use Rattle.disk_model.specs.Time.{LeavesOnlyImages};
 ghost use Rattle.core_store.specs.Frames.{AllAgree};
 ghost use Rattle.core_store.specs.JournalView.{cells_of};
@@ -8,7 +8,7 @@ ghost use Rattle.logged_journal.specs.Records.{MayHaveAll};
 ghost use Rattle.logged_journal.specs.View.{history_of};
 ghost use Rattle.latch_table.specs.Views.{met, page_claimed};
 ghost use Rattle.latch_table.specs.Holds.{IsAnother};
-ghost use Rattle.shared_store.specs.Acts.{Acts};
+ghost use Rattle.shared_store.specs.Acts.{Acts, Takes};
 ghost use Rattle.shared_store.specs.Calls.{GoesOnAs};
 ghost use Rattle.shared_store.specs.Holding.{HasJournal, pairs_of, with_pages};
 ghost use Rattle.shared_store.specs.Upkeep.{DoesCleanOn, DoesTurnOn, MakesClean, MakesTurn, entered_by_upkeep_of, marked_by_upkeep_of, found_by_upkeep, refused_by_upkeep_of, held_from};
@@ -94,7 +94,7 @@ impl<const SLOTS: usize, D: Disk> Store<SLOTS, D> {
         ensures of { pass.new.table ≡ self.now.table }
         ensures knows { GoesOnAs pass.old.view pass.new.view (entered_by_upkeep_of result) (found_by_upkeep result) }
         ensures refused { pass.new.refused ≡ refused_by_upkeep_of result pass.old.refused }
-        ensures made { IfOk result (λ u. MakesClean D SLOTS D.faults D.may_leave pass.old.view page u) }
+        ensures made { IfOk result (λ u. MakesClean D SLOTS D.faults D.may_leave D.moment D.left_since pass.old.view pass.new.view page u) }
     {
         let mut journal = match self.latches.claim_log(&mut pass.hold) {
             Ok(journal) => journal,
@@ -150,8 +150,8 @@ impl<const SLOTS: usize, D: Disk> Store<SLOTS, D> {
         ensures of { hold.new.table ≡ self.now.table }
         ensures agree { AllAgree (cells_of journal.now.journal) frames.new.items }
         ensures few { length frames.new.items ≤ 1024 }
-        ensures ok { IfOk result (λ _. (length frames.new.items ≡ pages) × (hold.new.view ≡ with_pages hold.old.view (pairs_of (held_from 0 frames.new.items)))) }
-        ensures met { IfErr result (λ h. IsAnother hold.old.view h.seat × (hold.new.view ≡ met (with_pages hold.old.view (pairs_of (held_from 0 frames.new.items))) h.word h.seat)) }
+        ensures ok { IfOk result (λ _. (length frames.new.items ≡ pages) × Takes hold.old.view hold.new.view (pairs_of (held_from 0 frames.new.items)) None) }
+        ensures met { IfErr result (λ h. IsAnother hold.old.view h.seat × Takes hold.old.view hold.new.view (pairs_of (held_from 0 frames.new.items)) (Some (h.word, h.seat))) }
     {
         let _ = &self.latches;
         'pages: for _ in 0..pages {
@@ -222,7 +222,7 @@ impl<const SLOTS: usize, D: Disk> Store<SLOTS, D> {
         ensures of { pass.new.table ≡ self.now.table }
         ensures knows { GoesOnAs pass.old.view pass.new.view (entered_by_upkeep_of result) (found_by_upkeep result) }
         ensures refused { pass.new.refused ≡ refused_by_upkeep_of result pass.old.refused }
-        ensures made { IfOk result (λ u. MakesTurn D SLOTS D.faults D.may_leave pass.old.view u) }
+        ensures made { IfOk result (λ u. MakesTurn D SLOTS D.faults D.may_leave D.moment D.left_since pass.old.view pass.new.view u) }
     {
         let mut journal = match self.latches.claim_log(&mut pass.hold) {
             Ok(journal) => journal,

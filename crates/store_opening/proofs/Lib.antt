@@ -7,3 +7,4 @@ pub mod PageLaws
 pub mod StoreLaws
 pub mod ReplayLaws
 pub mod OnceLaws
+pub mod FinalLaws

@@ -6,4 +6,5 @@ pub mod Walked
 pub mod Found
 pub mod Loaded
 pub mod Replayed
+pub mod Room
 pub mod Store

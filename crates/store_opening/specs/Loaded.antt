@@ -1,5 +1,5 @@
 -- The pages of a store before its log is done to them.
-use Rattle.std.specs.Prelude.{◌≡◌, ℕ, ◌<◌, ◌≤◌, List, [], length, slice_index, slice_index_or, Result, Err}
+use Rattle.std.specs.Prelude.{◌≡◌, ℕ, ◌<◌, ◌≤◌, List, [], length, slice_index, slice_index_or, Result, Err, IfErr, ⊤}
 use Rattle.disk_model.specs.Causes.{Rose}
 use Rattle.cell_page.specs.declared.cell.Cell.{Cell}
 use Rattle.cell_page.specs.Format.{AreTyped, Spells}
@@ -28,7 +28,13 @@ pub record IsFirstDamaged (slots : ℕ) (images : List ℕ) (page at : ℕ) (are
   pub here : IsDamagedAt slots page at area
   pub lower : (p place : ℕ) → p < page → slice_index images p ≡ 0 → IsDamagedAt slots p place area → ⊥
 
--- a refusal `Disk` comes only where the disk's count of faults rose, and that never falls
+-- no call of the disk failed
+abbrev pub IsNoPagesFault : PagesRefusal → Type 0
+IsNoPagesFault Disk = ⊥
+IsNoPagesFault _ = ⊤
+
+-- The disk's count of faults never falls. It rose where the refusal is `Disk`, and is as before at each other answer.
 pub record HasPagesCause {T : Type 0} (before now : ℕ) (result : Result T PagesRefusal) : Type 0 where
   pub later : before ≤ now
   pub failed : result ≡ Err Disk → Rose before now
+  pub kept : IfErr result IsNoPagesFault → now ≡ before

@@ -6,11 +6,13 @@ ghost use Rattle.cell_page.specs.Format.{IsSlotCount};
 ghost use Rattle.gate_log.specs.OnDisk.{IsOn, IsRead, named_by};
 ghost use Rattle.gate_log.specs.State.{log_at};
 ghost use Rattle.gate_log.specs.declared.stage.Stage.TheVariants.{Standing};
+ghost use Rattle.log_replay.specs.Finishes.{AreNoneAwaited};
 ghost use Rattle.store_opening.specs.declared.refusal.ReadRefusal.TheVariants.{Disk as ReadDisk};
 ghost use Rattle.store_opening.specs.declared.open_refusal.OpenRefusal.TheVariants.{Disk, Memory};
 ghost use Rattle.store_opening.specs.declared.pages.PagesRefusal.TheVariants.{Disk as PagesDisk};
 ghost use Rattle.store_opening.specs.Looks.{IsLookedAt};
-ghost use Rattle.store_opening.specs.Refusals.{IsCaused};
+ghost use Rattle.store_opening.specs.Loaded.{IsNoPagesFault};
+ghost use Rattle.store_opening.specs.Refusals.{IsCaused, IsNoFault};
 ghost use Rattle.store_opening.specs.Store.{Reads, AreCellsFound, HasOpenCause};
 
 use crate::areas::{named_area, sync_areas};
@@ -28,7 +30,7 @@ use std::alloc::Global;
 
 /// The refusal of pages, as one of a walk. Its place tells nothing.
 fn of_pages(refusal: PagesRefusal) -> ReadRefusal
-    ensures { result ≡ ReadDisk → refusal ≡ PagesDisk }
+    ensures { (result ≡ ReadDisk → refusal ≡ PagesDisk) × (IsNoFault result → IsNoPagesFault refusal) }
 {
     match refusal {
         PagesRefusal::Disk => ReadRefusal::Disk,
@@ -54,6 +56,7 @@ fn replay_in_place<D: Disk, const SLOTS: usize>(
         → AreCellsFound D.may_leave SLOTS image found.replay found.marks found.log disk.new) }
     ensures on { IfOk result (λ found. (batches : List (List ℕ)) × IsOn D.may_leave found.log disk.new batches) }
     ensures as_many { IfOk result (λ found. length found.marks ≡ length found.replay.skips) }
+    ensures whole { IfOk result (λ found. AreNoneAwaited found.replay.skips) }
     ensures stands { IfOk result (λ found. (found.log.stage ≡ Standing) × (found.log.tail ≡ [])) }
     ensures looks { IsLookedAt D.content D.may_leave D.moment D.left_since disk.old disk.new }
     ensures cause { IsCaused (D.faults disk.old) (D.faults disk.new) result }
@@ -78,6 +81,9 @@ fn replay_in_place<D: Disk, const SLOTS: usize>(
     if let Err(refusal) = walk_log(&mut log, disk, &mut walk, spare) {
         return Err(refusal);
     }
+    if !walk.replay.has_all_images() {
+        return Err(ReadRefusal::Damaged { at: 0 });
+    }
     Ok(ReplayedLog {
         replay: walk.replay,
         log,
@@ -101,6 +107,7 @@ pub(crate) fn cells_at_once<D: Disk, const SLOTS: usize>(
         → AreCellsFound D.may_leave SLOTS image found.replay found.marks found.log disk.new)) }
     ensures on { IfOk result (λ done. IfSome done (λ found. (batches : List (List ℕ)) × IsOn D.may_leave found.log disk.new batches)) }
     ensures as_many { IfOk result (λ done. IfSome done (λ found. length found.marks ≡ length found.replay.skips)) }
+    ensures whole { IfOk result (λ done. IfSome done (λ found. AreNoneAwaited found.replay.skips)) }
     ensures stands { IfOk result (λ done. IfSome done (λ found. (found.log.stage ≡ Standing) × (found.log.tail ≡ []))) }
     ensures settled { OnOk result ((area : _) → IsSettled D.content D.may_leave disk.new area) }
     ensures refusals { IfErr result (λ e. (e ≡ Disk) ⊎ (e ≡ Memory)) }

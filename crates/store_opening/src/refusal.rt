@@ -1,6 +1,7 @@
 //! Why the log of a store isn't read.
-ghost use Rattle.std.specs.Prelude.{◌≡◌};
+ghost use Rattle.std.specs.Prelude.{◌≡◌, ℕ};
 ghost use Rattle.store_opening.specs.Refusals.{told};
+ghost use Rattle.gate_log.specs.declared.refusal.LogRefusal.TheVariants.{LogFull};
 ghost use Rattle.store_opening.specs.declared.refusal.ReadRefusal.TheVariants.{Memory};
 
 use gate_log::LogRefusal;
@@ -30,15 +31,16 @@ pub enum ReadRefusal {
     Memory,
 }
 
-/// The same refusal of a log that is read. It is never full.
+/// The same refusal of a log that is read, which is never full.
 pub(crate) fn told(refusal: LogRefusal) -> ReadRefusal
+    requires { (used : ℕ) → refusal ≡ LogFull used → ⊥ }
     ensures { result ≡ told refusal }
 {
     match refusal {
         LogRefusal::Disk => ReadRefusal::Disk,
         LogRefusal::Damaged { at } => ReadRefusal::Damaged { at },
-        LogRefusal::LogFull { .. } => ReadRefusal::Memory,
         LogRefusal::Memory => ReadRefusal::Memory,
+        LogRefusal::LogFull { .. } => unreachable!(),
     }
 }
 

@@ -8,7 +8,7 @@ ghost use Rattle.gate_log.specs.State.{log_at};
 ghost use Rattle.gate_log.specs.OnDisk.{IsRead};
 ghost use Rattle.log_replay.specs.Inside.{AreStorePages};
 ghost use Rattle.store_opening.specs.Looks.{IsLookedAt};
-ghost use Rattle.store_opening.specs.Store.{Reads, Refuses, IsStoreRead, HasOpenCause, refusal_of_log, refusal_of_pages};
+ghost use Rattle.store_opening.specs.Store.{Reads, Refuses, IsOfStore, IsFinal, IsStoreRead, HasOpenCause, refusal_of_log, refusal_of_pages};
 
 use crate::areas::{named_area, sync_areas};
 use crate::found::read_log;
@@ -71,9 +71,9 @@ fn refusal_of_pages(refusal: PagesRefusal) -> OpenRefusal
 /// Reads the log and the pages of the store that the disk holds, and does none of the log's records to the pages. The bodies
 /// of the log's batches take the memory of the spare one.
 ///
-/// Of a disk that is told, each refusal but [`OpenRefusal::Disk`] and [`OpenRefusal::Memory`] is what the four areas open
-/// to, and comes before any record of the log is tested on cells. [`OpenRefusal::Disk`] comes only where the disk's count
-/// of faults rose in this call. Nothing is written.
+/// Each refusal but [`OpenRefusal::Disk`] and [`OpenRefusal::Memory`] comes after all four areas were made to last, and is
+/// what the disk opens to then, whatever a power loss does. It comes before any record of the log is tested on cells.
+/// [`OpenRefusal::Disk`] comes only where the disk's count of faults rose in this call. Nothing is written.
 pub fn read_store<D: Disk, const SLOTS: usize>(
     alloc: Global,
     disk: &mut D,
@@ -83,6 +83,7 @@ pub fn read_store<D: Disk, const SLOTS: usize>(
     ensures read { IfOk result (λ store. (image : Bytes) → Reads D.content disk.old image
         → IsStoreRead D.may_leave SLOTS image store.pages.items store.images.items store.log disk.new) }
     ensures refused { (image : Bytes) → Reads D.content disk.old image → IfErr result (Refuses SLOTS image) }
+    ensures for_good { IfErr result (λ e. IsOfStore e → IsFinal D.content D.may_leave SLOTS disk.new e) }
     ensures pages { IfOk result (λ store. AreStorePages store.pages.items × (length store.images.items ≡ length store.pages.items)) }
     ensures stands { IfOk result (λ store. (store.log.stage ≡ Standing) × (store.log.area ≡ store.area)) }
     ensures first { IfOk result (λ store. IsRead D.content D.may_leave (log_at store.area) disk.new []) }

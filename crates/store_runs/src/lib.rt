@@ -1,27 +1,7 @@
-//! Runs of the store, of its audits and of the program's replay by their public calls, with the answers that were meant.
+//! A run of an opened store by its public calls: the lines that README.md and docs/EMBEDDING.md show to whoever embeds it.
 //!
-//! They stand apart from those crates, so that each of these is proved once, without its runs.
+//! It stands apart from those crates, so that each of these is proved once, without its run.
 #![tactic(auto)]
 
 #[cfg(test)]
-mod audits;
-#[cfg(test)]
-mod cleaned;
-#[cfg(test)]
-mod damaged;
-#[cfg(test)]
-mod failing;
-#[cfg(test)]
-mod logged;
-#[cfg(test)]
-mod opened;
-#[cfg(test)]
-mod program;
-#[cfg(test)]
 mod readme;
-#[cfg(test)]
-mod restarts;
-#[cfg(test)]
-mod scripts;
-#[cfg(test)]
-mod steps;

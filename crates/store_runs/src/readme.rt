@@ -1,4 +1,4 @@
-//! The lines that README.md shows to whoever embeds the store.
+//! The lines that docs/EMBEDDING.md shows to whoever embeds the store.
 use core_store::{Collect, Limits};
 use disk_model::MemoryDisk;
 use journal_opening::open;
@@ -10,7 +10,7 @@ use std::test::Fail;
 fn readme(rt: HostRuntime) -> Result<(), Fail> {
     let alloc = rt.alloc();
     let mut disk = MemoryDisk::new(alloc);
-    init(&mut disk, 2)?;
+    init::<_, 6>(&mut disk, 2)?;
     let mut store = open::<MemoryDisk, 6>(alloc, disk, Limits::GREATEST).map_err(
         |refused| refused.0,
     )?;

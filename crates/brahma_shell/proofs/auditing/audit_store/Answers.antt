@@ -39,4 +39,4 @@ returns-in-Ok-clause-audited g c =
     })
 
 pub returns-in-Ok-clause-statuses : goal.returns-in-Ok-clause-statuses
-returns-in-Ok-clause-statuses g c = ⊎_elim (λ e. inl e) (λ h. ⊎_elim (λ e. inr (inl e)) (λ e. inr (inr (inr (inr e)))) h) c.tell_audit-status.ensures.statuses
+returns-in-Ok-clause-statuses g c = ⊎_elim (λ e. inl e) (λ h. ⊎_elim (λ e. inr (inl e)) (λ e. inr (inr (inr (inr (inl e))))) h) c.tell_audit-status.ensures.statuses

@@ -19,7 +19,7 @@ returns-then-is_err-clause-made g c = λ left reads. record {
 
 pub returns-in-Ok-clause-made : goal.returns-in-Ok-clause-made
 returns-in-Ok-clause-made g c =
-    let are : EachImage g.D.Disk.may_leave c.init.new.disk (λ image. image ≡ fresh_store c.args.pages 0) = search rules in
+    let are : EachImage g.D.Disk.may_leave c.init.new.disk (λ image. image ≡ fresh_store 6 c.args.pages 0) = search rules in
     λ left reads. record {
       shut = search rules;
       statuses = inl refl;
@@ -34,7 +34,7 @@ returns-in-Ok-clause-made g c =
 
 pub returns-in-Err-clause-made : goal.returns-in-Err-clause-made
 returns-in-Err-clause-made g c =
-    let are : EachImage g.D.Disk.may_leave c.init.new.disk (λ image. image ≡ fresh_store c.args.pages 0) = search rules in
+    let are : EachImage g.D.Disk.may_leave c.init.new.disk (λ image. image ≡ fresh_store 6 c.args.pages 0) = search rules in
     λ left reads. record {
       shut = search rules;
       statuses = inr (inl refl);

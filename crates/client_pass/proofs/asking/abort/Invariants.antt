@@ -1,5 +1,6 @@
 use Rattle.std.proofs.Common.{◌≡◌}
-use Rattle.client_pass.specs.Workings.{Makes, AreNone}
+use Rattle.client_pass.specs.Attempts.{AreUndos}
+use Rattle.client_pass.specs.Workings.{Makes}
 use Rattle.client_pass.proofs.asking.abort.Given as goal
 
 abbrev pub invariant-steps : goal.invariant-steps
@@ -7,5 +8,5 @@ invariant-steps g l =
     (goal.iterator-steps g).can_next l.iterator'
     × (goal.iterator-steps g).is_finite l.iterator'
     × (l.pass.table ≡ l.store.table)
-    × Makes l.fn.pass.view l.pass.view AreNone
+    × Makes l.fn.pass.view l.pass.view AreUndos
     × (l.pass.refused ≡ l.fn.pass.refused)

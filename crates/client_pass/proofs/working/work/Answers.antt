@@ -10,7 +10,7 @@ returns-in-Err-clause-does g c =
     let e = c.in-Err.ensures.err in
     let within = (subst (λ (xs : List (List Call)). c.transactions.calls-index < length xs) c.items-calls-items.ensures c.transactions-test.true) in
     let is = (subst (λ (x : List Call). get_or c.args.script.now.txns c.transactions.calls-index x ≡ x) (sym c.items.ensures) (sym (c.calls-item.is ∙ ap (λ (xs : List (List Call)). get_or xs c.transactions.calls-index c.calls-item.result) c.items-calls-items.ensures))) in
-    does-cut c.args.pass.now.view c.transact.new.pass.view c.args.script.now.txns c.in-Err.end e.1
+    does-cut c.args.pass.now.view c.transact.new.pass.view c.args.script.now.txns c.in-Err.end e.1.0
     (script-cut c.args.pass.now.view c.transactions.pass.view c.transact.new.pass.view c.args.script.now.txns c.transactions.calls-index _ within is i.1 e.0)
 
 pub transactions-preserved : goal.transactions-preserved

@@ -1,4 +1,4 @@
-use Rattle.std.proofs.Common.{List, length, sym, ap, ◌∙◌}
+use Rattle.std.proofs.Common.{List, length, sym, ap, ◌∙◌, inr}
 use Rattle.cell_page.specs.declared.cell.Cell.{Cell}
 use Rattle.log_replay.specs.Inside.{cells_of_pages}
 use Rattle.journal_opening.proofs.OpeningLaws.{has-begun}
@@ -13,3 +13,6 @@ returns-in-Ok-frames_of-clause-begun g c =
     has-begun g.D.Disk.content g.D.Disk.may_leave g.row.SLOTS c.args.disk.now c.open_store.new.disk c.in-Ok-frames_of.frames.items c.in-Ok.found.log c.in-Ok.found.marks c.in-Ok.found.replay
     (sym (laid.count ∙ ap (λ (ps : List (List (Cell g.row.SLOTS))). length ps) same ∙ taken.count)) (sym (laid.cells ∙ ap (λ (ps : List (List (Cell g.row.SLOTS))). cells_of_pages ps) same ∙ taken.cells)) laid.pages
     found.few found.rules found.stands found.bounded found.begun found.marked found.long found.opens
+
+pub returns-in-Err-frames_of-clause-touches_refused : goal.returns-in-Err-frames_of-clause-touches_refused
+returns-in-Err-frames_of-clause-touches_refused g c = inr (c.in-Ok.found.log.area, c.in-Ok.ensures.touches)

@@ -41,6 +41,7 @@ loop-page-init g c = (
   subst (λ (run : List ℕ). IsPlacing g.D.Disk.content g.D.Disk.may_leave g.D.Disk.moment g.D.Disk.left_since g.D.Disk.faults c.args.marks.now c.args.frames.now c.args.disk.now c.args.disk.now 0 0 run) (sym c.clear.ensures.items)
       (start_placing g.D.Disk.content g.D.Disk.may_leave g.D.Disk.moment g.D.Disk.left_since g.D.Disk.faults c.args.marks.now c.args.frames.now g.D.Disk.only_now c.args.disk.now),
   omega arith,
+  refl,
 )
 
 pub spell_page-requires : goal.spell_page-requires
@@ -105,6 +106,7 @@ loop-page-preserved g c =
                 (spelled_more g.D.Disk.content g.D.Disk.may_leave g.D.Disk.moment g.D.Disk.left_since g.D.Disk.faults c.args.marks.now c.args.frames.now c.args.disk.now c.loop-page.disk c.loop-page.first c.loop-page.page c.loop-page.run.items
                 (page_bytes c.index-frames-page.result.page) h changed (ap (λ p. page_bytes p) (sym is)) w.spell_page.ensures.size),
             (let kept = c.loop-page.invariant.1 in let more = w.spell_page.ensures.capacity in let same = ap (λ r. vec_capacity r) w.run-is in omega (arith, kept, more, same)),
+            ap g.D.Disk.faults w.disk-is ∙ c.loop-page.invariant.2,
           )
       | else-get+in_ok-write_run w ↦
           let unchanged = changed-is c.args.marks.now c.loop-page.page c.get.result false low c.get.ensures.mark w.if-get.false in
@@ -118,6 +120,7 @@ loop-page-preserved g c =
                 [] c.if-get.run.items w.disk-is w.first-is (ap (λ r. r.items) w.run-is ∙ e.anew)
                 (begins_run g.D.Disk.content g.D.Disk.may_leave g.D.Disk.moment g.D.Disk.left_since g.D.Disk.faults c.args.marks.now c.args.frames.now c.args.disk.now w.write_run.new.disk c.loop-page.page only there unchanged),
             (let kept = c.loop-page.invariant.1 in let more = e.capacity in let same = ap (λ r. vec_capacity r) w.run-is in omega (arith, kept, more, same)),
+            ap g.D.Disk.faults w.disk-is ∙ e.cause.kept (λ f. cc) ∙ c.loop-page.invariant.2,
           )
     ]
 

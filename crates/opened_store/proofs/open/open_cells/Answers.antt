@@ -18,6 +18,18 @@ use Rattle.std.proofs.Common.{List, sym}
 use Rattle.gate_log.specs.Batches.{AreBodies}
 use Rattle.page_marks.specs.Marks.{IsMarkedBegun}
 use Rattle.opened_store.proofs.BegunLaws.{left-there, reads-left, keeps-then, same-batches, begun-after}
+use Rattle.std.proofs.Common.{◌+◌, ◌≤◌, Err}
+use Rattle.std.proofs.lemmas.Bool.{cases_lt}
+use Rattle.gate_log.specs.State.{batch_length, used}
+use Rattle.store_opening.specs.declared.open_refusal.OpenRefusal.TheVariants.{LogFull}
+use Rattle.store_opening.specs.Looks.{IsLookedAt}
+use Rattle.store_opening.specs.Store.{IsFinal}
+use Rattle.store_opening.proofs.FinalLaws.{final_of}
+use Rattle.opened_store.proofs.GoOnLaws.{no-disk, late-or, refuses-room, lacks-room, has-room, undo-got}
+use Rattle.opened_store.proofs.RoomLaws.{undo-sized-all}
+use Rattle.opened_store.proofs.TouchLaws.{force-touches}
+use Rattle.opened_store.specs.Touched.{TouchesOnly}
+use Rattle.store_opening.specs.Room.{undo_size}
 use Rattle.opened_store.proofs.open.open_cells.Goals as goal
 
 pub returns-in-Err-restart-clause-refused : goal.returns-in-Err-restart-clause-refused
@@ -99,7 +111,9 @@ pub returns-in-Err-restart-clause-unwritten : goal.returns-in-Err-restart-clause
 returns-in-Err-restart-clause-unwritten g c = inr c.read_cells.ensures.looks
 
 pub returns-in-Err-force_undo-clause-unwritten : goal.returns-in-Err-force_undo-clause-unwritten
-returns-in-Err-force_undo-clause-unwritten g c = inl c.in-Err-force_undo.ensures.refusals
+returns-in-Err-force_undo-clause-unwritten g c =
+    late-or c.in-Err-force_undo.refusal c.in-Err-force_undo.ensures.refusals
+    (λ no. subst (λ (d : g.row.D.Denot). IsLookedAt g.D.Disk.content g.D.Disk.may_leave g.D.Disk.moment g.D.Disk.left_since c.args.disk.now d) (sym (c.in-Err-force_undo.ensures.untouched no)) c.read_cells.ensures.looks)
 
 pub returns-in-Ok-force_undo-clause-begun : goal.returns-in-Ok-force_undo-clause-begun
 returns-in-Ok-force_undo-clause-begun g c =
@@ -158,3 +172,64 @@ returns-in-Err-force_undo-clause-only_looks g c =
     absurd
     (none c.restart.new.replay.cells
     (opens-itself g.row.SLOTS image c.in-Ok.found.log.area f.count f.batches c.in-Ok.found.replay c.restart.new.replay c.in-Ok-restart.bytes.items (8 * length c.in-Ok.found.replay.skips) f.replayed c.in-Ok-restart.ensures.rules c.in-Ok-restart.ensures.done))
+
+pub returns-in-Err-restart-clause-for_good : goal.returns-in-Err-restart-clause-for_good
+returns-in-Err-restart-clause-for_good g c of_store =
+    final_of g.D.Disk.content g.D.Disk.may_leave g.row.SLOTS c.args.disk.now c.read_cells.new.disk _ c.read_cells.ensures.looks.keeps c.in-Ok.ensures.settled (returns-in-Err-restart-clause-refused g c)
+
+pub returns-in-Err-force_undo-clause-refused : goal.returns-in-Err-force_undo-clause-refused
+returns-in-Err-force_undo-clause-refused g c =
+    λ image reads.
+    let f = c.in-Ok.ensures.read image reads in
+    let past : c.in-Err-force_undo.refusal ≡ LogFull → most_bytes < used c.in-Ok.found.log + batch_length c.in-Ok-restart.bytes.items =
+    λ is. subst (λ (bs : List ℕ). most_bytes < used c.in-Ok.found.log + batch_length bs) c.deref.ensures.value (c.in-Err-force_undo.ensures.full.0 (ap Err is)) in
+    refuses-room g.row.SLOTS image c.in-Err-force_undo.refusal c.in-Err-force_undo.ensures.refusals
+    (λ is. lacks-room g.D.Disk.may_leave g.row.SLOTS image c.in-Ok.found.replay c.restart.new.replay c.in-Ok.found.marks c.in-Ok.found.log c.read_cells.new.disk c.in-Ok-restart.bytes.items (8 * length c.in-Ok.found.replay.skips) f
+    c.in-Ok-restart.ensures.rules c.in-Ok-restart.ensures.done c.in-Ok.ensures.stands.1 (past is))
+
+pub returns-in-Err-force_undo-clause-for_good : goal.returns-in-Err-force_undo-clause-for_good
+returns-in-Err-force_undo-clause-for_good g c of_store =
+    subst (λ (d : g.row.D.Denot). IsFinal g.D.Disk.content g.D.Disk.may_leave g.row.SLOTS d c.in-Err-force_undo.refusal) (sym (c.in-Err-force_undo.ensures.untouched (no-disk c.in-Err-force_undo.refusal of_store)))
+    (final_of g.D.Disk.content g.D.Disk.may_leave g.row.SLOTS c.args.disk.now c.read_cells.new.disk c.in-Err-force_undo.refusal c.read_cells.ensures.looks.keeps c.in-Ok.ensures.settled (returns-in-Err-force_undo-clause-refused g c))
+
+pub returns-in-Ok-force_undo-clause-room : goal.returns-in-Ok-force_undo-clause-room
+returns-in-Ok-force_undo-clause-room g c =
+    λ image reads lacks.
+    let f = c.in-Ok.ensures.read image reads in
+    let bytes = c.in-Ok-restart.bytes.items in
+    let fits : used c.in-Ok.found.log + batch_length bytes ≤ most_bytes =
+    ⊎_elim (λ past. absurd (let full = c.in-Ok-force_undo.ensures.full.1 (subst (λ (bs : List ℕ). most_bytes < used c.in-Ok.found.log + batch_length bs) (sym c.deref.ensures.value) past) in cc (full))) (λ fits. fits)
+    (cases_lt most_bytes (used c.in-Ok.found.log + batch_length bytes)) in
+    has-room g.D.Disk.may_leave g.row.SLOTS image c.in-Ok.found.replay c.restart.new.replay c.in-Ok.found.marks c.in-Ok.found.log c.read_cells.new.disk bytes (8 * length c.in-Ok.found.replay.skips) f
+    c.in-Ok-restart.ensures.rules c.in-Ok-restart.ensures.done c.in-Ok.ensures.stands.1 c.requires.count fits lacks
+
+pub returns-in-Ok-force_undo-clause-undo : goal.returns-in-Ok-force_undo-clause-undo
+returns-in-Ok-force_undo-clause-undo g c =
+    let log = c.in-Ok.found.log in
+    undo-got g.D.Disk.content g.row.SLOTS c.args.disk.now c.read_cells.new.disk c.force_undo.new.disk log c.force_undo.new.log c.deref.result.now c.in-Ok-restart.bytes.items c.force_undo.ensures.area c.in-Ok-force_undo.ensures.durable
+    c.deref.ensures.value (c.read_cells.ensures.looks.keeps log.area).same c.in-Ok-force_undo.ensures.bytes
+    (λ image reads.
+    let f = c.in-Ok.ensures.read image reads in
+    let u = c.in-Ok-restart.ensures.done in
+    let v = c.in-Ok.found.replay in
+    (f.count, f.batches, f.replayed.read.pages_read.read.log, f.is_on.commit_byte, undo-sized-all v c.restart.new.replay u.records c.in-Ok-restart.bytes.items u.finishes u.none u.are ∙ ap undo_size f.replayed.unended))
+
+pub returns-in-Ok-force_undo-clause-touches : goal.returns-in-Ok-force_undo-clause-touches
+returns-in-Ok-force_undo-clause-touches g c =
+    let on = c.in-Ok.ensures.on in
+    subst (λ (a : Area). TouchesOnly g.D.Disk.content g.D.Disk.may_leave g.D.Disk.moment g.D.Disk.left_since c.args.disk.now c.force_undo.new.disk a) (sym c.force_undo.ensures.area)
+    (force-touches g.D.Disk.content g.D.Disk.may_leave g.D.Disk.reads_may_stay c.args.disk.now c.read_cells.new.disk c.force_undo.new.disk c.in-Ok.found.log on.0 c.read_cells.ensures.looks on.1 c.force_undo.ensures.keeps c.force_undo.ensures.others)
+
+pub returns-in-Err-force_undo-clause-touches_refused : goal.returns-in-Err-force_undo-clause-touches_refused
+returns-in-Err-force_undo-clause-touches_refused g c =
+    let on = c.in-Ok.ensures.on in
+    inr (
+      c.in-Ok.found.log.area,
+      force-touches g.D.Disk.content g.D.Disk.may_leave g.D.Disk.reads_may_stay c.args.disk.now c.read_cells.new.disk c.force_undo.new.disk c.in-Ok.found.log on.0 c.read_cells.ensures.looks on.1 c.force_undo.ensures.keeps c.force_undo.ensures.others,
+    )
+
+pub returns-in-Err-clause-touches_refused : goal.returns-in-Err-clause-touches_refused
+returns-in-Err-clause-touches_refused g c = inl c.read_cells.ensures.looks
+
+pub returns-in-Err-restart-clause-touches_refused : goal.returns-in-Err-restart-clause-touches_refused
+returns-in-Err-restart-clause-touches_refused g c = inl c.read_cells.ensures.looks

@@ -3,6 +3,9 @@ use Rattle.cell_page.specs.Format.{page_size}
 use Rattle.disk_model.specs.declared.area.Area.TheVariants.{Pages}
 use Rattle.opened_store.proofs.BegunLaws.{keeps-then}
 use Rattle.opened_store.proofs.StoreLaws.{on-kept, all-longer, moments-longer, begun-left, long-left}
+use Rattle.std.proofs.Common.{inr}
+use Rattle.opened_store.proofs.GoOnLaws.{undo-kept}
+use Rattle.opened_store.proofs.TouchLaws.{length-touches}
 use Rattle.opened_store.proofs.store.open_store.Goals as goal
 
 pub returns-in-Ok-lengthen-clause-on : goal.returns-in-Ok-lengthen-clause-on
@@ -70,3 +73,25 @@ returns-in-Err-Disk-clause-only_looks g c = λ image reads none. absurd (none c.
 
 pub returns-clause-only_looks : goal.returns-clause-only_looks
 returns-clause-only_looks g c = λ image reads none. absurd (none c.in-Ok.found.replay.cells (c.in-Ok.ensures.opens image reads))
+
+pub returns-in-Ok-lengthen-clause-undo : goal.returns-in-Ok-lengthen-clause-undo
+returns-in-Ok-lengthen-clause-undo g c =
+    undo-kept g.D.Disk.content g.D.Disk.may_leave g.row.SLOTS c.args.disk.now c.open_cells.new.disk c.lengthen.new.disk c.in-Ok.found.log c.in-Ok.ensures.begun.1.area c.lengthen.ensures.keeps c.in-Ok.ensures.undo
+
+pub returns-in-Ok-lengthen-clause-touches : goal.returns-in-Ok-lengthen-clause-touches
+returns-in-Ok-lengthen-clause-touches g c =
+    length-touches g.D.Disk.content g.D.Disk.may_leave c.args.disk.now c.open_cells.new.disk c.lengthen.new.disk c.in-Ok.found.log.area c.in-Ok.ensures.touches c.open_cells.ensures.pages c.in-Ok.ensures.settled c.lengthen.ensures.keeps c.lengthen.ensures.left c.lengthen.ensures.moments
+
+pub returns-in-Err-Disk-clause-touches_refused : goal.returns-in-Err-Disk-clause-touches_refused
+returns-in-Err-Disk-clause-touches_refused g c =
+    inr (
+      c.in-Ok.found.log.area,
+      length-touches g.D.Disk.content g.D.Disk.may_leave c.args.disk.now c.open_cells.new.disk c.lengthen.new.disk c.in-Ok.found.log.area c.in-Ok.ensures.touches c.open_cells.ensures.pages c.in-Ok.ensures.settled c.lengthen.ensures.keeps c.lengthen.ensures.left c.lengthen.ensures.moments,
+    )
+
+pub returns-clause-touches_refused : goal.returns-clause-touches_refused
+returns-clause-touches_refused g c =
+    inr (
+      c.in-Ok.found.log.area,
+      length-touches g.D.Disk.content g.D.Disk.may_leave c.args.disk.now c.open_cells.new.disk c.lengthen.new.disk c.in-Ok.found.log.area c.in-Ok.ensures.touches c.open_cells.ensures.pages c.in-Ok.ensures.settled c.lengthen.ensures.keeps c.lengthen.ensures.left c.lengthen.ensures.moments,
+    )

@@ -1,5 +1,8 @@
 use Rattle.disk_model.specs.declared.area.Area.TheVariants.{Pages}
-use Rattle.page_area.proofs.InPlaceLaws.{page_written-on_ok, one_page}
+use Rattle.std.proofs.Common.{ℕ, List}
+use Rattle.disk_model.specs.Told.{EachImage}
+use Rattle.page_area.specs.InPlace.{HasCopy}
+use Rattle.page_area.proofs.InPlaceLaws.{page_written-on_ok, one_page, of_one_page}
 use Rattle.page_area.proofs.write.write_in_place.Goals as goal
 
 pub returns-clause-there : goal.returns-clause-there
@@ -10,3 +13,7 @@ returns-clause-there g c =
 pub returns-clause-moments : goal.returns-clause-moments
 returns-clause-moments g c =
     c.write_pages.ensures.moments 1 (one_page c.args.page c.args.frame.now c.encode.new.into c.requires.count c.requires.spelled c.encode.ensures.typed c.encode.ensures.spelling)
+
+pub write_pages-requires-clause-copied : goal.write_pages-requires-clause-copied
+write_pages-requires-clause-copied g c κs within = λ k low.
+    of_one_page c.args.page k c.args.frame.now c.encode.new.into (λ (p : ℕ) (b : List ℕ). EachImage g.D.Disk.may_leave c.args.disk.now (HasCopy g.row.SLOTS p b)) c.requires.count c.requires.spelled c.encode.ensures.typed c.encode.ensures.spelling low c.requires.copied

@@ -30,6 +30,6 @@ returns-clause-moments g c =
 
 pub returns-clause-made : goal.returns-clause-made
 returns-clause-made g c =
-    areas_made c.args.pages c.in_ok-make_pages.ensures.made c.make_pages.ensures.keeps
-    (log_made LogA c.args.pages c.turn_body-first.result c.turn_body-first.ensures c.in_ok-make_anew.ensures.reads c.in_ok-make_anew.ensures.settled) c.make_anew.ensures.keeps
-    (log_made LogB c.args.pages c.turn_body-first.result c.turn_body-first.ensures c.in_ok-make_anew-2.ensures.reads c.in_ok-make_anew-2.ensures.settled) c.make_anew-2.ensures.keeps
+    areas_made g.row.SLOTS c.args.pages c.in_ok-make_pages.ensures.made c.make_pages.ensures.keeps
+    (log_made g.row.SLOTS LogA c.args.pages c.first_body-first.result c.first_body-first.ensures c.in_ok-make_anew.ensures.reads c.in_ok-make_anew.ensures.settled) c.make_anew.ensures.keeps
+    (log_made g.row.SLOTS LogB c.args.pages c.first_body-first.result c.first_body-first.ensures c.in_ok-make_anew-2.ensures.reads c.in_ok-make_anew-2.ensures.settled) c.make_anew-2.ensures.keeps

@@ -1,4 +1,4 @@
-use Rattle.std.proofs.Common.{◌≡◌, ℕ, ◌+◌, ◌-◌, take, drop, arith, ap}
+use Rattle.std.proofs.Common.{◌≡◌, ℕ, ◌+◌, ◌-◌, take, drop, arith, ap, ◌∙◌}
 use Rattle.script_lines.proofs.ReadLemmas.{Keeps-read, grown, none_behind, one_behind}
 use Rattle.script_lines.proofs.lines.read_line_feed.Goals as goal
 
@@ -15,7 +15,7 @@ loop-end-preserved g c =
       within = c.in_ok-count.ensures.bound;
       none = none_behind old new _ s n kept c.loop-end.invariant.none (ap (λ (m : ℕ). take m (drop s new)) same) c.in_default.ensures;
       bytes = rw (grown old new s n kept) (Keeps-read _ _ _ _ _ c.loop-end.invariant.bytes c.in_ok-count.ensures.bytes.0);
-      later = omega (arith, c.loop-end.invariant.later, c.in_ok-count.ensures.cause.later);
+      unfailed = c.in_ok-count.ensures.cause.kept ∙ c.loop-end.invariant.unfailed;
     }
 
 pub returns-in-Some-clause-bytes : goal.returns-in-Some-clause-bytes

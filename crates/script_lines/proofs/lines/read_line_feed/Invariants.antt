@@ -9,7 +9,7 @@ invariant-loop-end g l = record {
   within : l.end ≤ 4096;
   none : line_feeds (take l.end l.buffer) ≡ 0;
   bytes : Keeps (prepend_known (take l.fn.end l.fn.buffer) (g.R.Source.left l.fn.source)) (prepend_known (take l.end l.buffer) (g.R.Source.left l.source));
-  later : g.R.Source.faults l.fn.source ≤ g.R.Source.faults l.source;
+  unfailed : g.R.Source.faults l.source ≡ g.R.Source.faults l.fn.source;
 }
 
 abbrev pub decreases-loop-end : goal.decreases-loop-end

@@ -1,4 +1,4 @@
-use Rattle.std.proofs.Common.{arith}
+use Rattle.std.proofs.Common.{◌∙◌}
 use Rattle.std.proofs.lemmas.List.{take_rest}
 use Rattle.script_lines.proofs.OutputLemmas.{AppendsUpTo-more}
 use Rattle.script_lines.proofs.output.write_all.Goals as goal
@@ -6,5 +6,5 @@ use Rattle.script_lines.proofs.output.write_all.Goals as goal
 pub loop-rest-preserved : goal.loop-rest-preserved
 loop-rest-preserved g c = record {
   so_far = rw (take_rest c.loop-rest.rest.now c.in_ok-count.count) (AppendsUpTo-more _ _ _ c.args.piece.now c.loop-rest.rest.now c.in_ok-count.count c.loop-rest.invariant.so_far c.in_ok-count.ensures.bytes);
-  later = omega (arith, c.loop-rest.invariant.later, c.in_ok-count.ensures.cause.later);
+  unfailed = c.in_ok-count.ensures.cause.kept ∙ c.loop-rest.invariant.unfailed;
 }

@@ -20,6 +20,9 @@ use Rattle.store_opening.proofs.at_once.replay_in_place.Goals as goal
 pub returns-clause-looks : goal.returns-clause-looks
 returns-clause-looks g c = and_look g.D.Disk.content (and_look g.D.Disk.content c.read_first.ensures.looks c.load_pages.ensures.looks) c.walk_log.ensures.looks
 
+pub returns-then-not-has_all_images-clause-looks : goal.returns-then-not-has_all_images-clause-looks
+returns-then-not-has_all_images-clause-looks g c = and_look g.D.Disk.content (and_look g.D.Disk.content c.read_first.ensures.looks c.load_pages.ensures.looks) c.walk_log.ensures.looks
+
 pub returns-in-Err-walk_log-clause-looks : goal.returns-in-Err-walk_log-clause-looks
 returns-in-Err-walk_log-clause-looks g c = and_look g.D.Disk.content (and_look g.D.Disk.content c.read_first.ensures.looks c.load_pages.ensures.looks) c.walk_log.ensures.looks
 

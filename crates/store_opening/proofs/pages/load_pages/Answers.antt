@@ -33,7 +33,7 @@ pages-preserved g c =
           (more_loaded c.pages.pages.items one.0 c.pages.page long (g.D.Disk.content c.args.disk.now Pages) (g.D.Disk.content c.pages.disk Pages) c.args.images.now
           (c.pages.invariant.3.keeps Pages).same c.pages.invariant.2 one.3),
       and_look g.D.Disk.content c.pages.invariant.3 c.load_next.ensures.looks,
-      omega (arith, c.pages.invariant.4, c.load_next.ensures.cause.later),
+      c.in_default.ensures.cause.kept tt ∙ c.pages.invariant.4,
     )
 
 pub returns-clause-loaded : goal.returns-clause-loaded

@@ -11,4 +11,4 @@ invariant-pages g l =
     (length l.pages.items ≡ l.page) × ((p : ℕ) → p < l.page → IsPage p (slice_index_or l.pages.items p []))
     × IfSome (g.D.Disk.content l.initial.disk Pages) (λ area. AreLoaded g.row.SLOTS l.fn.images l.page area l.pages.items)
     × IsLookedAt g.D.Disk.content g.D.Disk.may_leave g.D.Disk.moment g.D.Disk.left_since l.initial.disk l.disk
-    × (g.D.Disk.faults l.initial.disk ≤ g.D.Disk.faults l.disk)
+    × (g.D.Disk.faults l.disk ≡ g.D.Disk.faults l.initial.disk)

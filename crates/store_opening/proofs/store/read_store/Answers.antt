@@ -9,6 +9,7 @@ use Rattle.opened_images.specs.LogRecords.{IsOfVersion, IsDamagedLog}
 use Rattle.opened_images.specs.Opened.{no_store}
 use Rattle.store_opening.specs.Loaded.{AreLoaded, IsFirstDamaged}
 use Rattle.store_opening.specs.Store.{Refuses}
+use Rattle.store_opening.proofs.FinalLaws.{final_of}
 use Rattle.store_opening.proofs.LookLaws.{and_look, settled_kept, was_ok}
 use Rattle.store_opening.proofs.StoreLaws.{told_of, refuses_log, refuses_pages, opens_damaged, log_told, counts_told, store_read}
 use Rattle.store_opening.proofs.store.read_store.Goals as goal
@@ -75,3 +76,22 @@ returns-in-Err-load_pages-clause-refused g c image reads =
 pub returns-in-Ok-load_pages-clause-settled : goal.returns-in-Ok-load_pages-clause-settled
 returns-in-Ok-load_pages-clause-settled g c =
     settled_kept g.D.Disk.content c.load_pages.ensures.looks (settled_kept g.D.Disk.content c.read_log.ensures.looks (settled_kept g.D.Disk.content c.named_area.ensures.looks (was_ok c.sync_areas.result _ (sym c.is_err.ensures.value ∙ c.if-is_err.false) c.sync_areas.ensures.settled)))
+
+pub returns-in-Ok-None-clause-for_good : goal.returns-in-Ok-None-clause-for_good
+returns-in-Ok-None-clause-for_good g c of_store =
+    final_of g.D.Disk.content g.D.Disk.may_leave g.row.SLOTS c.args.disk.now c.named_area.new.disk _ (and_look g.D.Disk.content c.sync_areas.ensures.looks c.named_area.ensures.looks).keeps
+    (settled_kept g.D.Disk.content c.named_area.ensures.looks (was_ok c.sync_areas.result _ (sym c.is_err.ensures.value ∙ c.if-is_err.false) c.sync_areas.ensures.settled))
+    (returns-in-Ok-None-clause-refused g c)
+
+pub returns-in-Err-read_log-clause-for_good : goal.returns-in-Err-read_log-clause-for_good
+returns-in-Err-read_log-clause-for_good g c of_store =
+    final_of g.D.Disk.content g.D.Disk.may_leave g.row.SLOTS c.args.disk.now c.read_log.new.disk _
+    (and_look g.D.Disk.content (and_look g.D.Disk.content c.sync_areas.ensures.looks c.named_area.ensures.looks) c.read_log.ensures.looks).keeps
+    (settled_kept g.D.Disk.content c.read_log.ensures.looks (settled_kept g.D.Disk.content c.named_area.ensures.looks (was_ok c.sync_areas.result _ (sym c.is_err.ensures.value ∙ c.if-is_err.false) c.sync_areas.ensures.settled)))
+    (returns-in-Err-read_log-clause-refused g c)
+
+pub returns-in-Err-load_pages-clause-for_good : goal.returns-in-Err-load_pages-clause-for_good
+returns-in-Err-load_pages-clause-for_good g c of_store =
+    final_of g.D.Disk.content g.D.Disk.may_leave g.row.SLOTS c.args.disk.now c.load_pages.new.disk _ (returns-in-Err-load_pages-clause-looks g c).keeps
+    (settled_kept g.D.Disk.content c.load_pages.ensures.looks (settled_kept g.D.Disk.content c.read_log.ensures.looks (settled_kept g.D.Disk.content c.named_area.ensures.looks (was_ok c.sync_areas.result _ (sym c.is_err.ensures.value ∙ c.if-is_err.false) c.sync_areas.ensures.settled))))
+    (returns-in-Err-load_pages-clause-refused g c)

@@ -5,6 +5,7 @@ use Rattle.gate_log.specs.State.{LogState}
 use Rattle.gate_log.specs.OnDisk.{IsRead, after_next}
 use Rattle.store_opening.specs.declared.refusal.ReadRefusal.TheVariants.{Damaged}
 use Rattle.store_opening.specs.Walks.{TakesBody, StopsInBody}
+use Rattle.store_opening.proofs.FinalLaws.{not_full}
 use Rattle.store_opening.proofs.WalkLaws.{walked_more, walked_end, walked_cut, walked_stop, told_damaged}
 use Rattle.store_opening.proofs.walk.walk_batch.Goals as goal
 
@@ -53,3 +54,6 @@ returns-in-Err-clause-damaged g c v read walked at is =
     walked_cut g.D.Disk.content g.D.Disk.may_leave g.row.SLOTS read v c.args.walk.now.replay c.args.walk.now.marks c.args.log.now c.args.disk.now at walked
     (c.in-Err.ensures.damaged at (ap Err (told_damaged c.in-Err.refusal c.told.result at c.told.ensures was)))
     (g.D.Disk.reads_may_stay c.args.disk.now c.args.log.now.area)
+
+pub told-requires : goal.told-requires
+told-requires g c = not_full c.in-Err.refusal c.in-Err.ensures.refusals

@@ -11,7 +11,7 @@ invariant-batches g l =
     × ((v : Replaying) (read : List (List ℕ)) → HasWalked g.D.Disk.content g.D.Disk.may_leave g.row.SLOTS read v l.initial.walk.replay l.initial.walk.marks l.initial.log l.initial.disk
     → HasWalked g.D.Disk.content g.D.Disk.may_leave g.row.SLOTS read v l.walk.replay l.walk.marks l.log l.disk)
     × IsLookedAt g.D.Disk.content g.D.Disk.may_leave g.D.Disk.moment g.D.Disk.left_since l.initial.disk l.disk
-    × (g.D.Disk.faults l.initial.disk ≤ g.D.Disk.faults l.disk) × (l.log.tail ≡ l.initial.log.tail)
+    × (g.D.Disk.faults l.disk ≡ g.D.Disk.faults l.initial.disk) × (l.log.tail ≡ l.initial.log.tail)
 
 abbrev pub decreases-batches : goal.decreases-batches
 decreases-batches g l = 2 ^ 64 - l.log.durable

@@ -186,6 +186,7 @@ returns-then-is_within g c =
       untouched = λ never. c.log_call.ensures.disk;
       fault = λ is. absurd (subst IsOfJournal is c.log_call.ensures.journal);
       later = subst (λ (d : g.row.D.Denot). g.D.Disk.faults c.args.self.now.disk ≤ g.D.Disk.faults d) (sym c.log_call.ensures.disk.disk) (omega (arith));
+      count = λ _. ap (λ (d : g.row.D.Denot). g.D.Disk.faults d) c.log_call.ensures.disk.disk;
       moments = subst (λ (w : LoggedView g.row.D.Denot). w.disk ≡ w.disk → LeavesOnlyImages g.D.Disk.moment g.D.Disk.left_since w.disk c.log_call.new.self.disk (MayHave w c.args.pass)) c.self.view_is
           (λ _. still g.D.Disk.may_leave g.D.Disk.moment g.D.Disk.left_since g.D.Disk.only_now _ c.args.pass c.log_call.new.self.disk
           (c.log_call.ensures.disk.disk ∙ ap (λ (w : LoggedView g.row.D.Denot). w.disk) (sym c.self.view_is)) c.self.invariant.kept) refl;

@@ -18,7 +18,7 @@ invariant_of-logged g c =
       size = c.requires.size;
       own = c.requires.slots;
       spelling = omega (arith, capacity, len);
-      counted = (subst (λ (d : g.row.D.Denot). c.faults-opened.result ≤ g.D.Disk.faults d) (sym c.in-Ok.ensures.ok) (subst (λ n. n ≤ g.D.Disk.faults c.args.disk) (sym c.faults-opened.ensures) (omega (arith))), tt);
+      counted = (subst (λ (d : g.row.D.Denot). c.faults-opened.result ≤ g.D.Disk.faults d) (sym c.in-Ok.ensures.ok) (subst (λ n. n ≤ g.D.Disk.faults c.args.disk) (sym c.faults-opened.ensures) (omega (arith))), tt, λ none. ap g.D.Disk.faults c.in-Ok.ensures.ok ∙ sym c.faults-opened.ensures);
       kept = kept-begun g.D.Disk.may_leave g.row.SLOTS c.args.journal c.args.log c.in-Ok.disk.value c.args.marks c.requires.begun.0 _ _ _ c.requires.ids
           (history.consistent [] c.args.journal.notes refl) c.requires.notes
           (ap (λ (l : List Note). map (λ n. n.entry) l) (sym history.notes) ∙ history.entries) history.safe

@@ -2,7 +2,7 @@ use Rattle.std.proofs.Common.{◌≡◌, ◌∙◌, ℕ, ◌+◌, ◌≤◌, Lis
 use Rattle.std.specs.Prelude.{OnOk, IsOk, IfSome, Result, vec_capacity, vec_len}
 use Rattle.disk_model.specs.declared.area.Area.TheVariants.{Pages}
 use Rattle.disk_model.specs.Causes.{Rose}
-use Rattle.disk_model.specs.Told.{EachImage}
+use Rattle.disk_model.specs.Told.{Keeps, EachImage}
 use Rattle.disk_model.specs.Time.{LeavesOnlyImages}
 use Rattle.disk_model.proofs.Moments.{at_exit}
 use Rattle.log_record.specs.Spelling.{record_bytes}
@@ -78,6 +78,7 @@ invariant_of-self g c =
             let rose = on-err c.turn.result _ (sym c.is_err.ensures.value ∙ c.if-is_err.true) c.turn.ensures.cause.failed in
             let told = c.faults.ensures ∙ ap g.D.Disk.faults c.deref-then-is_err.ensures in
             (omega (arith, before, value, rose, told), omega (arith, told)),
+        λ none. absurd (cc (none)),
       );
       kept = kept-stopped g.D.Disk.may_leave v c.turn.new.self c.turn.new.disk c.faults.result c.self.invariant.kept r.running (at_exit g.D.Disk.may_leave g.D.Disk.counts_now moments);
     }
@@ -161,6 +162,11 @@ invariant_of-self-2 g c =
             let cause = c.turn.ensures.cause.later in
             omega (arith, before, value, cause),
         subst (λ (o : Option FailedCall). IfSome o (λ f. Rose c.self.inside.opened f.faults × (f.faults ≤ g.D.Disk.faults c.turn.new.disk))) (sym r.running) tt,
+        λ none.
+            let before = c.self.invariant.counted.2 (r.running) in
+            let value = ap g.D.Disk.faults c.as_mut.ensures.value in
+            let kept = on-ok c.turn.result _ (done) c.turn.ensures.cause.kept in
+            omega (arith, before, value, kept),
       );
       kept = kept-anew g.D.Disk.may_leave g.row.SLOTS v r.stands r.tells r.own r.few r.idle r.stand c.turn.new.self c.turn.new.disk _ _ c.self.invariant.kept r.all r.empty log on images keeps c.clear-2.ensures (omega (arith, owed, used, most)) (omega (arith, owed, used, most));
     }
@@ -234,3 +240,8 @@ returns-clause-moments g c =
     (c.deref.ensures.value ∙ written) in
     let moments = turn-moments g.D.Disk.may_leave g.row.SLOTS v r g.D.Disk.moment g.D.Disk.left_since c.as_mut.result.now c.turn.new.disk c.deref.result.now c.as_mut.ensures.value bytes c.turn.ensures.moments c.turn.ensures.in_place in
     subst (λ (w : LoggedView g.row.D.Denot). LeavesOnlyImages g.D.Disk.moment g.D.Disk.left_since w.disk c.turn.new.disk (MayHaveAll w)) c.self.view_is moments
+
+pub returns-clause-old : goal.returns-clause-old
+returns-clause-old g c =
+    subst (λ (w : LoggedView g.row.D.Denot). Keeps g.D.Disk.content g.D.Disk.may_leave w.disk c.turn.new.disk w.log.area) c.self.view_is
+    (subst (λ (d : g.row.D.Denot). Keeps g.D.Disk.content g.D.Disk.may_leave d c.turn.new.disk c.self.inside.log.area) c.as_mut.ensures.value c.turn.ensures.old)

@@ -98,6 +98,7 @@ invariant_of-self g c =
             let rose = on-err c.force.result _ (sym c.is_err.ensures.value ∙ c.if-is_err.true) c.force.ensures.cause.failed in
             let told = c.faults.ensures ∙ ap g.D.Disk.faults c.deref.ensures in
             (omega (arith, before, value, rose, told), omega (arith, told)),
+        λ none. absurd (cc (none)),
       );
       kept = kept-failed g.D.Disk.may_leave (view_of c.self.inside) _ c.args.pass c.faults.result c.self.invariant.kept
           (running c.self.inside c.args.self.now c.self.view_is c.requires.running) refl refl refl refl refl refl
@@ -256,6 +257,11 @@ invariant_of-self-2 g c =
             let cause = c.force.ensures.cause.later in
             omega (arith, before, value, cause),
         subst (λ (o : Option FailedCall). IfSome o (λ f. Rose c.self.inside.opened f.faults × (f.faults ≤ g.D.Disk.faults c.force.new.disk))) (sym (running c.self.inside c.args.self.now c.self.view_is c.requires.running)) tt,
+        λ none.
+            let before = c.self.invariant.counted.2 ((running c.self.inside c.args.self.now c.self.view_is c.requires.running)) in
+            let value = ap g.D.Disk.faults c.as_mut.ensures.value in
+            let kept = on-ok c.force.result _ (sym c.is_err.ensures.value ∙ c.if-is_err.false) c.force.ensures.cause.kept in
+            omega (arith, before, value, kept),
       );
       kept = kept-done g.D.Disk.may_leave (view_of c.self.inside) (after g c) c.args.pass (note g c) _ c.self.invariant.kept
           (running c.self.inside c.args.self.now c.self.view_is c.requires.running) (committed g c);

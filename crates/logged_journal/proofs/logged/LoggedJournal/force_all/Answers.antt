@@ -1,5 +1,5 @@
 use Rattle.std.proofs.Common.{◌≡◌, ◌∙◌, ℕ, ◌+◌, ◌≤◌, List, length, Option, None, sym, map, ap, subst, arith}
-use Rattle.std.specs.Prelude.{⊤, IfSome}
+use Rattle.std.specs.Prelude.{⊤, IfSome, option_map}
 use Rattle.disk_model.specs.declared.area.Area.{Area}
 use Rattle.disk_model.specs.declared.area.Area.TheVariants.{Pages}
 use Rattle.disk_model.specs.Areas.{Bytes}
@@ -8,7 +8,7 @@ use Rattle.disk_model.specs.Told.{KeepsOthers, IsImageBut}
 use Rattle.disk_model.specs.Time.{LeavesOnlyImages}
 use Rattle.disk_model.proofs.Moments.{at_exit}
 use Rattle.gate_log.specs.Batches.{most_bytes}
-use Rattle.gate_log.specs.State.{LogState, forced, failed, used}
+use Rattle.gate_log.specs.State.{LogState, IsLogArea, forced, forced_area, failed, used}
 use Rattle.gate_log.specs.OnDisk.{with_batch, IsOn, HasEither}
 use Rattle.core_store.specs.declared.note.Note.{Note}
 use Rattle.logged_journal.specs.declared.failed.FailedCall.{FailedCall}
@@ -55,6 +55,7 @@ invariant_of-self g c =
             let rose = on-err c.force.result _ (sym c.is_err.ensures.value ∙ c.if-is_err.true) c.force.ensures.cause.failed in
             let told = c.faults.ensures ∙ ap g.D.Disk.faults c.deref.ensures in
             (omega (arith, before, value, rose, told), omega (arith, told)),
+        λ none. absurd (cc (none)),
       );
       kept = kept-stopped g.D.Disk.may_leave v c.force.new.self c.force.new.disk c.faults.result c.self.invariant.kept running (at_exit g.D.Disk.may_leave g.D.Disk.counts_now moments);
     }
@@ -92,6 +93,11 @@ invariant_of-self-2 g c =
             let cause = c.force.ensures.cause.later in
             omega (arith, before, value, cause),
         subst (λ (o : Option FailedCall). IfSome o (λ f. Rose c.self.inside.opened f.faults × (f.faults ≤ g.D.Disk.faults c.force.new.disk))) (sym running) tt,
+        λ none.
+            let before = c.self.invariant.counted.2 (running) in
+            let value = ap g.D.Disk.faults c.as_mut.ensures.value in
+            let kept = on-ok c.force.result _ (succeeded) c.force.ensures.cause.kept in
+            omega (arith, before, value, kept),
       );
       kept = kept-forced g.D.Disk.may_leave v c.force.new.self c.force.new.disk c.len-self-inside.result c.max-self-inside.result c.self.invariant.kept running stands
           (subst (λ (l : List Note). map (λ n. n.entry) l ≡ c.self.inside.journal.history.entries) c.history.ensures.notes c.history.ensures.entries) c.history.ensures.safe
@@ -111,3 +117,16 @@ returns-clause-moments g c =
     let others = subst (λ (d : g.row.D.Denot). Others g.D.Disk.may_leave g.D.Disk.moment g.D.Disk.left_since c.self.inside.log c.force.new.disk d) c.as_mut.ensures.value c.force.ensures.others in
     subst (λ (w : LoggedView g.row.D.Denot). LeavesOnlyImages g.D.Disk.moment g.D.Disk.left_since w.disk c.force.new.disk (MayHaveAll w)) c.self.view_is
     (forced-moments g.D.Disk.may_leave v g.D.Disk.moment g.D.Disk.left_since c.force.new.disk stands (run stands.batches stands.on (omega (arith, bounded))) others)
+
+pub returns-clause-bytes : goal.returns-clause-bytes
+returns-clause-bytes g c =
+    let log = c.self.inside.log in
+    subst (λ (w : LoggedView g.row.D.Denot). g.D.Disk.content c.force.new.disk w.log.area ≡ option_map (forced_area w.log.durable w.log.tail) (g.D.Disk.content w.disk w.log.area)) c.self.view_is
+    (subst (λ (d : g.row.D.Denot). g.D.Disk.content c.force.new.disk log.area ≡ option_map (forced_area log.durable log.tail) (g.D.Disk.content d log.area)) c.as_mut.ensures.value
+    (on-ok c.force.result _ (sym c.is_err.ensures.value ∙ c.if-is_err.false) c.force.ensures.bytes))
+
+pub returns-clause-area : goal.returns-clause-area
+returns-clause-area g c =
+    let v = view_of c.self.inside in
+    let stands = c.self.invariant.kept.standing (runs v c.args.self.now c.self.view_is c.requires.running) in
+    subst (λ (w : LoggedView g.row.D.Denot). IsLogArea w.log.area) c.self.view_is stands.on.area

@@ -49,8 +49,8 @@ loop-page-preserved g c =
       | then-get w ↦ λ p below changed. ⊎_elim (λ (front : p < page). c.loop-page.invariant p front changed)
           (λ (back : page ≤ p).
           let e : page ≡ p = omega (arith, below, back) in
-          subst (λ (k : ℕ). EachImage g.D.Disk.may_leave c.args.self.now.disk (HasCopy (page_bytes (page_in frames k)))) e
-          (subst (λ held. EachImage g.D.Disk.may_leave c.args.self.now.disk (HasCopy (page_bytes held))) (sym is) (λ image may. image-copied page c.index-frames-page.result.page image (w.know_image.ensures.image image may))))
+          subst (λ (k : ℕ). EachImage g.D.Disk.may_leave c.args.self.now.disk (HasCopy g.row.SLOTS k (page_bytes (page_in frames k)))) e
+          (subst (λ held. EachImage g.D.Disk.may_leave c.args.self.now.disk (HasCopy g.row.SLOTS page (page_bytes held))) (sym is) (λ image may. image-copied page c.index-frames-page.result.page image (w.know_image.ensures.image image may))))
           (cases_lt p page)
       | else-get w ↦ λ p below changed. ⊎_elim (λ (front : p < page). c.loop-page.invariant p front changed)
           (λ (back : page ≤ p).

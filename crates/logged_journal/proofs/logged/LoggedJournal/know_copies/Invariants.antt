@@ -6,4 +6,4 @@ use Rattle.logged_journal.specs.Checkpoints.{page_in, has_changed}
 use Rattle.logged_journal.proofs.logged.LoggedJournal.know_copies.Given as goal
 
 abbrev pub invariant-loop-page : goal.invariant-loop-page
-invariant-loop-page g l = (page : ℕ) → page < l.page → has_changed l.self.marks page ≡ true → EachImage g.D.Disk.may_leave l.self.disk (HasCopy (page_bytes (page_in l.frames page)))
+invariant-loop-page g l = (page : ℕ) → page < l.page → has_changed l.self.marks page ≡ true → EachImage g.D.Disk.may_leave l.self.disk (HasCopy g.row.SLOTS page (page_bytes (page_in l.frames page)))

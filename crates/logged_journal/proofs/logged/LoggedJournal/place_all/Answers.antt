@@ -1,7 +1,7 @@
 use Rattle.std.proofs.Common.{◌≡◌, ◌∙◌, ◌*◌, ◌<◌, ℕ, List, Option, false, length, sym, ap, subst, arith}
 use Rattle.std.specs.Prelude.{IfSome}
 use Rattle.disk_model.specs.declared.area.Area.TheVariants.{Pages}
-use Rattle.disk_model.proofs.Moments.{and_then}
+use Rattle.disk_model.proofs.Moments.{and_then, keeps_still}
 use Rattle.opened_images.specs.Marks.{StandsInPlace}
 use Rattle.page_marks.specs.declared.marks.PageMark.{PageMark}
 use Rattle.core_store.specs.JournalView.{JournalView, cells_of}
@@ -52,3 +52,7 @@ returns-clause-stand g c =
     let pages = c.requires.pages in
     all-stand g.D.Disk.content g.D.Disk.may_leave g.row.SLOTS v.marks frames (cells_of v.journal) now.disk c.know_few.ensures.size many c.requires.agree c.requires.typed there settled
     (λ page low. others page (omega (arith, low, many, pages)))
+
+pub returns-clause-others : goal.returns-clause-others
+returns-clause-others g c =
+    keeps_still (on-ok c.write_changed.result _ (sym c.is_err.ensures.value ∙ c.if-is_err.false) c.write_changed.ensures.others) c.sync_pages.ensures.keeps

@@ -9,7 +9,7 @@ use Rattle.logged_journal.specs.declared.failed.FailedCall.{FailedCall}
 use Rattle.logged_journal.specs.Inside.{view_of}
 use Rattle.logged_journal.specs.View.{LoggedView}
 use Rattle.logged_journal.specs.Records.{MayHaveAll}
-use Rattle.logged_journal.proofs.CommitDone.{on-err}
+use Rattle.logged_journal.proofs.CommitDone.{on-ok, on-err}
 use Rattle.logged_journal.proofs.Upkeeps.{kept-stopped, kept-still}
 use Rattle.logged_journal.proofs.logged.LoggedJournal.sync_pages.Goals as goal
 
@@ -32,6 +32,7 @@ invariant_of-self g c =
             let rose = on-err c.sync.result _ (sym c.is_err.ensures.value ∙ c.if-is_err.true) c.sync.ensures.cause.failed in
             let told = c.faults.ensures ∙ ap g.D.Disk.faults c.deref.ensures in
             (omega (arith, before, value, rose, told), omega (arith, told)),
+        λ none. absurd (cc (none)),
       );
       kept = kept-stopped g.D.Disk.may_leave v c.self.inside.log c.sync.new.self c.faults.result c.self.invariant.kept running
           (λ image may. inl (c.self.invariant.kept.images image (λ area. (keeps area).no_more (in_area image area) (may area))));
@@ -61,6 +62,11 @@ invariant_of-self-else-is_err g c =
             let cause = c.sync.ensures.cause.later in
             omega (arith, before, value, cause),
         subst (λ (o : Option FailedCall). IfSome o (λ f. Rose c.self.inside.opened f.faults × (f.faults ≤ g.D.Disk.faults c.sync.new.self))) (sym running) tt,
+        λ none.
+            let before = c.self.invariant.counted.2 (running) in
+            let value = ap g.D.Disk.faults c.as_mut.ensures.value in
+            let kept = on-ok c.sync.result _ (sym c.is_err.ensures.value ∙ c.if-is_err.false) c.sync.ensures.cause.kept in
+            omega (arith, before, value, kept),
       );
       kept = kept-still g.D.Disk.may_leave v c.sync.new.self c.self.invariant.kept running (λ area bytes may. (keeps area).no_more bytes may);
     }

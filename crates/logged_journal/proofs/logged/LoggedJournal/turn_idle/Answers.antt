@@ -13,9 +13,10 @@ use Rattle.core_store.specs.JournalView.{JournalView, cells_of}
 use Rattle.core_store.specs.Owed.{bytes_owed}
 use Rattle.logged_journal.specs.View.{LoggedView, bytes_counted, image_bytes}
 use Rattle.logged_journal.specs.Records.{MayHaveAll}
-use Rattle.logged_journal.specs.Checkpoints.{wanted_below, changed_below}
+use Rattle.logged_journal.specs.Checkpoints.{wanted_below, changed_below, ForcesImages}
 use Rattle.logged_journal.proofs.CommitDone.{on-ok}
 use Rattle.logged_journal.proofs.RoomTaken.{room-same, room-log, room-have}
+use Rattle.logged_journal.proofs.OldLogs.{need-is}
 use Rattle.logged_journal.proofs.UpkeepOpens.{still-upkeep}
 use Rattle.logged_journal.proofs.logged.LoggedJournal.turn_idle.Goals as goal
 
@@ -80,3 +81,30 @@ returns-in-Ok-clause-moments g c =
     let takes = room-log v v w (room-same v v refl) c.take_room.ensures.same in
     subst (λ (d : g.row.D.Denot). LeavesOnlyImages g.D.Disk.moment g.D.Disk.left_since d c.turn_in_room.new.self.disk (MayHaveAll v)) (ap (λ (u : LoggedView g.row.D.Denot). u.disk) takes)
     (weaken (MayHaveAll v) (λ image has. room-have v w image takes has) c.turn_in_room.ensures.moments)
+
+pub returns-in-Ok-clause-old_log : goal.returns-in-Ok-clause-old_log
+returns-in-Ok-clause-old_log g c is =
+    subst (λ (u : LoggedView g.row.D.Denot). ForcesImages g.D.Disk.content c.args.frames.now u c.turn_in_room.new.self) c.take_room.ensures.same (c.turn_in_room.ensures.old_log is)
+
+pub returns-then-is_too_long-clause-too_long : goal.returns-then-is_too_long-clause-too_long
+returns-then-is_too_long-clause-too_long g c =
+    let need = need-is g.row.SLOTS c.needs-needs.result.images c.bytes_of_image.result c.args.self.now.marks c.needs-needs.ensures.images c.bytes_of_image.ensures in
+    let over = c.is_too_long.ensures.long.0 c.if-is_too_long.true in
+    (λ is. omega (arith, need, over), λ past. refl)
+
+pub returns-then-is_err-clause-too_long : goal.returns-then-is_err-clause-too_long
+returns-then-is_err-clause-too_long g c =
+    let need = need-is g.row.SLOTS c.needs-needs.result.images c.bytes_of_image.result c.args.self.now.marks c.needs-needs.ensures.images c.bytes_of_image.ensures in
+    (λ is. absurd (cc (is)), λ past. absurd (let clash = sym c.if-is_too_long.false ∙ c.is_too_long.ensures.long.1 (omega (arith, need, past)) in cc (clash)))
+
+pub returns-in-Err-clause-too_long : goal.returns-in-Err-clause-too_long
+returns-in-Err-clause-too_long g c =
+    let need = need-is g.row.SLOTS c.needs-needs.result.images c.bytes_of_image.result c.args.self.now.marks c.needs-needs.ensures.images c.bytes_of_image.ensures in
+    (λ is. absurd (cc (is)), λ past. absurd (let clash = sym c.if-is_too_long.false ∙ c.is_too_long.ensures.long.1 (omega (arith, need, past)) in cc (clash)))
+
+pub returns-in-Ok-clause-too_long : goal.returns-in-Ok-clause-too_long
+returns-in-Ok-clause-too_long g c =
+    let need = need-is g.row.SLOTS c.needs-needs.result.images c.bytes_of_image.result c.args.self.now.marks c.needs-needs.ensures.images c.bytes_of_image.ensures in (
+      λ is. absurd (⊎_elim (λ done. let clash = sym done ∙ is in cc (clash)) (λ fault. let clash = sym fault ∙ is in cc (clash)) c.turn_in_room.ensures.answers),
+      λ past. absurd (let clash = sym c.if-is_too_long.false ∙ c.is_too_long.ensures.long.1 (omega (arith, need, past)) in cc (clash)),
+    )

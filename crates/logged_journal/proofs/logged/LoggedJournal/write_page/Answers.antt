@@ -15,7 +15,7 @@ use Rattle.logged_journal.specs.View.{LoggedView, mark_at}
 use Rattle.logged_journal.specs.Records.{MayHaveAll}
 use Rattle.logged_journal.specs.Upkeep.{HasImage}
 use Rattle.logged_journal.proofs.Upkeeps.{on-others, kept-stopped, kept-disk}
-use Rattle.logged_journal.proofs.PagesKept.{one-imaged, image-copied, torn-holds, torn-moments, reaches-page, written-faults}
+use Rattle.logged_journal.proofs.PagesKept.{one-imaged, image-copied, torn-holds, torn-moments, reaches-page, written-faults, written-kept}
 use Rattle.logged_journal.proofs.logged.LoggedJournal.write_page.Goals as goal
 
 -- what the write leaves, from the disk that stood in the box
@@ -37,7 +37,7 @@ write_in_place-requires-after_bounds g c κs within =
           (
             subst (λ (d : g.row.D.Denot). IfSome (g.D.Disk.content d Pages) (λ area. page_size g.row.SLOTS * c.args.page ≤ length area)) (sym c.as_mut.ensures.value)
                 (reaches-page g.D.Disk.may_leave g.row.SLOTS v (c.self.invariant.kept.standing running) c.self.invariant.own c.args.page there (g.D.Disk.content v.disk Pages) (g.D.Disk.reads_may_stay v.disk Pages)),
-            subst (λ (d : g.row.D.Denot). EachImage g.D.Disk.may_leave d (HasCopy (page_bytes c.args.frame.now.page))) (sym c.as_mut.ensures.value)
+            subst (λ (d : g.row.D.Denot). EachImage g.D.Disk.may_leave d (HasCopy g.row.SLOTS c.args.page (page_bytes c.args.frame.now.page))) (sym c.as_mut.ensures.value)
                 (λ image may. image-copied c.args.page c.args.frame.now.page image (has image may)),
           ),
         ),
@@ -70,6 +70,7 @@ invariant_of-self g c =
             let rose = written-faults c.write_in_place.result _ _ c.write_in_place.ensures.refusals c.write_in_place.ensures.cause (sym c.is_err.ensures.value ∙ c.if-is_err.true) in
             let told = c.faults.ensures ∙ ap g.D.Disk.faults c.deref.ensures in
             (omega (arith, before, value, rose, told), omega (arith, told)),
+        λ none. absurd (cc (none)),
       );
       kept = kept-stopped g.D.Disk.may_leave v c.self.inside.log c.write_in_place.new.disk c.faults.result kept running (at_exit g.D.Disk.may_leave g.D.Disk.counts_now moments);
     }
@@ -111,6 +112,11 @@ invariant_of-self-else-is_err g c =
             let cause = c.write_in_place.ensures.cause.later in
             omega (arith, before, value, cause),
         subst (λ (o : Option FailedCall). IfSome o (λ f. Rose c.self.inside.opened f.faults × (f.faults ≤ g.D.Disk.faults c.write_in_place.new.disk))) (sym running) tt,
+        λ none.
+            let before = c.self.invariant.counted.2 (running) in
+            let value = ap g.D.Disk.faults c.as_mut.ensures.value in
+            let kept = written-kept c.write_in_place.result _ _ (sym c.is_err.ensures.value ∙ c.if-is_err.false) c.write_in_place.ensures.cause in
+            omega (arith, before, value, kept),
       );
       kept = kept-disk g.D.Disk.may_leave v now kept stands (on-others g.D.Disk.may_leave v.log v.disk now stands.batches (λ area apart bytes may. (keeps area apart).no_more bytes may) stands.on)
           (λ area may. let was = left area may in torn-holds g.D.Disk.may_leave g.row.SLOTS v stands c.self.invariant.own c.args.page 1 imaged was.0 area was.1 was.2)

@@ -1,5 +1,7 @@
 use Rattle.std.proofs.Common.{◌≡◌, ◌≤◌, ℕ, List, Option, None, sym, ap, subst, ◌∙◌, rules}
 use Rattle.std.specs.Prelude.{IfSome, is_some}
+use Rattle.std.specs.List.{Contains}
+use Rattle.disk_model.specs.Causes.{Rose}
 use Rattle.plain_model.specs.declared.calls.Reply.TheVariants as reply
 use Rattle.plain_model.specs.Machine.{transaction_of}
 use Rattle.plain_model.specs.History.{end_of}
@@ -15,26 +17,27 @@ use Rattle.logged_journal.specs.declared.failed.FailedCall.{FailedCall}
 use Rattle.logged_journal.specs.View.{LoggedView}
 use Rattle.journal_chronicle.specs.Steps.{entered_by_call, marked_by_call}
 use Rattle.shared_store.specs.Calls.{found_by_call}
-use Rattle.shared_store.proofs.Active.{none-active}
+use Rattle.shared_store.proofs.Active.{none-active, was-noted}
+use Rattle.shared_store.proofs.Wanted.{same-word, stopped-again}
 use Rattle.shared_store.proofs.Acting.{acts-stopped, acts-on}
 use Rattle.shared_store.proofs.Replies.{not-found, does-stopped, again-acts, again-found}
 use Rattle.shared_store.proofs.store.Store.act.Goals as goal
 
 pub returns-in-Some-clause-acts : goal.returns-in-Some-clause-acts
 returns-in-Some-clause-acts g c =
-    let failed = ap is_some (sym (ap (λ (v : LoggedView g.row.D.Denot). v.failed) c.logged.ensures.logged) ∙ (sym c.failed.ensures.failed ∙ c.in-Some.is)) in
+    let failed = ap is_some (sym (ap (λ (v : LoggedView g.row.D.Denot). v.failed) c.logged-2.ensures.logged) ∙ (sym c.failed.ensures.failed ∙ c.in-Some.is)) in
     acts-stopped g.row.SLOTS c.args.hold.now.view c.args.journal.now c.args.held.now c.requires.none.1 c.requires.journal.idle c.requires.none.0 failed
 
 pub returns-in-Some-clause-made : goal.returns-in-Some-clause-made
 returns-in-Some-clause-made g c = λ none.
     does-stopped g.row.SLOTS g.D.Disk.faults c.args.journal.now c.args.client c.args.call.now c.in-Some.failed
-    (sym (ap (λ (v : LoggedView g.row.D.Denot). v.failed) c.logged.ensures.logged) ∙ (sym c.failed.ensures.failed ∙ c.in-Some.is)) c.know_history.ensures.legal
+    (sym (ap (λ (v : LoggedView g.row.D.Denot). v.failed) c.logged-2.ensures.logged) ∙ (sym c.failed.ensures.failed ∙ c.in-Some.is)) c.know_history.ensures.legal
 
 pub work-work-requires : goal.work-work-requires
 work-work-requires g c =
     let j = c.args.journal.now in
-    let same : c.journal.result.now ≡ c.args.journal.now.journal = c.journal.ensures.journal ∙ ap (λ (v : LoggedView g.row.D.Denot). v.journal) c.logged-2.ensures.logged in
-    let running : j.failed ≡ None = sym (ap (λ (v : LoggedView g.row.D.Denot). v.failed) c.logged.ensures.logged) ∙ (sym c.failed.ensures.failed ∙ c.in_default.is) in (
+    let same : c.journal-2.result.now ≡ c.args.journal.now.journal = c.journal-2.ensures.journal ∙ ap (λ (v : LoggedView g.row.D.Denot). v.journal) c.logged-3.ensures.logged in
+    let running : j.failed ≡ None = sym (ap (λ (v : LoggedView g.row.D.Denot). v.failed) c.logged-2.ensures.logged) ∙ (sym c.failed.ensures.failed ∙ c.in_default.is) in (
       search rules,
       (
         c.requires.client,
@@ -48,7 +51,7 @@ work-work-requires g c =
 pub claim_for_work-requires-after_bounds : goal.claim_for_work-requires-after_bounds
 claim_for_work-requires-after_bounds g c κs within =
     let small : g.row.SLOTS ≤ 14 = slots-few g.row.SLOTS c.self.invariant.size in
-    let same : c.journal.result.now ≡ c.args.journal.now.journal = c.journal.ensures.journal ∙ ap (λ (v : LoggedView g.row.D.Denot). v.journal) c.logged-2.ensures.logged in
+    let same : c.journal-2.result.now ≡ c.args.journal.now.journal = c.journal-2.ensures.journal ∙ ap (λ (v : LoggedView g.row.D.Denot). v.journal) c.logged-3.ensures.logged in
     (search rules, (search rules, (search rules, (search rules, (search rules, (c.requires.of, (c.requires.journal, (subst (λ (x : JournalView). IsWorkIn g.row.SLOTS x.history.ids (cells_of x) c.work-work.result) same c.work-work.ensures.works, c.requires.none))))))))
 
 pub returns-in-Err-clause-acts : goal.returns-in-Err-clause-acts
@@ -64,8 +67,8 @@ pub apply-reply-requires-after_bounds : goal.apply-reply-requires-after_bounds
 apply-reply-requires-after_bounds g c κs within =
     let small : g.row.SLOTS ≤ 14 = slots-few g.row.SLOTS c.self.invariant.size in
     let j = c.args.journal.now in
-    let same : c.journal.result.now ≡ c.args.journal.now.journal = c.journal.ensures.journal ∙ ap (λ (v : LoggedView g.row.D.Denot). v.journal) c.logged-2.ensures.logged in
-    let running : j.failed ≡ None = sym (ap (λ (v : LoggedView g.row.D.Denot). v.failed) c.logged.ensures.logged) ∙ (sym c.failed.ensures.failed ∙ c.in_default.is) in
+    let same : c.journal-2.result.now ≡ c.args.journal.now.journal = c.journal-2.ensures.journal ∙ ap (λ (v : LoggedView g.row.D.Denot). v.journal) c.logged-3.ensures.logged in
+    let running : j.failed ≡ None = sym (ap (λ (v : LoggedView g.row.D.Denot). v.failed) c.logged-2.ensures.logged) ∙ (sym c.failed.ensures.failed ∙ c.in_default.is) in
     let held = c.in_default-claim_for_work.ensures.held in
     let pages = subst (λ (x : JournalView). pages_of_work (cells_of x) c.work-work.result ≡ pages_for_call x c.args.client c.args.call.now) same c.work-work.ensures.pages in
     let ready = subst (λ (ps : List ℕ). want_of ps (pages_held c.claim_for_work.new.held) ≡ Ready) pages c.in_default-claim_for_work.ensures.ready in
@@ -99,7 +102,7 @@ returns-clause-made g c = λ none.
     let r = c.apply-reply.result in
     let j = c.args.journal.now in
     let k = c.apply-reply.new.self in
-    let running : j.failed ≡ None = sym (ap (λ (v : LoggedView g.row.D.Denot). v.failed) c.logged.ensures.logged) ∙ (sym c.failed.ensures.failed ∙ c.in_default.is) in
+    let running : j.failed ≡ None = sym (ap (λ (v : LoggedView g.row.D.Denot). v.failed) c.logged-2.ensures.logged) ∙ (sym c.failed.ensures.failed ∙ c.in_default.is) in
     record {
       legal = c.know_history-2.ensures.legal;
       stopped = subst (λ (o : Option FailedCall). IfSome o (λ f. (r ≡ reply.Stopped f.faults) × (k ≡ j))) (sym running) tt;
@@ -115,3 +118,54 @@ returns-clause-made g c = λ none.
       fault = λ f. let x = e.fault f in x.0;
       later = e.later;
     }
+
+-- ---- what the journal was, and what a power loss leaves
+
+pub returns-in-Some-clause-noted : goal.returns-in-Some-clause-noted
+returns-in-Some-clause-noted g c = was-noted g.row.SLOTS c.args.journal.now c.journal.result.now (c.journal.ensures.journal ∙ ap (λ (v : LoggedView g.row.D.Denot). v.journal) c.logged.ensures.logged) c.history.ensures.sound c.history.ensures.led c.know_history.ensures.history
+
+pub returns-in-Err-clause-noted : goal.returns-in-Err-clause-noted
+returns-in-Err-clause-noted g c = was-noted g.row.SLOTS c.args.journal.now c.journal.result.now (c.journal.ensures.journal ∙ ap (λ (v : LoggedView g.row.D.Denot). v.journal) c.logged.ensures.logged) c.history.ensures.sound c.history.ensures.led c.know_history.ensures.history
+
+pub returns-clause-noted : goal.returns-clause-noted
+returns-clause-noted g c = was-noted g.row.SLOTS c.args.journal.now c.journal.result.now (c.journal.ensures.journal ∙ ap (λ (v : LoggedView g.row.D.Denot). v.journal) c.logged.ensures.logged) c.history.ensures.sound c.history.ensures.led c.know_history.ensures.history
+
+pub returns-in-Some-clause-opens : goal.returns-in-Some-clause-opens
+returns-in-Some-clause-opens g c = λ running none. absurd (let failed = sym (ap (λ (v : LoggedView g.row.D.Denot). v.failed) c.logged-2.ensures.logged) ∙ (sym c.failed.ensures.failed ∙ c.in-Some.is) in let both = sym running ∙ failed in cc)
+
+pub returns-in-Err-clause-opens : goal.returns-in-Err-clause-opens
+returns-in-Err-clause-opens g c = λ running none. absurd (again-found c.args.client c.args.call.now c.again.result c.in-Err.found.word c.in-Err.found.seat c.again.ensures none)
+
+pub returns-clause-opens : goal.returns-clause-opens
+returns-clause-opens g c = λ running none. c.apply-reply.ensures.opens
+
+-- ---- the word that another pass has
+
+pub returns-in-Some-clause-again : goal.returns-in-Some-clause-again
+returns-in-Some-clause-again g c = λ word seat e. absurd (stopped-again c.in-Some.failed.faults word seat e)
+
+pub returns-in-Err-clause-again : goal.returns-in-Err-clause-again
+returns-in-Err-clause-again g c = λ word seat e.
+    let same : c.journal-2.result.now ≡ c.args.journal.now.journal = c.journal-2.ensures.journal ∙ ap (λ (v : LoggedView g.row.D.Denot). v.journal) c.logged-3.ensures.logged in
+    let running : c.args.journal.now.failed ≡ None = sym (ap (λ (v : LoggedView g.row.D.Denot). v.failed) c.logged-2.ensures.logged) ∙ (sym c.failed.ensures.failed ∙ c.in_default.is) in
+    let pages = subst (λ (x : JournalView). pages_of_work (cells_of x) c.work-work.result ≡ pages_for_call x c.args.client c.args.call.now) same c.work-work.ensures.pages in
+    let is = same-word c.again.result word seat c.in-Err.found.word c.in-Err.found.seat c.again.ensures e in
+    (running, subst (λ (n : ℕ). Contains (pages_for_call c.args.journal.now.journal c.args.client c.args.call.now) n) (sym is) (subst (λ (ps : List ℕ). Contains ps c.in-Err.found.word) pages c.in-Err.ensures.needed))
+
+pub returns-clause-again : goal.returns-clause-again
+returns-clause-again g c = λ word seat e. absurd (c.apply-reply.ensures.never_again word seat e)
+
+pub returns-in-Some-clause-counted : goal.returns-in-Some-clause-counted
+returns-in-Some-clause-counted g c =
+    subst (λ (v : LoggedView g.row.D.Denot). IfSome v.failed (λ f. Rose v.opened f.faults)) c.logged-2.ensures.logged
+    (subst (λ (o : Option FailedCall). IfSome o (λ f. Rose c.logged-2.result.now.opened f.faults)) c.failed.ensures.failed c.failed.ensures.counted)
+
+pub returns-in-Err-clause-counted : goal.returns-in-Err-clause-counted
+returns-in-Err-clause-counted g c =
+    subst (λ (v : LoggedView g.row.D.Denot). IfSome v.failed (λ f. Rose v.opened f.faults)) c.logged-2.ensures.logged
+    (subst (λ (o : Option FailedCall). IfSome o (λ f. Rose c.logged-2.result.now.opened f.faults)) c.failed.ensures.failed c.failed.ensures.counted)
+
+pub returns-clause-counted : goal.returns-clause-counted
+returns-clause-counted g c =
+    subst (λ (v : LoggedView g.row.D.Denot). IfSome v.failed (λ f. Rose v.opened f.faults)) c.logged-2.ensures.logged
+    (subst (λ (o : Option FailedCall). IfSome o (λ f. Rose c.logged-2.result.now.opened f.faults)) c.failed.ensures.failed c.failed.ensures.counted)

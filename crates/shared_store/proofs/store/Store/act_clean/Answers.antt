@@ -43,8 +43,9 @@ returns-in-Err-clause-acts g c =
     let f = c.in-Err.found in
     let held = c.in-Err.ensures.held in
     let look = subst (λ (o : Option Upkeep). GoesOnWith g.row.SLOTS no_page j k None (marked_by_refusal o)) (none_from c.refuse_clean.result (λ x is. c.in_default.not-Some x is)) c.refuse_clean.ensures.chronicle in
+    let none = with_none v c.requires.none c.requires.journal.idle in
     acts-none g.row.SLOTS v c.claim_page.new.hold.view j k None no_marks (Some (f.word, f.seat))
-    (held.2 ∙ (ap (λ n. met v n f.seat) (sym held.0) ∙ ap (λ (z : Known g.row.SLOTS). met z f.word f.seat) (with_none v c.requires.none c.requires.journal.idle))) held.1 look
+    (none.0, held.2 ∙ (ap (λ n. met v n f.seat) (sym held.0) ∙ ap (λ (z : Known g.row.SLOTS). met z f.word f.seat) none.1)) held.1 look
 
 pub clean-answer-requires-after_bounds : goal.clean-answer-requires-after_bounds
 clean-answer-requires-after_bounds g c κs within =

@@ -7,9 +7,9 @@ use Rattle.core_store.proofs.MapLaws.{none_from}
 use Rattle.logged_journal.specs.View.{LoggedView}
 use Rattle.shared_store.specs.declared.answers.CollectRefusal.{CollectRefusal}
 use Rattle.shared_store.specs.Acts.{Acts}
-use Rattle.shared_store.specs.Calls.{entered_by_collecting, marked_by_collecting, found_by_collecting}
+use Rattle.shared_store.specs.Calls.{WasNoted, entered_by_collecting, marked_by_collecting, found_by_collecting}
 use Rattle.shared_store.proofs.Acting.{acts-stopped, acts-on}
-use Rattle.shared_store.proofs.Collects.{WasNoted, acts-looked_found, acts-behind, collect-stopped, collect-did}
+use Rattle.shared_store.proofs.Collects.{acts-looked_found, acts-behind, collect-stopped, collect-did}
 use Rattle.shared_store.proofs.store.Store.act_collect_step.Goals as goal
 
 pub returns-in-Some-clause-acts : goal.returns-in-Some-clause-acts

@@ -1,14 +1,19 @@
-use Rattle.std.proofs.Common.{◌≡◌, ◌≤◌, ℕ, ◌+◌, sym, ap, subst, ◌∙◌, rules}
+use Rattle.std.proofs.Common.{◌≡◌, ◌≤◌, ℕ, ◌+◌, inl, inr, sym, ap, subst, ◌∙◌, rules}
+use Rattle.std.specs.List.{Contains}
+use Rattle.disk_model.specs.Time.{LeavesOnlyImages}
+use Rattle.core_store.specs.Limited.{pages_for_call}
+use Rattle.logged_journal.specs.Opens.{OpensDuring}
 use Rattle.latch_table.specs.Views.{joined_marks, met}
 use Rattle.framed_journal.proofs.HoldLaws.{slots-few}
 use Rattle.journal_chronicle.specs.View.{has_transaction, marks_of, notes_of}
 use Rattle.journal_chronicle.specs.Steps.{entered_by_call, marked_by_call}
 use Rattle.shared_store.specs.declared.refused.Refused.{Refused}
 use Rattle.shared_store.specs.Passes.{Known, AreMarked}
-use Rattle.shared_store.specs.Calls.{GoesOnAs, DoesCallOn, MakesCall, found_by_call, refused_by_call}
+use Rattle.shared_store.specs.Calls.{GoesOnAs, DoesCallOn, MakesCall, NeedsPage, found_by_call, refused_by_call}
 use Rattle.shared_store.proofs.Acting.{acts-seen, has-journal}
 use Rattle.shared_store.proofs.Passing.{IsDone, done-comes, done-pass, met-pass}
 use Rattle.shared_store.proofs.Replies.{again-goes, again-refused, again-found, call-drop, marked-call, txn-after}
+use Rattle.shared_store.proofs.Wanted.{same-word}
 use Rattle.shared_store.proofs.store.Store.call.Goals as goal
 
 -- ---- another pass has the log word
@@ -168,11 +173,63 @@ pub returns-clause-made : goal.returns-clause-made
 returns-clause-made g c = λ none.
     let r = c.act-reply.result in
     let is : c.pass.inside.hold.view ≡ c.args.pass.now.view = ap (λ z. z.view) c.pass.view_is in
-    subst (λ (v : Known g.row.SLOTS). MakesCall g.row.D.Denot g.row.SLOTS g.D.Disk.faults v c.args.call.now r) is
+    let d : IsDone g.row.SLOTS c.pass.inside.hold.view c.finish-pass-inside.new.hold.view c.in-Ok.journal c.act-reply.new.journal (entered_by_call c.pass.inside.number c.args.call.now r) (marked_by_call r) (found_by_call r)
+    = record {
+      claimed = c.claim_log.new.hold.view;
+      worked = c.act-reply.new.hold.view;
+      held = c.act-reply.new.held;
+      tells = c.is_entered-entered.result;
+      claim = c.in-Ok.ensures.ok.0;
+      later = c.in-Ok.ensures.ok.1;
+      acts = c.act-reply.ensures.acts;
+      iff = c.is_entered-entered.ensures c.pass.inside.number c.args.call.now;
+      told = c.finish-pass-inside.ensures.told;
+      same = c.finish-pass-inside.ensures.same;
+    } in
+    let comes = done-comes g.row.SLOTS c.pass.inside.hold.view c.finish-pass-inside.new.hold.view c.in-Ok.journal c.act-reply.new.journal (entered_by_call c.pass.inside.number c.args.call.now r) (marked_by_call r) (found_by_call r) d in
+    subst (λ (v : Known g.row.SLOTS). MakesCall g.row.D.Denot g.row.SLOTS g.D.Disk.faults g.D.Disk.moment g.D.Disk.left_since v c.finish-pass-inside.new.hold.view c.args.call.now r) is
     (record {
       before = c.in-Ok.journal;
       after = c.act-reply.new.journal;
       later = c.in-Ok.ensures.ok.1;
       covered = c.in-Ok.ensures.once;
+      found = comes.stories;
+      noted = c.act-reply.ensures.noted;
+      counted = c.act-reply.ensures.counted;
       made = subst (λ (n : ℕ). DoesCallOn g.row.SLOTS g.D.Disk.faults c.in-Ok.journal c.act-reply.new.journal n c.args.call.now r) c.pass.invariant.number_is (c.act-reply.ensures.made none);
+      opens = λ running. subst (λ (n : ℕ). LeavesOnlyImages g.D.Disk.moment g.D.Disk.left_since c.in-Ok.journal.disk c.act-reply.new.journal.disk (OpensDuring g.row.SLOTS c.in-Ok.journal n c.args.call.now)) c.pass.invariant.number_is (c.act-reply.ensures.opens running none);
     })
+
+-- ---- the word that another pass has
+
+pub returns-in-Err-clause-again : goal.returns-in-Err-clause-again
+returns-in-Err-clause-again g c = λ word seat e. inl (same-word c.again.result word seat c.in-Err.found.word c.in-Err.found.seat c.again.ensures e ∙ c.in-Err.ensures.held.0 ∙ ap (λ z. z.pages) c.self.view_is)
+
+pub returns-clause-again : goal.returns-clause-again
+returns-clause-again g c = λ word seat e.
+    let r = c.act-reply.result in
+    let is : c.pass.inside.hold.view ≡ c.args.pass.now.view = ap (λ z. z.view) c.pass.view_is in
+    let d : IsDone g.row.SLOTS c.pass.inside.hold.view c.finish-pass-inside.new.hold.view c.in-Ok.journal c.act-reply.new.journal (entered_by_call c.pass.inside.number c.args.call.now r) (marked_by_call r) (found_by_call r)
+    = record {
+      claimed = c.claim_log.new.hold.view;
+      worked = c.act-reply.new.hold.view;
+      held = c.act-reply.new.held;
+      tells = c.is_entered-entered.result;
+      claim = c.in-Ok.ensures.ok.0;
+      later = c.in-Ok.ensures.ok.1;
+      acts = c.act-reply.ensures.acts;
+      iff = c.is_entered-entered.ensures c.pass.inside.number c.args.call.now;
+      told = c.finish-pass-inside.ensures.told;
+      same = c.finish-pass-inside.ensures.same;
+    } in
+    let comes = done-comes g.row.SLOTS c.pass.inside.hold.view c.finish-pass-inside.new.hold.view c.in-Ok.journal c.act-reply.new.journal (entered_by_call c.pass.inside.number c.args.call.now r) (marked_by_call r) (found_by_call r) d in
+    let a = c.act-reply.ensures.again word seat e in
+    inr (subst (λ (v : Known g.row.SLOTS). NeedsPage g.row.D.Denot g.row.SLOTS v c.finish-pass-inside.new.hold.view c.args.call.now word) is
+    (record {
+      before = c.in-Ok.journal;
+      later = c.in-Ok.ensures.ok.1;
+      found = comes.stories;
+      noted = c.act-reply.ensures.noted;
+      running = a.0;
+      needed = subst (λ (n : ℕ). Contains (pages_for_call c.in-Ok.journal.journal n c.args.call.now) word) c.pass.invariant.number_is a.1;
+    }))

@@ -1,4 +1,4 @@
-use Rattle.std.proofs.Common.{◌≡◌, ◌≢◌, ◌+◌, ◌-◌, ◌*◌, length}
+use Rattle.std.proofs.Common.{None, ◌≡◌, ◌≢◌, ◌+◌, ◌-◌, ◌*◌, length}
 use Rattle.core_store.specs.declared.want.Want.TheVariants.{LetGo}
 use Rattle.core_store.specs.Frames.{AreOnce, pages_held}
 use Rattle.core_store.specs.Limited.{pages_for_collector}
@@ -6,7 +6,8 @@ use Rattle.core_store.specs.Logged.{want_of}
 use Rattle.core_store.specs.RoundView.{left_of}
 use Rattle.core_store.specs.Steppings.{OnlyLooks}
 use Rattle.framed_journal.specs.Holding.{AreHeldOf}
-use Rattle.shared_store.specs.Holding.{pairs_of, with_pages}
+use Rattle.shared_store.specs.Acts.{Takes}
+use Rattle.shared_store.specs.Holding.{pairs_of}
 use Rattle.shared_store.proofs.store.Store.claim_for_collector.Given as goal
 
 -- what is held is in hand and the store's, and none is to be let go before the collector looks on
@@ -15,7 +16,7 @@ invariant-pages g l = record {
   of : l.hold.table ≡ l.fn.self.table;
   once : AreOnce l.held;
   held : AreHeldOf l.journal.journal l.held;
-  pages : l.hold.view ≡ with_pages l.fn.hold.view (pairs_of l.held);
+  pages : Takes l.fn.hold.view l.hold.view (pairs_of l.held) None;
   needed : want_of (pages_for_collector l.journal.journal) (pages_held l.held) ≢ LetGo;
   looks : OnlyLooks g.row.SLOTS l.fn.journal.journal l.journal.journal;
   same : l.journal ≡ record l.fn.journal { journal = l.journal.journal };

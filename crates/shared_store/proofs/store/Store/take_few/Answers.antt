@@ -1,9 +1,10 @@
-use Rattle.std.proofs.Common.{◌≤◌, true, false, List, [], ◌∷◌, length, sym, ap, ◌∙◌, subst, arith, rules, length-append}
+use Rattle.std.proofs.Common.{None, ◌≤◌, true, false, List, [], ◌∷◌, length, sym, ap, ◌∙◌, subst, arith, rules, length-append}
 use Rattle.core_store.specs.declared.three.HeldFrame.{HeldFrame}
 use Rattle.core_store.specs.Frames.{AreOnce, IsNext, is_held}
 use Rattle.framed_journal.proofs.HoldLaws.{slots-few, AreHeldOf-none}
 use Rattle.latch_table.specs.Holds.{TableView}
-use Rattle.shared_store.specs.Holding.{pairs_of, with_pages}
+use Rattle.shared_store.specs.Acts.{Takes}
+use Rattle.shared_store.specs.Holding.{pairs_of}
 use Rattle.shared_store.proofs.Pairs.{has-with, claimed-more, with_none}
 use Rattle.shared_store.proofs.LoneUpkeeps.{put-below, put-above, never-err, meets-none}
 use Rattle.shared_store.proofs.store.Store.take_few.Goals as goal
@@ -11,7 +12,7 @@ use Rattle.shared_store.proofs.store.Store.take_few.Goals as goal
 pub pages-init : goal.pages-init
 pages-init g c = record {
   of = c.requires.of;
-  view = with_none c.args.hold.now.view c.requires.none.1 c.requires.journal.idle ∙ ap (λ hs. with_pages c.args.hold.now.view (pairs_of hs)) (sym c.requires.none.0);
+  view = subst (λ hs. Takes c.args.hold.now.view c.args.hold.now.view (pairs_of hs) None) (sym c.requires.none.0) (with_none c.args.hold.now.view c.requires.none.1 c.requires.journal.idle);
   frames = AreHeldOf-none c.args.journal.now.journal c.args.held.now c.requires.none.0;
   once = subst AreOnce (sym c.requires.none.0) tt;
   count = ap (length {A = HeldFrame g.row.SLOTS}) c.requires.none.0;
@@ -31,7 +32,7 @@ claim_one-claimed-requires-after_bounds g c κs within =
     let all = c.pages-count.ensures in
     let pages = ap (λ (t : TableView). t.pages) c.self.view_is in
     let next : IsNext c.args.journal.now.journal.history.ids c.pages.held c.pages.page = record { there = omega (arith, all, low, ids, pages); other = i.above c.pages.page (omega arith); room = omega (arith, all, low, few, count, pages) } in
-    (search rules, (search rules, (search rules, (search rules, (search rules, (i.of, (has, ((i.frames, ap (λ v. v.hands.pages) i.view), next))))))))
+    (search rules, (search rules, (search rules, (search rules, (search rules, (i.of, (has, ((i.frames, ap (λ v. v.hands.pages) i.view.1), next))))))))
 
 pub unreachable-requires : goal.unreachable-requires
 unreachable-requires g c =

@@ -62,4 +62,5 @@ pub returns-clause-made : goal.returns-clause-made
 returns-clause-made g c =
     let r = c.act_turn-answer.result in
     let is : c.pass.inside.hold.view ≡ c.args.pass.now.view = ap (λ z. z.view) c.pass.view_is in
-    makes-turn g.row.SLOTS g.D.Disk.faults g.D.Disk.may_leave c.pass.inside.hold.view c.args.pass.now.view c.in-Ok.journal c.act_turn-answer.new.journal r is (record { later = c.in-Ok.ensures.ok.1; covered = c.in-Ok.ensures.once }) c.act_turn-answer.ensures.made
+    let comes = done-comes g.row.SLOTS c.pass.inside.hold.view c.finish-pass-inside.new.hold.view c.in-Ok.journal c.act_turn-answer.new.journal (entered_by_upkeep_of r) (marked_by_upkeep_of r) (found_by_upkeep r) (record { claimed = c.claim_log.new.hold.view; worked = c.act_turn-answer.new.hold.view; held = []; tells = c.is_entered-entered.result; claim = c.in-Ok.ensures.ok.0; later = c.in-Ok.ensures.ok.1; acts = c.act_turn-answer.ensures.acts; iff = c.is_entered-entered.ensures; told = c.finish-pass-inside.ensures.told; same = c.finish-pass-inside.ensures.same }) in
+    makes-turn g.row.SLOTS g.D.Disk.faults g.D.Disk.may_leave g.D.Disk.moment g.D.Disk.left_since c.pass.inside.hold.view c.args.pass.now.view c.finish-pass-inside.new.hold.view c.in-Ok.journal c.act_turn-answer.new.journal r is (record { later = c.in-Ok.ensures.ok.1; covered = c.in-Ok.ensures.once; found = comes.stories }) c.act_turn-answer.ensures.made c.act_turn-answer.ensures.opens

@@ -1,5 +1,0 @@
-use Rattle.share_runs.specs.Passes.{StaysOf}
-use Rattle.share_runs.proofs.looks.look.Given as goal
-
-abbrev pub invariant-tries : goal.invariant-tries
-invariant-tries g l = StaysOf l.fn.store l.fn.pass l.pass

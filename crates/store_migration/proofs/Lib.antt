@@ -1,0 +1,3 @@
+pub mod Widths
+mod Turns
+pub mod Refused
