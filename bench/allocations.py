@@ -1,7 +1,7 @@
 #!/usr/bin/env python3
-"""Refuses each allocation of the program in turn. It is run by hand, and is no part of the gate.
+"""Refuses each allocation of the program in turn. In its short form, which refuses some of them, the gate runs it.
 
-    bench/allocations.py [--program PATH]
+    bench/allocations.py [--short] [--program PATH]
 
 A library that is loaded before the C library's own lets the program's Nth allocation fail, for N from 1 on until none
 fails any more: while a store is made, while a script is replayed that has every line, while generated calls are done,
@@ -46,8 +46,8 @@ void *realloc(void *old, size_t size) {
 class Refusals:
     """Runs of which each has one allocation refused."""
 
-    def __init__(self, runs):
-        self.runs = runs
+    def __init__(self, runs, step):
+        self.runs, self.step, self.commits = runs, step, {}
 
     def behind(self, areas, words, script, output):
         """What may be reachable behind what was written: behind some first lines, which have as many commits that were done."""
@@ -58,10 +58,17 @@ class Refusals:
         found = []
         for count in range(len(lines) + 1):
             front = b"".join(lines[:count])
-            self.runs.lay(areas)
-            if len(re.findall(rb"commit: ok\n", self.runs.run(["replay"], front)[1])) == commits:
+            if self.commits_of(areas, front) == commits:
                 found.append(self.runs.seen_behind(areas, front))
         return found
+
+    def commits_of(self, areas, front):
+        """How many commits these lines do."""
+        key = (front, *sorted(areas.items()))
+        if key not in self.commits:
+            self.runs.lay(areas)
+            self.commits[key] = len(re.findall(rb"commit: ok\n", self.runs.run(["replay"], front)[1]))
+        return self.commits[key]
 
     def fault_of(self, areas, words, script, wanted, fails):
         """What is wrong where this allocation fails, if anything, and whether one failed."""
@@ -82,12 +89,12 @@ class Refusals:
         """Lets each allocation fail. How many runs were wrong."""
         self.runs.lay(areas)
         wanted = self.runs.run(words, script)
-        wrong, passed, fails = 0, 0, 0
+        wrong, passed, fails = 0, 0, 1 - self.step
         # Some allocations may fail without a trace; the last one that tells anything is followed by fifty that do not.
         while passed < 50:
-            fails += 1
+            fails += self.step
             fault, failed = self.fault_of(areas, words, script, wanted, fails)
-            passed = 0 if failed else passed + 1
+            passed = 0 if failed else passed + self.step
             if fault:
                 wrong += 1
                 print("%s, allocation %d: %s" % (" ".join(words), fails, fault))
@@ -95,9 +102,9 @@ class Refusals:
         return wrong
 
 
-def refuse_all(_words, runs):
+def refuse_all(words, runs):
     """Refuses the allocations of each command."""
-    refusals = Refusals(runs)
+    refusals = Refusals(runs, 25 if words.short else 1)
     fresh = runs.made({}, (["init", "2"], b""))
     unended = runs.made(fresh, (["replay"], stores.SCRIPT + stores.UNENDED))
     return sum([

@@ -1,36 +1,41 @@
 #!/usr/bin/env python3
-"""Loses power at each disk call of the program, and lets each one fail. It is run by hand, and is no part of the gate.
+"""Loses power at each disk call of the program, and lets each one fail. In its short form, with some of the calls, the gate runs it.
 
-    bench/power_loss.py [--losses N] [--scripts M] [--seed S] [--program PATH]
+    bench/power_loss.py [--short] [--losses N] [--scripts M] [--seed S] [--program PATH]
 
-A library that is loaded before the C library's own keeps a trace of the calls that the program makes on the four files and their
-folder: reads, writes, cuts and syncs. It ends the program at the Kth of them, for K from 1 on until the program ends by itself: while a
-store is made from nothing and over another one, while a script is replayed that has every line, while a store is opened whose last
-transactions had not ended, while an audit is made, while a client works on a thread, while generated calls are done, and while M (five,
-without it) scripts are replayed that are drawn as those of damage.py are.
+A library that is loaded before the C library's own keeps a trace of the calls that the program makes on the four files, on a new file that
+is to take the place of one of them, and on their folder: reads, writes, cuts, syncs, new names and removals. It ends the program at the Kth
+of them, for K from 1 on until the program ends by itself: while a store is made from nothing and over another one, while a script is
+replayed that has every line, while a store is opened whose last transactions had not ended, while one is opened on which another run did
+not end well, while an audit is made, while a client works on a thread, while generated calls are done, and while M (five, without it)
+scripts are replayed that are drawn as those of damage.py are.
 
-From the trace N (ten, without it) contents of the four files are drawn as a power loss at that call may leave them. What the last sync of
-a file made last is there. Of the writes and cuts behind it, and of the call at which power was lost, each is done, not done or done
-in part, or anything is in its range. Each such store has to open to the effect of the commits that were answered, or of these and the
-one that was under way, with counts that are right; behind `init` there may be what was there before, no store, or a fresh one. (A client
-on a thread has its lines printed at the end, so some first ones of its commits have to be there; behind generated calls only the counts
-are looked at.)
+From the trace N (ten, without it) contents of the four files are drawn as a power loss at that call may leave them. What the last sync of a
+file made last is there. Of the writes and cuts behind it, and of the call at which power was lost, each is done, not done or done in part,
+or anything is in its range. Each such store has to open to the effect of the commits that were answered, or of these and the one that was
+under way, with counts that are right; behind `init` there may be what was there before, no store, or a fresh one. (A client on a thread has
+its lines printed at the end, so some first ones of its commits have to be there; behind generated calls only the counts are looked at.)
 
-Then the Kth call fails once in place of a loss of power, and the program goes on: it has to end with status 6, with the lines that it
-had written until then, `fault` for a commit that failed, and `refused: disk`. What it leaves, and what a power loss may leave
-behind it, has to open in the same way. And at last each call is interrupted once and each read and write goes a few bytes at a time,
-which may change nothing.
+Then the Kth call fails once in place of a loss of power, and the program goes on: it has to end with status 6, with the lines that it had
+written until then, `fault` for a commit that failed, and `refused: disk`. What it leaves, and what a power loss may leave behind it, has to
+open in the same way.
 
-Without any of this each run has to end with status 0, and to have such calls. What else comes is printed with its K, and the status is
-then 1.
+Each sync is also let fail so that the system keeps in memory what was to last by it, and counts it as written, so that no later sync writes
+it. The next run reads it, and goes on. When power is then lost, all that this run told as done has to be there. (Where the mark that the
+first run left is removed before, something has to be missing, or these runs would tell nothing.)
+
+And at last each call is interrupted once and each read and write goes a few bytes at a time, which may change nothing.
+
+Without any of this each run has to end with status 0, and to have such calls. What else comes is printed with its K, and the status is then
+1.
 """
 import os
 import random
 import re
-import struct
 
 import damage
 import stores
+from folders import FOLDER, MARK, SPARE_NAME, SYNC, Folder
 
 SHIM = r"""
 #define _GNU_SOURCE
@@ -44,9 +49,9 @@ SHIM = r"""
 #include <unistd.h>
 #include <fcntl.h>
 
-enum { READ, WRITE, CUT, SYNC };
-enum { FOLDER = 4, OTHER = 5 };
-static const char *const NAMES[] = {"brahma.pages", "brahma.loga", "brahma.logb", "brahma.super"};
+enum { READ, WRITE, CUT, SYNC, RENAME, REMOVE };
+enum { SPARE = 4, FOLDER = 5, OTHER = 6 };
+static const char *const NAMES[] = {"brahma.pages", "brahma.loga", "brahma.logb", "brahma.super", "brahma.new"};
 
 static long loses, fails, calls;
 static int shortens, interrupted, trace = -1;
@@ -55,6 +60,8 @@ static ssize_t (*next_write)(int, const void *, size_t, off64_t);
 static int (*next_cut)(int, off64_t);
 static int (*next_data_sync)(int);
 static int (*next_sync)(int);
+static int (*next_rename)(const char *, const char *);
+static int (*next_remove)(const char *);
 
 static long number(const char *name) {
     const char *told = getenv(name);
@@ -67,13 +74,23 @@ __attribute__((constructor)) static void begin(void) {
     next_cut = dlsym(RTLD_NEXT, "ftruncate64");
     next_data_sync = dlsym(RTLD_NEXT, "fdatasync");
     next_sync = dlsym(RTLD_NEXT, "fsync");
+    next_rename = dlsym(RTLD_NEXT, "rename");
+    next_remove = dlsym(RTLD_NEXT, "unlink");
     loses = number("LOSES");
     fails = number("FAILS");
     shortens = number("SHORTENS");
     if (getenv("TRACE")) trace = open(getenv("TRACE"), O_WRONLY | O_CREAT | O_APPEND | O_CLOEXEC, 0600);
 }
 
-/* Which of the four files this is, or the folder, or none of them. */
+/* Which of the files has this name, if any. */
+static int file_named(const char *path) {
+    const char *slash = strrchr(path, '/');
+    for (int file = 0; file <= SPARE; file++)
+        if (strcmp(slash ? slash + 1 : path, NAMES[file]) == 0) return file;
+    return OTHER;
+}
+
+/* Which of the files this is, or the folder, or none of them. */
 static int file_of(int fd) {
     char link[64], path[4096], *at = link;
     struct stat told;
@@ -87,10 +104,7 @@ static int file_of(int fd) {
     ssize_t length = readlink(link, path, sizeof path - 1);
     if (length < 0) return OTHER;
     path[length] = 0;
-    const char *name = strrchr(path, '/');
-    for (int file = 0; file < 4; file++)
-        if (name && strcmp(name + 1, NAMES[file]) == 0) return file;
-    return OTHER;
+    return file_named(path);
 }
 
 static void put(const void *bytes, size_t length) {
@@ -106,7 +120,7 @@ static void put(const void *bytes, size_t length) {
 /* Traces a call that begins. Tells whether it fails at once, with errno set. */
 static int begins(int kind, int file, uint64_t at, const void *bytes, uint64_t length) {
     if (file == OTHER) return 0;
-    if (shortens && !interrupted) {
+    if (shortens && !interrupted && kind < RENAME) {
         interrupted = 1;
         errno = EINTR;
         return 1;
@@ -167,6 +181,18 @@ int fsync(int fd) {
     return ended(file, next_sync(fd));
 }
 
+int rename(const char *from, const char *to) {
+    int file = file_named(to);
+    if (begins(RENAME, file, 0, 0, 0)) return -1;
+    return ended(file, next_rename(from, to));
+}
+
+int unlink(const char *path) {
+    int file = file_named(path);
+    if (begins(REMOVE, file, 0, 0, 0)) return -1;
+    return ended(file, next_remove(path));
+}
+
 ssize_t pread(int fd, void *into, size_t length, off_t at) { return pread64(fd, into, length, at); }
 ssize_t pwrite(int fd, const void *bytes, size_t length, off_t at) { return pwrite64(fd, bytes, length, at); }
 int ftruncate(int fd, off_t length) { return ftruncate64(fd, length); }
@@ -190,97 +216,35 @@ CLIENT = b"""1 begin
 1 commit
 """
 
+# What a run does that finds the mark of another one.
+UNDER_A_MARK = b"1 begin\n1 set 0 3\n1 commit\n"
+
+# What a run does behind one whose sync failed.
+LATER = b"1 begin\n1 set 0 8\n1 make 1\n1 store 0 3 1\n1 commit\n2 begin\n2 set 0 11\n2 commit\nclean 0\n1 begin\n1 set 0 12\n1 commit\n"
+
 LOST = 97
-WRITE, CUT, SYNC = 1, 2, 3
 NO_STORE = (7, b"refused: no store\n")
-
-
-class Area:
-    """What a file's last sync made last, and the writes and cuts behind it."""
-
-    def __init__(self, content):
-        self.lasting, self.behind = content, []
-
-    def content(self):
-        """What the file has where all of them are done."""
-        content = self.lasting
-        for change in self.behind:
-            content = done(content, *change)
-        return content
-
-    def left(self, draw):
-        """What a power loss may leave."""
-        content, way = self.lasting, draw.randrange(4)
-        first = draw.randrange(len(self.behind) + 1)
-        for count, (at, data) in enumerate(self.behind):
-            # All of them, some first ones, each as it falls, or anything where they wrote.
-            if way == 0 or way == 1 and count < first or way == 2 and draw.random() < 0.5:
-                content = done(content, at, data)
-            elif way == 1 and count == first or way == 2 and draw.random() < 0.5:
-                content = in_part(content, at, data, draw)
-            elif way == 3 and data is not None:
-                content = done(content, at, draw.randbytes(draw.randrange(len(data) + 1)))
-        return content
-
-
-def done(content, at, data):
-    """A content behind a write of these bytes, or, without bytes, behind a cut."""
-    if data is None:
-        return content[:at]
-    return content[:at].ljust(at, b"\0") + data + content[at + len(data):]
-
-
-def in_part(content, at, data, draw):
-    """A content behind a part of a write or a cut."""
-    if data is None:
-        return content[: draw.randrange(min(at, len(content)), len(content) + 1)]
-    start, end = sorted(draw.randrange(len(data) + 1) for _ in range(2))
-    return done(content, at + start, data[start:end])
-
-
-def traced(path, areas):
-    """The files as a trace left them that began with these."""
-    found = [Area(areas.get(name, b"")) for name in stores.FILES]
-    with open(path, "rb") as file:
-        trace = file.read()
-    place = 0
-    while place < len(trace):
-        kind, at_file = trace[place], trace[place + 1]
-        at, length = struct.unpack_from("=QQ", trace, place + 2)
-        place += 18
-        data = trace[place: place + length] if kind == WRITE else None
-        place += length if kind == WRITE else 0
-        ended = trace[place: place + 1]
-        place += 1
-        if at_file < len(found):
-            area = found[at_file]
-            if kind in (WRITE, CUT):
-                area.behind.append((at, data))
-            elif kind == SYNC and ended == b"d":
-                area.lasting, area.behind = area.content(), []
-    return found
-
-
-def drawn(found, draw):
-    """The four files as a power loss may leave them. An empty one may as well not be there."""
-    left = {name: area.left(draw) for name, area in zip(stores.FILES, found)}
-    return {name: content for name, content in left.items() if content or draw.random() < 0.5}
 
 
 class Losses:
     """Runs that lose power, or whose disk fails."""
 
-    def __init__(self, runs, losses, seed):
-        self.runs, self.losses, self.seed = runs, losses, seed
+    def __init__(self, runs, losses, seed, step):
+        self.runs, self.losses, self.seed, self.step = runs, losses, seed, step
         self.trace = os.path.join(os.path.dirname(runs.disk), "trace")
 
     def run(self, areas, words, script, **told):
         """The status and the output of a run on a store that was so, and the files by its trace."""
+        self.runs.lay(areas)
+        folder = Folder(areas)
+        return self.run_on(folder, words, script, **told)[0], folder
+
+    def run_on(self, folder, words, script, **told):
+        """The same of a run on the store as it is, and its calls."""
         if os.path.exists(self.trace):
             os.remove(self.trace)
-        self.runs.lay(areas)
-        status, output = self.runs.run(words, script, TRACE=self.trace, **told)
-        return (status, output), traced(self.trace, areas)
+        ended = self.runs.run(words, script, TRACE=self.trace, **told)
+        return ended, folder.goes_on(self.trace)
 
     def fronts(self, areas, script):
         """What each number of the script's first lines prints, but for the line at the end, and what is reachable behind it."""
@@ -316,31 +280,31 @@ class Losses:
             return "opens to %r" % (now,)
         return None if now == NO_STORE and may_be else self.runs.fault_of_audit()
 
-    def faults_of(self, found, what, may_be):
+    def faults_of(self, found, what, may_be, losses=None):
         """What is wrong with stores that a power loss may leave."""
         faults = []
-        for loss in range(self.losses):
+        for loss in range(losses or self.losses):
             draw = random.Random("%d %s %d" % (self.seed, what, loss))
-            fault = self.fault_of(drawn(found, draw), may_be)
+            fault = self.fault_of(found.drawn(draw), may_be)
             if fault:
                 faults.append("%s, loss %d: %s" % (what, loss, fault))
         return faults
 
     def lose_each(self, areas, words, script, allowed, wanted):
-        """Loses power at each call. How many there are, and what was wrong: at last the program has to end by itself, as it is wanted."""
-        faults, at = [], 0
+        """Loses power at each call. What was wrong: at last the program has to end by itself, as it is wanted."""
+        faults, at = [], 1
         while True:
-            at += 1
             ended, found = self.run(areas, words, script, LOSES=str(at))
             what = "%s, power lost at call %d" % (" ".join(words), at)
             if ended[0] != LOST:
-                return at - 1, faults if ended == wanted and at > 1 else [*faults, "%s: ends with %r" % (what, ended)]
+                return faults if ended == wanted and at > 1 else [*faults, "%s: ends with %r" % (what, ended)]
             faults += self.faults_of(found, what, allowed and allowed(ended[1]))
+            at += self.step
 
     def fail_each(self, areas, words, script, allowed, calls):
         """Lets each call fail. What was wrong."""
         faults = []
-        for at in range(1, calls + 1):
+        for at in range(1, calls + 1, self.step):
             what = "%s, call %d fails" % (" ".join(words), at)
             (status, output), found = self.run(areas, words, script, FAILS=str(at))
             written = re.sub(rb"([0-9]+ commit: fault\n)?refused: disk\n\Z", b"", output)
@@ -357,28 +321,66 @@ class Losses:
     def try_each(self, areas, words, script):
         """Loses power at each call of a run, lets each fail, and interrupts them. How many runs were wrong."""
         allowed = self.allowed(areas, words, script)
-        wanted, _ = self.run(areas, words, script)
-        calls, faults = self.lose_each(areas, words, script, allowed, wanted)
-        faults += self.fail_each(areas, words, script, allowed, calls)
+        self.runs.lay(areas)
+        wanted, calls = self.run_on(Folder(areas), words, script)
+        faults = self.lose_each(areas, words, script, allowed, wanted)
+        faults += self.fail_each(areas, words, script, allowed, len(calls))
         if wanted[0] != 0 or self.run(areas, words, script, SHORTENS="1")[0] != wanted:
             faults.append("%s: status %d, or differs where calls are interrupted" % (" ".join(words), wanted[0]))
         for fault in faults:
             print(fault)
-        print("%s: calls: %d, wrong: %d" % (" ".join(words), calls, len(faults)), flush=True)
+        print("%s: calls: %d, wrong: %d" % (" ".join(words), len(calls), len(faults)), flush=True)
+        return len(faults)
+
+
+    def lie_at(self, areas, script, at, keeps_mark):
+        """What is wrong where that call, a sync, fails and the system lets go what was to last by it, and, behind a later run, power is
+        lost: what that run told as done has to be there. Without the mark of the run that failed that may be missing."""
+        what = "call %d fails, and later power is lost" % at
+        (status, _), folder = self.run(areas, ["replay"], script, FAILS=str(at))
+        if status != 6:
+            return ["%s: status %d" % (what, status)]
+        held = self.runs.held()
+        mark = os.path.join(self.runs.disk, MARK)
+        if not keeps_mark and os.path.exists(mark):
+            os.remove(mark)
+        ended, _ = self.run_on(folder, ["replay"], LATER)
+        may_be = [self.runs.seen_behind(held, LATER)]
+        ends = [] if ended[0] == 0 else ["%s: ends with %r" % (what, ended)]
+        return ends + self.faults_of(folder, what, may_be, None if keeps_mark else 12)
+
+    def lie_each(self, areas, script):
+        """Lets each sync of a file fail so. How many runs were wrong."""
+        self.runs.lay(areas)
+        _, calls = self.run_on(Folder(areas), ["replay"], script)
+        syncs = [at for at, (kind, file) in enumerate(calls, 1) if kind == SYNC and file < FOLDER]
+        # In the short form the last ones, behind which the log is longest.
+        syncs = syncs if self.step == 1 else syncs[-4:]
+        faults = [fault for at in syncs for fault in self.lie_at(areas, script, at, True)]
+        # Without the mark something has to be missing: else these runs tell nothing.
+        if not any(self.lie_at(areas, script, at, False) for at in reversed(syncs)):
+            faults.append("nothing is missing where the mark of a run is removed")
+        for fault in faults:
+            print(fault)
+        print("replay behind a sync that failed: syncs: %d, wrong: %d" % (len(syncs), len(faults)), flush=True)
         return len(faults)
 
 
 def lose_all(words, runs):
     """Loses power in each command."""
-    losses = Losses(runs, words.losses, words.seed)
+    if words.short:
+        words.losses, words.scripts = 2, 0
+    losses = Losses(runs, words.losses, words.seed, 17 if words.short else 1)
     fresh = runs.made({}, (["init", "2"], b""))
     unended = runs.made(fresh, (["replay"], stores.SCRIPT + stores.UNENDED))
     drawn_scripts = [damage.script(random.Random("script %d %d" % (words.seed, at))) for at in range(words.scripts)]
     return sum([
         losses.try_each({}, ["init", "2"], b""),
         losses.try_each(unended, ["init", "2"], b""),
-        losses.try_each(fresh, ["replay"], stores.SCRIPT),
+        0 if words.short else losses.try_each(fresh, ["replay"], stores.SCRIPT),
         losses.try_each(unended, ["replay"], stores.SCRIPT),
+        losses.try_each({**unended, MARK: b"", SPARE_NAME: b"left"}, ["replay"], UNDER_A_MARK),
+        losses.lie_each(unended, stores.SCRIPT),
         losses.try_each(unended, ["audit"], b""),
         losses.try_each(fresh, ["run"], CLIENT),
         losses.try_each(fresh, stores.GENERATED, b""),

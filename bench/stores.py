@@ -145,6 +145,7 @@ def on_stores(summary, source, use, *options):
     """Hands the words of the command and runs of the program in a folder in memory to a function, which tells how many runs were wrong."""
     words = argparse.ArgumentParser(description=summary)
     words.add_argument("--program", default=os.path.join(HERE, "..", "brahma"))
+    words.add_argument("--short", action="store_true", help="tries some of the cases, in some seconds")
     for name, value in options:
         words.add_argument(name, type=int, default=value)
     words = words.parse_args()
