@@ -13,6 +13,7 @@ pub mod Sweeps
 pub mod Walks
 pub mod Bounds
 pub mod Gains
+pub mod LiveSlots
 pub mod Runs
 pub mod FromStart
 pub mod Dominated

@@ -1,5 +1,5 @@
 -- Notes of a journal from the start of a round to its end, beside no active client, are those of a whole round.
-use Rattle.std.proofs.Common.{◌≡◌, ◌≢◌, ◌↔◌, ℕ, ◌+◌, ◌*◌, ◌≤◌, ◌==◌, if◌then◌else◌, Bool, true, false, List, [], ◌∷◌, ◌++◌, length, Option, None, refl, sym, ap, subst, ◌∙◌, arith}
+use Rattle.std.proofs.Common.{◌≡◌, ◌≢◌, ◌↔◌, ℕ, ◌+◌, ◌≤◌, ◌==◌, if◌then◌else◌, Bool, true, false, List, [], ◌∷◌, ◌++◌, length, Option, None, refl, sym, ap, subst, ◌∙◌, arith}
 use Rattle.std.specs.Prelude.{Contains}
 use Rattle.std.proofs.lemmas.List.{length-append}
 use Rattle.std.proofs.lemmas.List.Elements.{Contains-append_left, Contains-append_right}
@@ -20,7 +20,7 @@ use Rattle.core_store.specs.RoundView.{RoundView, Closed, Walking, Sweeping, is_
 use Rattle.core_store.specs.Steppings.{MakesEvent}
 use Rattle.quiet_rounds.specs.Quiet.{NoneActive}
 use Rattle.quiet_rounds.specs.Laws.{IsQuietEvent}
-use Rattle.quiet_rounds.specs.WholeRounds.{IsWholeRound, IsDominated}
+use Rattle.quiet_rounds.specs.WholeRounds.{IsWholeRound, IsDominated, most_round_events}
 use Rattle.quiet_rounds.specs.Collections.{none as none_yet, round}
 use Rattle.quiet_rounds.specs.JournalSteps.{IsSoundJournal, CollectorSteps, none, looks, event, note_of}
 use Rattle.quiet_rounds.specs.RoundNotes.{AreOfRound, started_with, list_from, objects_of_round, NotedRoundLaw, NotedDominatedLaw, NotedDeletedLaw, NotedKeptLaw, NotedFewerLaw, NotedBoundLaw}
@@ -216,6 +216,6 @@ noted-fewer slots i k x notes h ids rest a b =
     omega (arith, made)
 
 pub noted-bound : NotedBoundLaw
-noted-bound i k x notes h =
-    let r = noted-round 6 i k x notes h in
-    subst (λ (l : List ℕ). length notes ≤ 24 * length l + 8) r.1 (bound (core_of i) (core_of k) x (length notes) r.0)
+noted-bound slots i k x notes h =
+    let r = noted-round slots i k x notes h in
+    subst (λ (l : List ℕ). length notes ≤ most_round_events slots (length l)) r.1 (bound slots (core_of i) (core_of k) x (length notes) r.0)

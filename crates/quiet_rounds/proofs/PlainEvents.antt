@@ -1,10 +1,9 @@
 -- The looks and the events of a round's green walk are those of the plain one.
-use Rattle.std.proofs.Common.{◌≡◌, ◌≢◌, ℕ, ◌+◌, ◌<◌, ◌≤◌, ◌==◌, if◌then◌else◌, Bool, true, false, not, ◌&&◌, List, [], ◌∷◌, ◌++◌, map, length, slice_index_or, Option, Some, None, refl, sym, ap, ◌∙◌, subst, arith, ◌⊎◌, ⊎_elim, true≢false}
+use Rattle.std.proofs.Common.{◌≡◌, ℕ, ◌+◌, ◌==◌, if◌then◌else◌, Bool, true, false, List, [], ◌∷◌, map, Option, Some, None, refl, sym, ap, ◌∙◌, subst}
 use Rattle.std.specs.Prelude.{Contains, IfSome}
-use Rattle.std.specs.Option.{option_map_or}
-use Rattle.std.proofs.lemmas.Bool.{eqb-true, not_from_false}
+use Rattle.std.proofs.lemmas.Bool.{eqb-true}
 use Rattle.cell_model.specs.Cells.{Cell, cell_at, pointer_at, is_live}
-use Rattle.cell_model.specs.Records.{HasPointer, Fits, Weaken as WeakenRecord}
+use Rattle.cell_model.specs.Records.{Fits, Weaken as WeakenRecord}
 use Rattle.cell_model.specs.Strong.{IsStrongAt}
 use Rattle.store_model.specs.Core.{Core, Round}
 use Rattle.store_model.specs.Sound.{IsSound, in_round}
@@ -26,23 +25,19 @@ use Rattle.log_record.specs.declared.cell_record.CellRecord.TheVariants as logs
 use Rattle.log_record.specs.Records.{FitsCells}
 use Rattle.core_store.specs.declared.act.Act.{Act}
 use Rattle.core_store.specs.declared.act.Act.TheVariants as act
-use Rattle.core_store.specs.declared.collect.Collect.{Collect}
-use Rattle.core_store.specs.declared.round_at.RoundAt.{RoundAt}
 use Rattle.core_store.specs.declared.round_at.RoundAt.TheVariants as at
-use Rattle.core_store.specs.Changes.{has_no_strong, is_counted_strong}
 use Rattle.core_store.specs.Collects.{Collects, Flips, Strengthens}
 use Rattle.core_store.specs.JournalView.{JournalView, cells_of, core_of}
 use Rattle.core_store.specs.RoundView.{RoundView, Closed, Walking, Sweeping, round_of, asked, asked_by_sweep, asked_by_green, is_event, next_slot, looked_past, passed_by_sweep, passed_by_green, IsInStep, IsSweeping, Passes, none, more, Proceeds, skip, start, weaken, scan, judge, cut, free, flip, into, strengthen, end}
 use Rattle.core_store.specs.Stands.{IsTested, IsTestedIn}
-use Rattle.core_store.specs.Steppings.{MakesEvent, OnlyLooks}
 use Rattle.core_store.proofs.AskedGreen.{asked-by}
-use Rattle.core_store.proofs.GreenAt.{asked-green, IsAtFlip, at-flip, IsAtInto, at-into, IsAtStrengthen, at-strengthen}
+use Rattle.core_store.proofs.GreenAt.{asked-green, at-flip, at-into, at-strengthen}
 use Rattle.core_store.proofs.GreenLooks.{green-looks, looks-keep}
-use Rattle.core_store.proofs.LeftLaws.{in_step-passes, in_step-passed}
+use Rattle.core_store.proofs.LeftLaws.{in_step-passes}
 use Rattle.core_store.proofs.PassLaws.{tested-passed}
 use Rattle.core_store.proofs.SavedLooks.{green-sees}
 use Rattle.quiet_rounds.specs.JournalSteps.{IsSoundJournal}
-use Rattle.quiet_rounds.specs.PlainWalk.{PlainWalk, PlainStage, AtSeeds, AtPointers, AtGreen, waits, IsWhite, greened, behind_slot, target_of, LooksOn, here, Makes, flips, weakens, strengthens, ends, Finds, place_of, plain_stage, plain_of, plain_in, no_walk, IsPlainAt, IsPlain, PlainLooksLaw, PlainEventsLaw}
+use Rattle.quiet_rounds.specs.PlainWalk.{PlainWalk, PlainStage, AtSeeds, AtGreen, IsWhite, greened, behind_slot, LooksOn, here, flips, weakens, strengthens, ends, Finds, place_of, plain_stage, plain_of, plain_in, IsPlainAt, IsPlain, PlainLooksLaw, PlainEventsLaw}
 use Rattle.quiet_rounds.proofs.JournalEvents.{last-fits}
 use Rattle.quiet_rounds.proofs.PlainLooks.{looks-then, plain_at, pass-to, settles, sees-plainly}
 

@@ -1,7 +1,7 @@
 -- The looks of a green walk that saves some are looks of the plain one, where what it saves them by is true.
-use Rattle.std.proofs.Common.{◌≡◌, ◌≢◌, ℕ, zero, suc, ◌+◌, ◌<◌, ◌≤◌, ◌==◌, nat_lt, if◌then◌else◌, Bool, true, false, not, ◌&&◌, ◌||◌, List, [], ◌∷◌, ◌++◌, map, length, drop, slice_index_or, Option, Some, None, refl, sym, ap, ◌∙◌, subst, arith, ◌⊎◌, inl, inr, ⊎_elim, true≢false, eq-eqb, ne_eqb}
+use Rattle.std.proofs.Common.{◌≡◌, ◌≢◌, ℕ, zero, suc, ◌+◌, ◌<◌, ◌≤◌, ◌==◌, nat_lt, if◌then◌else◌, Bool, true, false, ◌&&◌, List, [], ◌∷◌, ◌++◌, map, length, slice_index_or, Option, Some, None, refl, sym, ap, ◌∙◌, subst, arith, true≢false, eq-eqb, ne_eqb}
 use Rattle.std.specs.Prelude.{Contains}
-use Rattle.std.proofs.lemmas.Bool.{cases_eq, cases_lt, eqb-true, eqb-false}
+use Rattle.std.proofs.lemmas.Bool.{eqb-true, eqb-false}
 use Rattle.std.proofs.lemmas.Bool.Decides.{nat_tests}
 use Rattle.std.proofs.lemmas.List.{length_push}
 use Rattle.cell_model.specs.Cells.{Cell, cell_at, pointer_at, is_live}
@@ -10,23 +10,22 @@ use Rattle.store_model.proofs.Lists.{Contains-here, Contains-later}
 use Rattle.green_walk.specs.declared.copied_slots.CopiedSlot.{CopiedSlot}
 use Rattle.green_walk.specs.declared.green_at.GreenAt.{GreenAt}
 use Rattle.green_walk.specs.declared.green_at.GreenAt.TheVariants as green
-use Rattle.green_walk.specs.declared.green_at.Test.{Test}
 use Rattle.green_walk.specs.declared.sweep.SweepAt.TheVariants.{End}
 use Rattle.green_walk.specs.declared.sweep.Found.{Found}
 use Rattle.green_walk.specs.declared.sweep.Found.TheVariants.{Nothing, Made, Strong}
 use Rattle.green_walk.specs.Sweeping.{SweepState as Sweep, next as next_of_sweep}
-use Rattle.green_walk.specs.Greening.{Greening, GreenStage, AtSeed, AtInto, AtOut, IsGreening, IsPlace, IsAnswer, waits as waits_in, may_lead_to, first_with, behind_first, first_seed, look_into, walking, seed_done, settled_into, settled_out, settled, greened as greened_in, moved, next, found, found_in, found_at_seed, asked_at, testing, tested}
+use Rattle.green_walk.specs.Greening.{Greening, GreenStage, AtSeed, AtInto, AtOut, IsGreening, waits as waits_in, may_lead_to, first_with, behind_first, first_seed, look_into, walking, settled_out, settled, greened as greened_in, moved, next, found_in, found_at_seed, asked_at}
 use Rattle.green_walk.proofs.GreenSteps.{IsThere, there, into-none, into-some, out-there, out-done, settled-greening, settled-waits}
 use Rattle.green_walk.proofs.GreenAsked.{some-slots, waits-live}
-use Rattle.green_walk.proofs.GreenHeads.{lead-names, leads-any, leads-named, passed-over, passed-behind, found-first}
+use Rattle.green_walk.proofs.GreenHeads.{leads-any, leads-named, passed-over, passed-behind, found-first}
 use Rattle.core_store.specs.Changes.{is_counted_strong, has_no_strong}
 use Rattle.core_store.specs.RoundView.{is_event}
 use Rattle.core_store.specs.declared.round_at.RoundAt.TheVariants as at
-use Rattle.core_store.specs.Saved.{HasOut, IsSpent, WasPassed, AreSaved}
+use Rattle.core_store.specs.Saved.{IsSpent, WasPassed, AreSaved}
 use Rattle.core_store.proofs.Strengths.{counted-parts, counted-from}
 use Rattle.core_store.proofs.SavedLaws.{saved-settled, saved-on, waits-less}
 use Rattle.core_store.proofs.SavedLooks.{IsReason, Sees, answers, begins, goes_on, reason-same, goes-greened}
-use Rattle.quiet_rounds.specs.PlainWalk.{PlainWalk, PlainStage, AtSeeds, AtPointers, AtGreen, waits, IsWhite, greened, behind_seed, behind_slot, target_of, Looks, green_seed, strong_seed, bound_seed, other_slot, all_weak, no_white, all_walked, LooksOn, here, further, place_of, plain_stage, plain_of}
+use Rattle.quiet_rounds.specs.PlainWalk.{PlainWalk, PlainStage, AtGreen, waits, IsWhite, behind_slot, Looks, green_seed, strong_seed, bound_seed, other_slot, all_weak, no_white, all_walked, LooksOn, here, further, place_of, plain_stage, plain_of}
 
 -- ---- looks one after another
 

@@ -15,7 +15,7 @@ use Rattle.core_store.specs.declared.act.Act.{Act}
 use Rattle.core_store.specs.declared.act.Act.TheVariants as act
 use Rattle.core_store.specs.declared.collect.Collect.{Collect}
 use Rattle.core_store.specs.JournalView.{JournalView, cells_of}
-use Rattle.core_store.specs.RoundView.{RoundView, Closed, Walking, Sweeping}
+use Rattle.core_store.specs.RoundView.{RoundView, Sweeping}
 use Rattle.core_store.specs.Stands.{IsTested}
 use Rattle.core_store.specs.Steppings.{MakesEvent, OnlyLooks}
 use Rattle.quiet_rounds.specs.JournalSteps.{IsSoundJournal}

@@ -1,6 +1,6 @@
 -- A whole round of a journal beside which no client is active, by its notes: its objects, what it deletes and leaves, and how
 -- many notes it takes.
-use Rattle.std.specs.Prelude.{◌≡◌, ◌≢◌, ◌↔◌, ℕ, ◌+◌, ◌*◌, ◌≤◌, Bool, true, false, not, ◌&&◌, ◌==◌, if◌then◌else◌, List, [], ◌∷◌, ◌++◌, length, Contains, Option, Some}
+use Rattle.std.specs.Prelude.{◌≡◌, ◌≢◌, ◌↔◌, ℕ, ◌+◌, ◌≤◌, Bool, true, false, not, ◌&&◌, ◌==◌, if◌then◌else◌, List, [], ◌∷◌, ◌++◌, length, Contains, Option, Some}
 use Rattle.plain_model.specs.Graphs.{root}
 use Rattle.cell_model.specs.Cells.{Cell, cell_at, is_live, object_of}
 use Rattle.ref_tables.specs.Queue.{has}
@@ -13,7 +13,7 @@ use Rattle.core_store.specs.Changes.{has_no_strong}
 use Rattle.core_store.specs.JournalView.{JournalView, cells_of, core_of}
 use Rattle.core_store.specs.Logged.{after_logged}
 use Rattle.quiet_rounds.specs.Quiet.{NoneActive}
-use Rattle.quiet_rounds.specs.WholeRounds.{IsDominated, IsLedFromOutside, IsWholeRound}
+use Rattle.quiet_rounds.specs.WholeRounds.{IsDominated, IsLedFromOutside, IsWholeRound, most_round_events}
 use Rattle.quiet_rounds.specs.Collections.{AreWithoutStrong}
 use Rattle.quiet_rounds.specs.JournalSteps.{IsSoundJournal, CollectorSteps}
 
@@ -106,6 +106,6 @@ NotedFewerLaw =
     (slots : ℕ) (i k : JournalView) (x : ℕ) (notes : List Note) → IsRoundOf slots i k x notes
     → (ids rest : List ℕ) → AreWithoutStrong (cells_of i) ids → AreWithoutStrong (cells_of k) rest → length rest + 1 ≡ length ids
 
--- it takes at most 24 notes for each of its objects, and 8 more, where objects have six slots
+-- it takes at most so many notes for its objects: 40 for each and 8 more with fourteen slots, 24 for each and 8 more with six
 abbrev pub NotedBoundLaw : Type 0
-NotedBoundLaw = (i k : JournalView) (x : ℕ) (notes : List Note) → IsRoundOf 6 i k x notes → length notes ≤ 24 * length (objects_of_round 6 (cells_of i) notes) + 8
+NotedBoundLaw = (slots : ℕ) (i k : JournalView) (x : ℕ) (notes : List Note) → IsRoundOf slots i k x notes → length notes ≤ most_round_events slots (length (objects_of_round slots (cells_of i) notes))

@@ -89,6 +89,10 @@ pub record IsWithoutStrong (cells : List Cell) (id : ℕ) : Type 0 where
 abbrev pub FewerLaw : Type 0
 FewerLaw = (slots : ℕ) (c d : Core) (x events : ℕ) → IsWholeRound slots c d x events → (id : ℕ) → IsWithoutStrong d.cells id ↔ (IsWithoutStrong c.cells id × (id ≢ x))
 
--- it takes at most 24 events for each of its objects, and 8 more, where objects have six slots
+-- at most so many events: two for each slot of each of the round's objects, 12 more for each object, and 8 more
+abbrev pub most_round_events : ℕ → ℕ → ℕ
+most_round_events slots objects = (2 * slots + 12) * objects + 8
+
+-- it takes at most so many events for its objects: 40 for each and 8 more with fourteen slots, 24 for each and 8 more with six
 abbrev pub BoundLaw : Type 0
-BoundLaw = (c d : Core) (x events : ℕ) (r : IsWholeRound 6 c d x events) → events ≤ 24 * length r.walk.list + 8
+BoundLaw = (slots : ℕ) (c d : Core) (x events : ℕ) (r : IsWholeRound slots c d x events) → events ≤ most_round_events slots (length r.walk.list)
