@@ -14,8 +14,9 @@ use Rattle.logged_journal.specs.declared.collect.CollectRefusal.{CollectRefusal}
 use Rattle.logged_journal.specs.declared.collect.CollectRefusal.TheVariants.{LogFull}
 use Rattle.logged_journal.specs.View.{LoggedView, bytes_counted}
 use Rattle.page_marks.specs.declared.marks.PageMark.{PageMark}
-use Rattle.logged_journal.specs.Records.{AreMarkedAfter}
-use Rattle.logged_journal.specs.Calls.{KeepsDisk, GoesOn, GoWithNotes, stayed, joined, IsPastLogToCollect, DoesCollect}
+use Rattle.logged_journal.specs.Records.{AreMarkedAfter, bytes_joined}
+use Rattle.gate_log.specs.State.{appended, forced}
+use Rattle.logged_journal.specs.Calls.{KeepsDisk, GoesOn, GoWithNotes, LogGoesOn, appends, forces, stayed, joined, IsPastLogToCollect, DoesCollect}
 use Rattle.framed_journal.specs.Steps.{CollectsOnFrames, CollectsNext, FillsLog}
 
 -- looks leave the history as full as it was
@@ -112,9 +113,23 @@ with_notes-before {D} slots u v w same l (joined n notes marked) =
     (subst (λ (ms : List PageMark). AreMarkedAfter u.journal.history.slots n.logged ms w.marks) (ap (λ (x : LoggedView D). x.marks) same)
     (subst (λ (k : ℕ). AreMarkedAfter k n.logged v.marks w.marks) (ap (λ (j : JournalView). j.history.slots) l.same) marked))
 
+-- nor do they join the log
+log-before : {D : Type 0} (slots : ℕ) (u v w : LoggedView D) → v ≡ record u { journal = v.journal } → OnlyLooks slots u.journal v.journal → LogGoesOn v w → LogGoesOn u w
+log-before {D} slots u v w same l (appends kept log) =
+    appends (record { disk = kept.disk ∙ ap (λ (x : LoggedView D). x.disk) same; durable = kept.durable ∙ ap (λ (x : LoggedView D). x.durable) same })
+    (log
+    ∙ ap (λ (x : LoggedView D). record (appended x.log (bytes_joined v.journal w.journal)) { room = w.log.room }) same
+    ∙ ap (λ (j : JournalView). record (appended u.log (bytes_joined j w.journal)) { room = w.log.room }) l.same)
+log-before {D} slots u v w same l (forces all log) =
+    forces all
+    (log
+    ∙ ap (λ (x : LoggedView D). record (forced (appended x.log (bytes_joined v.journal w.journal))) { room = w.log.room }) same
+    ∙ ap (λ (j : JournalView). record (forced (appended u.log (bytes_joined j w.journal))) { room = w.log.room }) l.same)
+
 pub goes_on-before : {D : Type 0} (slots : ℕ) (u v w : LoggedView D) → v ≡ record u { journal = v.journal } → OnlyLooks slots u.journal v.journal → GoesOn v w → GoesOn u w
 goes_on-before {D} slots u v w same l on = record {
   marks = with_notes-before slots u v w same l on.marks;
+  log = log-before slots u v w same l on.log;
   running = on.running;
   log_full = on.log_full ∙ ap (λ (x : LoggedView D). x.log_full) same;
   peak = on.peak ∙ ap (λ (x : LoggedView D). max x.peak (bytes_counted w)) same;

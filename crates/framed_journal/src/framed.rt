@@ -20,10 +20,10 @@ ghost use Rattle.core_store.specs.Opening.{ArePages, stored_in, opened_history};
 ghost use Rattle.logged_journal.specs.View.{KeepsLog, OnlyTakesRoom, bytes_counted, history_of};
 ghost use Rattle.logged_journal.specs.Records.{MayHave, MayHaveAll};
 ghost use Rattle.logged_journal.specs.Opens.{OpensAfter, OpensDuring};
-ghost use Rattle.logged_journal.specs.Upkeep.{IsPastLogToClean, IsTurned, Turns, TellsBusy, FailsUpkeep};
-ghost use Rattle.logged_journal.specs.Calls.{IsOfJournal, IsGranted, IsPastLog, DoesCall, KeepsDisk, GoesOn, FailsCommit, DoesAbortStep};
+ghost use Rattle.logged_journal.specs.Upkeep.{IsPastLogToClean, IsPastLogToTurn, IsTurned, KeepsButPages, Turns, TellsBusy, FailsUpkeep};
+ghost use Rattle.logged_journal.specs.Calls.{IsOfJournal, IsGranted, IsPastLog, DoesCall, KeepsDisk, GoesOn, OnlyForces, FailsCommit, DoesAbortStep};
 ghost use Rattle.framed_journal.specs.Holding.{AreFramesOf};
-ghost use Rattle.framed_journal.specs.Upkeep.{CleansPage};
+ghost use Rattle.framed_journal.specs.Upkeep.{CleansPage, ForcesPages};
 ghost use Rattle.framed_journal.specs.Steps.{CollectsNext, CollectsOnFrames, FillsLog, UndoesAll, with_undos};
 
 use crate::holding::{
@@ -149,6 +149,9 @@ impl<const SLOTS: usize, D: Disk> FramedJournal<SLOTS, D> {
         ensures fault { result ≡ Reply.DiskFault → FailsCommit D.faults self.old self.new client call.now }
         ensures later { D.faults self.old.disk ≤ D.faults self.new.disk }
 
+        // No area but the log's changes; a commit that was done adds one batch to it, of the tail and the commit's own record.
+        ensures areas { OnlyForces D.content D.may_leave self.old self.new call.now result }
+
         // At each moment of the call a power loss leaves a log of what was there for good before, or, where it is a commit,
         // of all that was done and this commit.
         ensures moments { LeavesOnlyImages D.moment D.left_since self.old.disk self.new.disk (MayHave self.old client) }
@@ -255,6 +258,9 @@ impl<const SLOTS: usize, D: Disk> FramedJournal<SLOTS, D> {
         ensures fault { result ≡ Upkeep.DiskFault → FailsUpkeep D.faults self.old self.new }
         ensures later { D.faults self.old.disk ≤ D.faults self.new.disk }
 
+        // No area changes but the log's and the pages.
+        ensures others { KeepsButPages D.content D.may_leave self.old.disk self.new.disk self.old.log.area }
+
         // At each moment of the call a power loss leaves a log of what was there for good before, or of all that was done. So
         // at each of them the store opens, to a graph that a crash before the call may leave.
         ensures moments { LeavesOnlyImages D.moment D.left_since self.old.disk self.new.disk (MayHaveAll self.old) }
@@ -270,9 +276,9 @@ impl<const SLOTS: usize, D: Disk> FramedJournal<SLOTS, D> {
     ///
     /// [`Upkeep::Stopped`] comes exactly where the disk failed a call before, [`Upkeep::TraceFull`] exactly where the history has
     /// no room for one entry, and [`Upkeep::Busy`] exactly where a transaction is active; it names the least such client, and
-    /// enters the history. [`Upkeep::LogFull`] never comes where the bytes of the log in use and those that are owed are within
-    /// its limit. These but `Busy`, and [`Upkeep::Memory`], do nothing. [`Upkeep::DiskFault`] comes only where the disk's count
-    /// of faults rose in this call; the store is then stopped.
+    /// enters the history. [`Upkeep::LogFull`] comes just where the log with these images would be longer than a log may be, unless
+    /// memory is out; the log's limit doesn't matter. These but `Busy`, and [`Upkeep::Memory`], do nothing. [`Upkeep::DiskFault`]
+    /// comes only where the disk's count of faults rose in this call; the store is then stopped.
     pub fn turn(&mut self) -> Upkeep
         ensures stopped { IfSome self.old.failed (λ f. (result ≡ Upkeep.Stopped f.faults) × (self.new ≡ self.old)) }
         ensures only_stopped { (faults : ℕ) → result ≡ Upkeep.Stopped faults → IsSome self.old.failed }
@@ -283,12 +289,17 @@ impl<const SLOTS: usize, D: Disk> FramedJournal<SLOTS, D> {
         ensures only_busy { (pass : ℕ) → result ≡ Upkeep.Busy pass → least_active (end_of self.old.journal.history).state ≡ Some pass }
         ensures told { (pass : ℕ) → result ≡ Upkeep.Busy pass → TellsBusy SLOTS self.old self.new pass }
         ensures log_full { result ≡ Upkeep.LogFull → self.old.journal.limits.log < bytes_counted self.old }
+        ensures too_long { result ≡ Upkeep.LogFull → IsPastLogToTurn SLOTS self.old }
+        ensures only_too_long { IsPastLogToTurn SLOTS self.old → (result ≡ Upkeep.LogFull) ⊎ (result ≡ Upkeep.Memory) }
         ensures log_marked { result ≡ Upkeep.LogFull → OnlyTakesRoom (record self.old { log_full = true }) self.new }
         ensures memory { result ≡ Upkeep.Memory → OnlyTakesRoom self.old self.new }
         ensures done { result ≡ Upkeep.Done → Turns SLOTS self.old self.new }
 
         // After it each image of the disk has every page in place, and names the other log area, which has the first batch alone.
         ensures turned { result ≡ Upkeep.Done → EachImage D.may_leave self.new.disk (IsTurned SLOTS (cells_of self.old.journal) (other_log self.old.log.area)) }
+
+        // The images that joined the log before that are those of the changed pages without a current one, ascending, each once.
+        ensures old_log { result ≡ Upkeep.Done → ForcesPages SLOTS D.content self.old self.new }
         ensures fault { result ≡ Upkeep.DiskFault → FailsUpkeep D.faults self.old self.new }
         ensures later { D.faults self.old.disk ≤ D.faults self.new.disk }
 

@@ -14,7 +14,7 @@ ghost use Rattle.core_store.specs.Replaced.{next_to_restore};
 ghost use Rattle.logged_journal.specs.View.{KeepsLog, history_of};
 ghost use Rattle.logged_journal.specs.Records.{MayHave};
 ghost use Rattle.logged_journal.specs.Opens.{OpensDuring};
-ghost use Rattle.logged_journal.specs.Calls.{IsOfJournal, IsGranted, IsPastLog, DoesCall, KeepsFrames, KeepsDisk, GoesOn, FailsCommit, DoesAbortStep};
+ghost use Rattle.logged_journal.specs.Calls.{IsOfJournal, IsGranted, IsPastLog, DoesCall, KeepsFrames, KeepsDisk, GoesOn, OnlyForces, FailsCommit, DoesAbortStep};
 ghost use Rattle.journal_chronicle.specs.Pages.{AreShownBy, AreOfStore};
 ghost use Rattle.journal_chronicle.specs.View.{origin_of, notes_of, history_after, frame_after, has_transaction};
 ghost use Rattle.journal_chronicle.specs.Steps.{entered_by_call, marked_by_call, entered_by_abort_step, marked_by_abort_step, GoesOnWith};
@@ -185,6 +185,10 @@ impl<const SLOTS: usize, D: Disk> JournalChronicle<SLOTS, D> {
         ensures untouched { (call.now ≡ Call.Commit → IsGranted self.old.journal pass Call.Commit → ⊥) → KeepsDisk self.old self.new }
         ensures fault { result ≡ Reply.DiskFault → FailsCommit D.faults self.old self.new pass call.now × (held.new ≡ held.old) }
         ensures later { D.faults self.old.disk ≤ D.faults self.new.disk }
+        ensures count { result ≢ Reply.DiskFault → D.faults self.new.disk ≡ D.faults self.old.disk }
+
+        // No area but the log's changes; a commit that was done adds one batch to it, of the tail and the commit's own record.
+        ensures areas { OnlyForces D.content D.may_leave self.old self.new call.now result }
 
         // At each moment of the call a power loss leaves a log of what was there for good before, or, where it is a commit,
         // of all that was done and this commit.

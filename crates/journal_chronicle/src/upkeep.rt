@@ -12,7 +12,8 @@ ghost use Rattle.logged_journal.specs.View.{OnlyTakesRoom, bytes_counted, histor
 ghost use Rattle.logged_journal.specs.Calls.{KeepsDisk};
 ghost use Rattle.logged_journal.specs.Records.{MayHaveAll};
 ghost use Rattle.logged_journal.specs.Opens.{OpensAfter};
-ghost use Rattle.logged_journal.specs.Upkeep.{IsClean, IsPastLogToClean, IsTurned, Cleans, Turns, TellsBusy, FailsUpkeep};
+ghost use Rattle.logged_journal.specs.Checkpoints.{ForcesImages};
+ghost use Rattle.logged_journal.specs.Upkeep.{IsClean, IsPastLogToClean, IsPastLogToTurn, IsTurned, Cleans, OnlyCleans, Turns, TellsBusy, FailsUpkeep};
 ghost use Rattle.journal_chronicle.specs.Steps.{entered_by_refusal, entered_by_upkeep, marked_by_refusal, marked_by_upkeep, no_page, GoesOnWith};
 
 use crate::chronicle::{JournalChronicle, count_notes};
@@ -94,8 +95,12 @@ impl<const SLOTS: usize, D: Disk> JournalChronicle<SLOTS, D> {
 
         // After it each image of the disk has the page in place and as the log's last image of it.
         ensures clean { result ≡ Upkeep.Done → EachImage D.may_leave self.new.disk (IsClean page frame.now.page) }
+
+        // No area changes but the log's and the pages; where it was done the log has one batch more, of the tail and the image.
+        ensures areas { OnlyCleans D.content D.may_leave self.old self.new page frame.now.page result }
         ensures fault { result ≡ Upkeep.DiskFault → FailsUpkeep D.faults self.old self.new }
         ensures later { D.faults self.old.disk ≤ D.faults self.new.disk }
+        ensures count { result ≢ Upkeep.DiskFault → D.faults self.new.disk ≡ D.faults self.old.disk }
 
         // At each moment of the call a power loss leaves a log of what was there for good before, or of all that was done. So
         // at each of them the store opens, to a graph that a crash before the call may leave.
@@ -116,9 +121,9 @@ impl<const SLOTS: usize, D: Disk> JournalChronicle<SLOTS, D> {
     ///
     /// [`Upkeep::Stopped`] comes exactly where the disk failed a call before, [`Upkeep::TraceFull`] exactly where the history has
     /// no room for one entry. [`Upkeep::Busy`] comes where a transaction is active, unless memory is out; it names the least such
-    /// client, and enters the history. [`Upkeep::LogFull`] never comes where the bytes of the log in use and those that are owed
-    /// are within its limit. These but `Busy`, and [`Upkeep::Memory`], do nothing. [`Upkeep::DiskFault`] comes only where the
-    /// disk's count of faults rose in this call; the store is then stopped.
+    /// client, and enters the history. [`Upkeep::LogFull`] comes just where the log with these images would be longer than a log may
+    /// be, unless memory is out; the log's limit doesn't matter. These but `Busy`, and [`Upkeep::Memory`], do nothing.
+    /// [`Upkeep::DiskFault`] comes only where the disk's count of faults rose in this call; the store is then stopped.
     pub fn turn(&mut self, frames: &[Frame<SLOTS>]) -> Upkeep
         requires pages { 8 * length frames.now ≡ self.old.journal.history.ids }
         requires agree { AllAgree (cells_of self.old.journal) frames.now }
@@ -136,14 +141,20 @@ impl<const SLOTS: usize, D: Disk> JournalChronicle<SLOTS, D> {
         ensures only_busy { (pass : ℕ) → result ≡ Upkeep.Busy pass → least_active (end_of self.old.journal.history).state ≡ Some pass }
         ensures told { (pass : ℕ) → result ≡ Upkeep.Busy pass → TellsBusy SLOTS self.old self.new pass }
         ensures log_full { result ≡ Upkeep.LogFull → self.old.journal.limits.log < bytes_counted self.old }
+        ensures too_long { result ≡ Upkeep.LogFull → IsPastLogToTurn SLOTS self.old }
+        ensures only_too_long { IsPastLogToTurn SLOTS self.old → (result ≡ Upkeep.LogFull) ⊎ (result ≡ Upkeep.Memory) }
         ensures log_marked { result ≡ Upkeep.LogFull → OnlyTakesRoom (record self.old { log_full = true }) self.new }
         ensures memory { result ≡ Upkeep.Memory → OnlyTakesRoom self.old self.new }
         ensures done { result ≡ Upkeep.Done → Turns SLOTS self.old self.new }
 
         // After it each image of the disk has every page in place, and names the other log area, which has the first batch alone.
         ensures turned { result ≡ Upkeep.Done → EachImage D.may_leave self.new.disk (IsTurned SLOTS (cells_of self.old.journal) (other_log self.old.log.area)) }
+
+        // The images that joined the log before that are those of the changed pages without a current one, ascending, each once.
+        ensures old_log { result ≡ Upkeep.Done → ForcesImages D.content frames.now self.old self.new }
         ensures fault { result ≡ Upkeep.DiskFault → FailsUpkeep D.faults self.old self.new }
         ensures later { D.faults self.old.disk ≤ D.faults self.new.disk }
+        ensures count { result ≢ Upkeep.DiskFault → D.faults self.new.disk ≡ D.faults self.old.disk }
 
         // At each moment of the call a power loss leaves a log of what was there for good before, or of all that was done. So
         // at each of them the store opens, to a graph that a crash before the call may leave.

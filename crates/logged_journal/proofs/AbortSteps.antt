@@ -28,7 +28,7 @@ use Rattle.logged_journal.specs.Records.{note_bytes, last_bytes, IsLastTyped, la
 use Rattle.logged_journal.specs.Kept.{IsKept}
 use Rattle.logged_journal.specs.Calls.{DoesAbortStep, GoesOn, joined}
 use Rattle.logged_journal.proofs.RecordLengths.{size-is, at-most-25}
-use Rattle.logged_journal.proofs.NoteBytes.{last-push, last-typed, last-marked}
+use Rattle.logged_journal.proofs.NoteBytes.{last-push, last-typed, last-marked, appends-last}
 use Rattle.logged_journal.proofs.Kept.{HasEvent, kept-event}
 use Rattle.logged_journal.proofs.Ascending.{ascends}
 use Rattle.logged_journal.proofs.CollectorEvents.{bytes-length}
@@ -134,4 +134,4 @@ module _ {D : Type 0} (may_leave : D → Area → List ℕ → Type 0) (slots : 
       let less = counted-less is in
       let peak = (is.kept.standing is.running).peak in
       let has = has-owed slots v.journal j pass step is.active is.does in
-      record { running = is.running; log_full = refl; peak = omega (arith, less, peak); opened = refl; marks = joined has.note has.noted (note-marked is) }
+      record { running = is.running; log_full = refl; peak = omega (arith, less, peak); opened = refl; marks = joined has.note has.noted (note-marked is); log = appends-last v (stepped v j marks) has.note has.noted (record { disk = refl; durable = refl }) refl }

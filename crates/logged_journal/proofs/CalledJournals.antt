@@ -38,9 +38,9 @@ use Rattle.core_store.proofs.PlanLaws.{refusal-in, refusal-out}
 use Rattle.logged_journal.specs.View.{LoggedView, IsPast, failed_commit, bytes_counted, image_need}
 use Rattle.logged_journal.specs.Records.{note_bytes, last_bytes, last_logged, IsLastTyped, AreMarkedAfter, HasRecords, MayBeLeft, durable, failed}
 use Rattle.logged_journal.specs.Kept.{IsKept}
-use Rattle.logged_journal.specs.Calls.{IsOfJournal, IsGranted, DoesCall, GoesOn, GoWithNotes, stayed, joined}
+use Rattle.logged_journal.specs.Calls.{IsOfJournal, IsGranted, DoesCall, GoesOn, GoWithNotes, LogGoesOn, stayed, joined}
 use Rattle.logged_journal.proofs.Kept.{kept-event, on-same}
-use Rattle.logged_journal.proofs.NoteBytes.{last-push, last-typed, last-marked}
+use Rattle.logged_journal.proofs.NoteBytes.{last-push, last-typed, last-marked, appends-none, appends-silent}
 use Rattle.logged_journal.proofs.RecordLengths.{logged_length, call-length}
 use Rattle.logged_journal.proofs.Resting.{granted-rested}
 
@@ -116,7 +116,7 @@ refused-logs : (s : State) (j : JournalView) (pass : ℕ) (c : TransactionCall) 
 refused-logs s j pass c r is = ap (λ (o : Option Reply). option_map_or (λ reply. None) o (option_map_or (λ t. record_in s (cells_of j) pass t c) (transaction_of s pass) (Some (logs.Begin pass)))) is
 
 -- the note of a call that was answered
-abbrev note_of : ℕ → JournalView → JournalView → ℕ → TransactionCall → Reply → Note
+abbrev pub note_of : ℕ → JournalView → JournalView → ℕ → TransactionCall → Reply → Note
 note_of slots old new pass c r = record { entry = Call pass c r; logged = logged_by (end_of old.history).state (cells_of old) pass c; left = left_of slots new.round; act = Other }
 
 -- and what is owed after it
@@ -252,7 +252,7 @@ module _ {D : Type 0} (may_leave : D → Area → List ℕ → Type 0) where
   goes-on-refused slots v new pass c r kept running refused does =
       let peak = (kept.standing running).peak in
       let owed = refused-owed slots v.journal new pass c r refused does in
-      record { running = running; log_full = refl; peak = omega (arith, owed, peak); opened = refl; marks = by (answers r) }
+      record { running = running; log_full = refl; peak = omega (arith, owed, peak); opened = refl; marks = by (answers r); log = on (answers r) }
     where
       by : Answers r → GoWithNotes v (record v { journal = new })
       by (memory e) = stayed (ap (λ (j : JournalView). j.notes) (does.memory e)) refl
@@ -260,6 +260,13 @@ module _ {D : Type 0} (may_leave : D → Area → List ℕ → Type 0) where
       by (entered e) =
           let logged = refused-logs (end_of v.journal.history).state v.journal pass c r (refused-so slots v.journal new pass c r refused does e) in
           joined (note_of slots v.journal new pass c r) (does.noted e) (subst (λ (o : Option CellRecord). AreMarkedAfter v.journal.history.slots o v.marks v.marks) (sym logged) refl)
+
+      on : Answers r → LogGoesOn v (record v { journal = new })
+      on (memory e) = appends-none v (record v { journal = new }) (ap (λ (j : JournalView). j.notes) (does.memory e)) (record { disk = refl; durable = refl }) refl
+      on (full e) = appends-none v (record v { journal = new }) (ap (λ (j : JournalView). j.notes) (does.marked e)) (record { disk = refl; durable = refl }) refl
+      on (entered e) =
+          appends-silent v (record v { journal = new }) (note_of slots v.journal new pass c r) (refused-logs (end_of v.journal.history).state v.journal pass c r (refused-so slots v.journal new pass c r refused does e)) (does.noted e)
+          (record { disk = refl; durable = refl }) refl
 
 -- ---- granted calls
 

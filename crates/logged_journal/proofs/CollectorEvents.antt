@@ -25,7 +25,7 @@ use Rattle.logged_journal.specs.Records.{note_bytes, last_bytes, IsLastTyped, la
 use Rattle.logged_journal.specs.Kept.{IsKept}
 use Rattle.logged_journal.specs.Calls.{DoesCollect, GoesOn, joined}
 use Rattle.logged_journal.proofs.RecordLengths.{logged_length, collect-length}
-use Rattle.logged_journal.proofs.NoteBytes.{last-push, last-typed, last-marked}
+use Rattle.logged_journal.proofs.NoteBytes.{last-push, last-typed, last-marked, appends-last}
 use Rattle.logged_journal.proofs.Kept.{HasEvent, kept-event}
 
 -- ---- of the record alone
@@ -171,4 +171,4 @@ module _ {D : Type 0} (may_leave : D → Area → List ℕ → Type 0) (slots : 
   pub goes-on-collected : IsCollected → GoesOn v (collected v j marks room)
   goes-on-collected is =
       let makes = is.does.event is.event in
-      record { running = is.running; log_full = refl; peak = refl; opened = refl; marks = joined (note_of makes) makes.noted (note-marked is) }
+      record { running = is.running; log_full = refl; peak = refl; opened = refl; marks = joined (note_of makes) makes.noted (note-marked is); log = appends-last v (collected v j marks room) (note_of makes) makes.noted (record { disk = refl; durable = refl }) refl }

@@ -1,5 +1,6 @@
 pub mod RecordLengths
 pub mod NoteBytes
+pub mod Areas
 pub mod NoteRecords
 pub mod HeldRecords
 pub mod Kept

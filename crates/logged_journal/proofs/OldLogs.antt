@@ -1,5 +1,5 @@
 -- What a turn leaves of the log area that was in use.
-use Rattle.std.proofs.Common.{◌≡◌, ◌↔◌, ◌∙◌, ℕ, ◌*◌, ◌+◌, Bool, true, false, List, length, Option, Some, None, option_map, refl, sym, ap, subst}
+use Rattle.std.proofs.Common.{◌≡◌, ◌↔◌, ◌∙◌, ℕ, ◌*◌, Bool, true, false, List, length, Option, Some, None, option_map, refl, sym, ap, subst}
 use Rattle.disk_model.specs.declared.area.Area.{Area}
 use Rattle.disk_model.specs.declared.area.Area.TheVariants.{Pages}
 use Rattle.disk_model.specs.Told.{Keeps, KeepsOthers}

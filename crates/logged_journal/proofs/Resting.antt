@@ -17,6 +17,7 @@ use Rattle.logged_journal.specs.Records.{HasRecords, MayBeLeft, durable, failed}
 use Rattle.logged_journal.specs.Kept.{CanCommit, IsKept, IsStanding}
 use Rattle.logged_journal.specs.Calls.{DoesCollect, GoesOn, stayed}
 use Rattle.logged_journal.proofs.Kept.{on-same}
+use Rattle.logged_journal.proofs.NoteBytes.{appends-none}
 
 -- the journal with another cursor and other marks, and other room in the log
 abbrev pub rested : {D : Type 0} → LoggedView D → RoundView → Marks → ℕ → LoggedView D
@@ -75,7 +76,7 @@ module _ {D : Type 0} (may_leave : D → Area → List ℕ → Type 0) where
   goes-on-same v j round marks room same running kept =
       let below : bytes_counted v ≤ v.peak = (kept.standing running).peak in
       let counted : bytes_counted (record v { journal = j }) ≡ bytes_counted v = ap (λ (k : JournalView). bytes_counted (record v { journal = k })) same in
-      record { running = running; log_full = refl; peak = omega (arith, below, counted); opened = refl; marks = stayed (ap (λ (k : JournalView). k.notes) same) refl }
+      record { running = running; log_full = refl; peak = omega (arith, below, counted); opened = refl; marks = stayed (ap (λ (k : JournalView). k.notes) same) refl; log = appends-none v (record v { journal = j; log = record v.log { room = room } }) (ap (λ (k : JournalView). k.notes) same) (record { disk = refl; durable = refl }) refl }
 
 -- a step that makes no event leaves the journal but for its marks
 pub at-rest : (slots : ℕ) (old new : JournalView) (result : Collect) → DoesCollect slots old new result → (is_past_limit old 1 ≡ true) ⊎ ((old.queue ≡ []) × (old.round ≡ Closed))

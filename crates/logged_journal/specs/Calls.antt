@@ -1,6 +1,9 @@
 -- What the calls of a journal with its log do.
-use Rattle.std.specs.Prelude.{◌≡◌, ◌↔◌, ℕ, ◌<◌, List, [], ◌∷◌, ◌++◌, true, false, max, Some, None, option_map}
+use Rattle.std.specs.Prelude.{◌≡◌, ◌↔◌, ℕ, ◌<◌, List, [], ◌∷◌, ◌++◌, length, true, false, max, Option, Some, None, option_map}
+use Rattle.disk_model.specs.declared.area.Area.{Area}
 use Rattle.disk_model.specs.Causes.{Rose}
+use Rattle.disk_model.specs.Told.{KeepsOthers}
+use Rattle.gate_log.specs.State.{LogState, appended, forced, forced_area}
 use Rattle.plain_model.specs.declared.calls.Call.{Call as TransactionCall}
 use Rattle.plain_model.specs.declared.calls.Call.TheVariants as call
 use Rattle.plain_model.specs.declared.calls.Reply.{Reply}
@@ -27,7 +30,7 @@ use Rattle.core_store.specs.Replaced.{next_to_restore}
 use Rattle.core_store.specs.RoundView.{Closed, left_of, touched_by_record}
 use Rattle.core_store.specs.Steppings.{IsEntered, IsEvent, MakesEvent, left_told, pops, bytes_to_collect}
 use Rattle.logged_journal.specs.View.{LoggedView, IsPast, bytes_counted}
-use Rattle.logged_journal.specs.Records.{AreMarkedAfter}
+use Rattle.logged_journal.specs.Records.{bytes_joined, AreMarkedAfter}
 
 -- ---- calls
 
@@ -73,6 +76,22 @@ pub record KeepsDisk {D : Type 0} (old new : LoggedView D) : Type 0 where
   pub disk : new.disk ≡ old.disk
   pub durable : new.durable ≡ old.durable
 
+-- the log with the records of the notes that joined behind its tail
+abbrev pub log_joined : {D : Type 0} → LoggedView D → LoggedView D → LogState
+log_joined old new = appended old.log (bytes_joined old.journal new.journal)
+
+-- The log goes on with the notes. The tail is the tail before and the records of the notes that joined, and the disk stays; or,
+-- where a commit was done, that tail was forced as one batch, and the records of all notes are durable.
+pub data LogGoesOn {D : Type 0} (old new : LoggedView D) : Type 0 where
+  appends : KeepsDisk old new → new.log ≡ record (log_joined old new) { room = new.log.room } → LogGoesOn old new
+  forces : new.durable ≡ length new.journal.notes → new.log ≡ record (forced (log_joined old new)) { room = new.log.room } → LogGoesOn old new
+
+-- What a call makes of the disk's areas: only the log's own changes. Where a commit was done, that has one batch more: the tail, and
+-- the records of the notes that joined.
+pub record OnlyForces {D : Type 0} (content : D → Area → Option (List ℕ)) (may_leave : D → Area → List ℕ → Type 0) (old new : LoggedView D) (c : TransactionCall) (result : Reply) : Type 0 where
+  pub others : KeepsOthers content may_leave old.disk new.disk old.log.area
+  pub batch : c ≡ call.Commit → result ≡ reply.Done → content new.disk old.log.area ≡ option_map (forced_area old.log.durable (log_joined old new).tail) (content old.disk old.log.area)
+
 -- The marks of pages go with the notes: where a note joined they are as its record makes them, and where none did they stay.
 pub data GoWithNotes {D : Type 0} (old new : LoggedView D) : Type 0 where
   stayed : new.journal.notes ≡ old.journal.notes → new.marks ≡ old.marks → GoWithNotes old new
@@ -85,6 +104,7 @@ pub record GoesOn {D : Type 0} (old new : LoggedView D) : Type 0 where
   pub peak : new.peak ≡ max old.peak (bytes_counted new)
   pub opened : new.opened ≡ old.opened
   pub marks : GoWithNotes old new
+  pub log : LogGoesOn old new
 
 -- the disk failed a commit that is granted: the journal stays as it is, and is stopped with the disk's count of faults, which
 -- rose

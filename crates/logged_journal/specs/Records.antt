@@ -1,6 +1,6 @@
 -- The records of notes, as they stand in a log.
-use Rattle.std.specs.Prelude.{◌≡◌, ◌⊎◌, ℕ, ◌*◌, [], ◌∷◌, ◌++◌, List, map, Option, Some, None, take, IfSome}
-use Rattle.std.specs.List.{last_or, AllByRecursion}
+use Rattle.std.specs.Prelude.{◌≡◌, ◌⊎◌, ℕ, ◌*◌, [], ◌∷◌, ◌++◌, List, map, Option, Some, None, take, drop, length, IfSome}
+use Rattle.std.specs.List.{last_or, flat_map, AllByRecursion}
 use Rattle.std.specs.Option.{option_map_or}
 use Rattle.plain_model.specs.declared.calls.Call.TheVariants.{Commit}
 use Rattle.plain_model.specs.declared.calls.Reply.TheVariants.{DiskFault}
@@ -36,6 +36,10 @@ logged_of notes = map (λ n. n.logged) notes
 -- the record of a note, spelled; nothing where it logged nothing
 abbrev pub note_bytes : Note → List ℕ
 note_bytes n = option_map_or cell_record_bytes n.logged []
+
+-- the records of the notes that joined from one journal to the other, spelled one behind another
+abbrev pub bytes_joined : (old new : JournalView) → List ℕ
+bytes_joined old new = flat_map note_bytes (drop (length old.notes) new.notes)
 
 -- the numbers of the note's record are in the ranges of their types
 abbrev pub IsTypedNote : Note → Type 0

@@ -1,7 +1,9 @@
 -- What upkeep of the log and of the pages does: a page is cleaned, and the log is turned.
-use Rattle.std.specs.Prelude.{◌≡◌, ◌⊎◌, ℕ, suc, ◌+◌, ◌*◌, ◌<◌, ◌≤◌, max, List, [], ◌∷◌, length, replicate, true, false, if◌then◌else◌, Some, None}
+use Rattle.std.specs.Prelude.{◌≡◌, ◌≢◌, ◌⊎◌, ℕ, suc, ◌+◌, ◌*◌, ◌<◌, ◌≤◌, max, List, [], ◌∷◌, ◌++◌, length, replicate, true, false, if◌then◌else◌, Option, Some, None, option_map}
 use Rattle.disk_model.specs.declared.area.Area.{Area}
+use Rattle.disk_model.specs.declared.area.Area.TheVariants.{Pages}
 use Rattle.disk_model.specs.Areas.{Bytes, in_area}
+use Rattle.disk_model.specs.Told.{Keeps}
 use Rattle.disk_model.specs.Causes.{Rose}
 use Rattle.plain_model.specs.declared.calls.Entry.TheVariants.{Hidden, TurnBusy}
 use Rattle.cell_model.specs.Cells.{Cell}
@@ -11,7 +13,7 @@ use Rattle.log_record.specs.declared.record.Record.{Record}
 use Rattle.log_record.specs.declared.record.Record.TheVariants.{Image}
 use Rattle.log_record.specs.Spelling.{record_bytes}
 use Rattle.gate_log.specs.Batches.{IsLog, most_bytes}
-use Rattle.gate_log.specs.State.{appended, forced, other_log}
+use Rattle.gate_log.specs.State.{appended, forced, forced_area, other_log}
 use Rattle.gate_log.specs.OnDisk.{named_by}
 use Rattle.page_area.specs.Place.{bytes_of_page}
 use Rattle.opened_images.specs.LogRecords.{body_of, all_of, first_records}
@@ -22,6 +24,8 @@ use Rattle.page_marks.specs.Marks.{unmarked, AreMarkedBy}
 use Rattle.core_store.specs.Limited.{is_past_limit}
 use Rattle.core_store.specs.Upkeep.{with_upkeep}
 use Rattle.plain_model.specs.History.{end_of, least_active}
+use Rattle.logged_journal.specs.declared.upkeep.Upkeep.{Upkeep}
+use Rattle.logged_journal.specs.declared.upkeep.Upkeep.TheVariants.{Done}
 use Rattle.logged_journal.specs.View.{LoggedView, IsPast, bytes_counted, mark_at, image_bytes, image_need}
 use Rattle.logged_journal.specs.Checkpoints.{wanted_below}
 
@@ -112,6 +116,16 @@ pub record Cleans {D : Type 0} {slots : ℕ} (old new : LoggedView D) (page : �
   pub log : new.log ≡ record (forced (appended old.log (image_wanted old.marks page held))) { room = new.log.room }
   pub current : (mark_at old.marks page).current ≡ true → new.marks ≡ old.marks
   pub imaged : (mark_at old.marks page).current ≡ false → AreMarkedBy (Image page held) old.marks new.marks
+
+-- no area changed but this one and the pages area
+abbrev pub KeepsButPages : {D : Type 0} → (D → Area → Option (List ℕ)) → (D → Area → List ℕ → Type 0) → D → D → Area → Type 0
+KeepsButPages content may_leave before now area = (other : Area) → other ≢ area → other ≢ Pages → Keeps content may_leave before now other
+
+-- What a page's cleaning makes of the disk's areas: only the log's own and the pages area change. Where it was done, the first has
+-- one batch more: the tail, and an image of the page where none was current.
+pub record OnlyCleans {D : Type 0} {slots : ℕ} (content : D → Area → Option (List ℕ)) (may_leave : D → Area → List ℕ → Type 0) (old new : LoggedView D) (page : ℕ) (held : List (PageCell slots)) (result : Upkeep) : Type 0 where
+  pub others : KeepsButPages content may_leave old.disk new.disk old.log.area
+  pub batch : result ≡ Done → content new.disk old.log.area ≡ option_map (forced_area old.log.durable (old.log.tail ++ image_wanted old.marks page held)) (content old.disk old.log.area)
 
 -- ---- the log is turned
 

@@ -12,7 +12,7 @@ ghost use Rattle.core_store.specs.Replaced.{next_to_restore};
 ghost use Rattle.logged_journal.specs.View.{IsPast, KeepsLog};
 ghost use Rattle.logged_journal.specs.Records.{MayHave};
 ghost use Rattle.logged_journal.specs.Opens.{OpensDuring};
-ghost use Rattle.logged_journal.specs.Calls.{IsOfJournal, IsGranted, IsPastLog, DoesCall, KeepsFrames, KeepsDisk, GoesOn, FailsCommit, DoesAbortStep};
+ghost use Rattle.logged_journal.specs.Calls.{IsOfJournal, IsGranted, IsPastLog, DoesCall, KeepsFrames, KeepsDisk, GoesOn, OnlyForces, FailsCommit, DoesAbortStep};
 
 use crate::failed::{FailedCall, Stopped};
 use crate::logged::LoggedJournal;
@@ -105,6 +105,7 @@ impl<const SLOTS: usize, D: Disk> LoggedJournal<SLOTS, D> {
         ensures fault { result ≡ Reply.DiskFault → FailsCommit D.faults self.old self.new pass Call.Commit × (held.new ≡ held.old) }
         ensures later { D.faults self.old.disk ≤ D.faults self.new.disk }
         ensures count { result ≢ Reply.DiskFault → D.faults self.new.disk ≡ D.faults self.old.disk }
+        ensures areas { OnlyForces D.content D.may_leave self.old self.new Call.Commit result }
         ensures moments { LeavesOnlyImages D.moment D.left_since self.old.disk self.new.disk (MayHave self.old pass) }
     {
         append_record::<SLOTS>(&mut self.log, &CellRecord::Commit { pass });
@@ -151,6 +152,9 @@ impl<const SLOTS: usize, D: Disk> LoggedJournal<SLOTS, D> {
         ensures fault { result ≡ Reply.DiskFault → FailsCommit D.faults self.old self.new pass call.now × (held.new ≡ held.old) }
         ensures later { D.faults self.old.disk ≤ D.faults self.new.disk }
         ensures count { result ≢ Reply.DiskFault → D.faults self.new.disk ≡ D.faults self.old.disk }
+
+        // No area but the log's changes; a commit that was done adds one batch to it, of the tail and the commit's own record.
+        ensures areas { OnlyForces D.content D.may_leave self.old self.new call.now result }
 
         // At each moment of the call a power loss leaves a log of what was there for good before, or, where it is a commit,
         // of all that was done and this commit.

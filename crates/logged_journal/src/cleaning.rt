@@ -1,7 +1,7 @@
 //! A page is cleaned: an image of it lasts in the log, and the page in place.
 ghost use Rattle.std.specs.Prelude.{◌≡◌, ◌≢◌, ◌⊎◌, ◌↔◌, ℕ, ◌+◌, ◌*◌, ◌<◌, ◌≤◌, [], true, false, length, IfSome, IsSome, None, OnOk, OnErr};
 ghost use Rattle.disk_model.specs.declared.area.Area.TheVariants.{Pages};
-ghost use Rattle.disk_model.specs.Told.{EachImage};
+ghost use Rattle.disk_model.specs.Told.{EachImage, KeepsOthers};
 ghost use Rattle.disk_model.specs.Time.{LeavesOnlyImages};
 ghost use Rattle.plain_model.specs.History.{end_of};
 ghost use Rattle.cell_page.specs.Format.{Spells};
@@ -14,7 +14,7 @@ ghost use Rattle.core_store.specs.Owed.{bytes_owed};
 ghost use Rattle.logged_journal.specs.View.{IsPast, OnlyTakesRoom, bytes_counted, history_of, image_bytes, image_need, mark_at};
 ghost use Rattle.logged_journal.specs.Records.{MayHaveAll};
 ghost use Rattle.logged_journal.specs.Opens.{OpensAfter};
-ghost use Rattle.logged_journal.specs.Upkeep.{IsClean, IsPastLogToClean, LogsWanted, Cleans, OnlyDisk, FailsUpkeep};
+ghost use Rattle.logged_journal.specs.Upkeep.{IsClean, IsPastLogToClean, LogsWanted, Cleans, OnlyCleans, OnlyDisk, FailsUpkeep};
 
 use crate::failed::FailedCall;
 use crate::logged::LoggedJournal;
@@ -38,6 +38,7 @@ impl<const SLOTS: usize, D: Disk> LoggedJournal<SLOTS, D> {
         requires empty { self.old.log.tail ≡ [] }
         ensures done { OnOk result (OnlyDisk self.old self.new) }
         ensures there { OnOk result (IfSome (D.content self.new.disk Pages) (λ area. Spells page frame.now.page (bytes_of_page SLOTS page area))) }
+        ensures others { KeepsOthers D.content D.may_leave self.old.disk self.new.disk Pages }
         ensures fault { OnErr result (FailsUpkeep D.faults self.old self.new) }
         ensures later { D.faults self.old.disk ≤ D.faults self.new.disk }
         ensures count { OnOk result (D.faults self.new.disk ≡ D.faults self.old.disk) }
@@ -65,6 +66,7 @@ impl<const SLOTS: usize, D: Disk> LoggedJournal<SLOTS, D> {
         requires empty { self.old.log.tail ≡ [] }
         ensures done { OnOk result (OnlyDisk self.old self.new) }
         ensures clean { OnOk result (EachImage D.may_leave self.new.disk (IsClean page frame.now.page)) }
+        ensures others { KeepsOthers D.content D.may_leave self.old.disk self.new.disk Pages }
         ensures fault { OnErr result (FailsUpkeep D.faults self.old self.new) }
         ensures later { D.faults self.old.disk ≤ D.faults self.new.disk }
         ensures count { OnOk result (D.faults self.new.disk ≡ D.faults self.old.disk) }
@@ -109,6 +111,7 @@ impl<const SLOTS: usize, D: Disk> LoggedJournal<SLOTS, D> {
         ensures fault { result ≡ Upkeep.DiskFault → FailsUpkeep D.faults self.old self.new }
         ensures later { D.faults self.old.disk ≤ D.faults self.new.disk }
         ensures count { result ≢ Upkeep.DiskFault → D.faults self.new.disk ≡ D.faults self.old.disk }
+        ensures areas { OnlyCleans D.content D.may_leave self.old self.new page frame.now.page result }
         ensures moments { LeavesOnlyImages D.moment D.left_since self.old.disk self.new.disk (MayHaveAll self.old) }
     {
         self.log_wanted(frame, page);
@@ -164,6 +167,9 @@ impl<const SLOTS: usize, D: Disk> LoggedJournal<SLOTS, D> {
         ensures fault { result ≡ Upkeep.DiskFault → FailsUpkeep D.faults self.old self.new }
         ensures later { D.faults self.old.disk ≤ D.faults self.new.disk }
         ensures count { result ≢ Upkeep.DiskFault → D.faults self.new.disk ≡ D.faults self.old.disk }
+
+        // No area changes but the log's and the pages; where it was done the log has one batch more, of the tail and the image.
+        ensures areas { OnlyCleans D.content D.may_leave self.old self.new page frame.now.page result }
 
         // At each moment of the call a power loss leaves a log of what was there for good before, or of all that was done. So
         // at each of them the store opens, to a graph that a crash before the call may leave.

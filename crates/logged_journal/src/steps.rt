@@ -1,7 +1,7 @@
 //! The steps of upkeep: an image joins the tail, the tail is made to last, and so are the pages.
 ghost use Rattle.std.specs.Prelude.{◌≡◌, ◌↔◌, ℕ, ◌+◌, ◌*◌, ◌<◌, ◌≤◌, [], true, false, length, option_map, None, OnOk, OnErr, IsErrOf};
 ghost use Rattle.disk_model.specs.declared.area.Area.TheVariants.{Pages};
-ghost use Rattle.disk_model.specs.Told.{EachImage, Leaves, IsSettled, KeepsAll};
+ghost use Rattle.disk_model.specs.Told.{EachImage, Leaves, IsSettled, KeepsAll, KeepsOthers};
 ghost use Rattle.disk_model.specs.Time.{LeavesOnlyImages};
 ghost use Rattle.plain_model.specs.History.{end_of};
 ghost use Rattle.cell_page.specs.Stored.{HoldsPage};
@@ -107,6 +107,7 @@ impl<const SLOTS: usize, D: Disk> LoggedJournal<SLOTS, D> {
         ensures done { OnOk result (ForcesAll self.old self.new) }
         ensures bytes { OnOk result (D.content self.new.disk self.old.log.area ≡ option_map (forced_area self.old.log.durable self.old.log.tail) (D.content self.old.disk self.old.log.area)) }
         ensures area { OnOk result (IsLogArea self.old.log.area) }
+        ensures others { KeepsOthers D.content D.may_leave self.old.disk self.new.disk self.old.log.area }
         ensures fault { OnErr result (FailsUpkeep D.faults self.old self.new) }
         ensures later { D.faults self.old.disk ≤ D.faults self.new.disk }
         ensures count { OnOk result (D.faults self.new.disk ≡ D.faults self.old.disk) }

@@ -3,6 +3,7 @@ use Rattle.cell_page.specs.Stored.{HoldsPage}
 use Rattle.core_store.specs.declared.frame.Frame.{Frame}
 use Rattle.core_store.specs.JournalView.{cells_of}
 use Rattle.logged_journal.specs.View.{LoggedView}
+use Rattle.logged_journal.specs.Upkeep.{KeepsButPages}
 use Rattle.framed_journal.specs.Upkeep.{CleansPage}
 use Rattle.framed_journal.proofs.HoldLaws.{slots-few, page_within}
 use Rattle.framed_journal.proofs.WholeLaws.{in-size, in-same}
@@ -44,3 +45,6 @@ offset_bounds-frames-page g c =
     let there = subst (λ (v : LoggedView g.row.D.Denot). 8 * c.args.page < v.journal.history.ids) (sym c.self.view_is) c.requires in
     let within = page_within c.self.inside.logged.journal c.all_frames-frames.result.now c.args.page (c.all_frames-frames.ensures c.self.inside.logged.journal c.self.invariant) there in
     omega (arith, within)
+
+pub returns-clause-others : goal.returns-clause-others
+returns-clause-others g c = subst (λ (v : LoggedView g.row.D.Denot). KeepsButPages g.D.Disk.content g.D.Disk.may_leave v.disk c.clean.new.self.disk v.log.area) c.self.view_is c.clean.ensures.areas.others

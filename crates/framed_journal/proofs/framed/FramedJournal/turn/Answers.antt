@@ -1,9 +1,12 @@
-use Rattle.std.proofs.Common.{◌≡◌, ◌↔◌, ℕ, ◌*◌, ◌<◌, ◌≤◌, false, Some, None, List, length, sym, ap, subst, ◌∙◌, rules}
+use Rattle.std.proofs.Common.{◌≡◌, ◌⊎◌, ◌↔◌, ℕ, ◌*◌, ◌<◌, ◌≤◌, false, Some, None, List, length, sym, ap, subst, ◌∙◌, rules}
 use Rattle.plain_model.specs.declared.calls.Entry.TheVariants.{TurnBusy}
 use Rattle.core_store.specs.declared.frame.Frame.{Frame}
 use Rattle.core_store.specs.Frames.{AllAgree}
 use Rattle.core_store.specs.JournalView.{cells_of}
+use Rattle.logged_journal.specs.declared.upkeep.Upkeep.TheVariants.{LogFull, Memory}
 use Rattle.logged_journal.specs.View.{LoggedView}
+use Rattle.logged_journal.specs.Upkeep.{IsPastLogToTurn}
+use Rattle.framed_journal.specs.Upkeep.{ForcesPages}
 use Rattle.framed_journal.proofs.HoldLaws.{slots-few}
 use Rattle.framed_journal.proofs.WholeLaws.{in-size, in-same}
 use Rattle.framed_journal.proofs.UpkeepLaws.{same-after_upkeep, same-upkeep}
@@ -23,3 +26,16 @@ invariant_of-self g c =
     let same = same-after_upkeep g.row.SLOTS g.D.Disk.faults u v c.turn.result done.stopped done.only_stopped done.marked done.log_marked done.memory (λ e. let d = done.done e in d.does)
     (λ pass e. same-upkeep g.row.SLOTS u.journal v.journal (TurnBusy pass) (ap (λ (x : LoggedView g.row.D.Denot). x.journal) (done.told pass e))) done.fault in
     in-same v.journal c.self.invariant same
+
+pub returns-clause-old_log : goal.returns-clause-old_log
+returns-clause-old_log g c = λ done.
+    let all = c.all_frames.ensures c.self.inside.logged.journal c.self.invariant in
+    subst (λ (v : LoggedView g.row.D.Denot). ForcesPages g.row.SLOTS g.D.Disk.content v c.turn.new.self) c.self.view_is
+    (record { frames = c.all_frames.result.now; pages = all.pages; agree = all.agree; forced = c.turn.ensures.old_log done })
+
+pub returns-clause-too_long : goal.returns-clause-too_long
+returns-clause-too_long g c = subst (λ (v : LoggedView g.row.D.Denot). c.turn.result ≡ LogFull → IsPastLogToTurn g.row.SLOTS v) c.self.view_is c.turn.ensures.too_long
+
+pub returns-clause-only_too_long : goal.returns-clause-only_too_long
+returns-clause-only_too_long g c =
+    subst (λ (v : LoggedView g.row.D.Denot). IsPastLogToTurn g.row.SLOTS v → (c.turn.result ≡ LogFull) ⊎ (c.turn.result ≡ Memory)) c.self.view_is c.turn.ensures.only_too_long

@@ -1,4 +1,5 @@
-use Rattle.std.proofs.Common.{◌≤◌, subst, rules, sym, ◌∙◌}
+use Rattle.std.proofs.Common.{◌≡◌, ◌≢◌, ◌≤◌, subst, rules, sym, ◌∙◌}
+use Rattle.plain_model.specs.declared.calls.Reply.TheVariants.{DiskFault}
 use Rattle.logged_journal.specs.View.{LoggedView}
 use Rattle.core_store.specs.Frames.{is_held}
 use Rattle.journal_chronicle.specs.Steps.{entered_by_call, marked_by_call, GoesOnWith}
@@ -58,3 +59,10 @@ returns-clause-untouched g c = rw (← (c.as_mut-logged.ensures.value ∙ c.self
 pub returns-clause-never_again : goal.returns-clause-never_again
 returns-clause-never_again g c =
     never-again g.D.Disk.faults g.row.SLOTS c.as_mut-logged.result.now c.apply-reply.new.self c.args.held.now c.apply-reply.new.held c.args.pass c.args.call.now c.apply-reply.result (applied g c)
+
+pub returns-clause-areas : goal.returns-clause-areas
+returns-clause-areas g c = rw (← (c.as_mut-logged.ensures.value ∙ c.self.view_is)) c.apply-reply.ensures.areas
+
+pub returns-clause-count : goal.returns-clause-count
+returns-clause-count g c =
+    subst (λ (v : LoggedView g.row.D.Denot). c.apply-reply.result ≢ DiskFault → g.D.Disk.faults c.apply-reply.new.self.disk ≡ g.D.Disk.faults v.disk) (c.as_mut-logged.ensures.value ∙ c.self.view_is) c.apply-reply.ensures.count

@@ -1,5 +1,7 @@
-use Rattle.std.proofs.Common.{subst, sym, ◌∙◌}
+use Rattle.std.proofs.Common.{◌≡◌, ◌≢◌, subst, sym, ◌∙◌}
+use Rattle.logged_journal.specs.declared.upkeep.Upkeep.TheVariants.{DiskFault}
 use Rattle.logged_journal.specs.View.{LoggedView}
+use Rattle.logged_journal.specs.Upkeep.{OnlyCleans}
 use Rattle.journal_chronicle.specs.Steps.{entered_by_upkeep, marked_by_upkeep, no_page, GoesOnWith}
 use Rattle.journal_chronicle.specs.Inside.{IsChronicle}
 use Rattle.journal_chronicle.proofs.Upkeeps.{Kept, upkept}
@@ -31,3 +33,11 @@ pub returns-clause-chronicle : goal.returns-clause-chronicle
 returns-clause-chronicle g c =
     let all = kept g c in
     subst (λ (v : LoggedView g.row.D.Denot). GoesOnWith g.row.SLOTS no_page v c.clean-answer.new.self (entered_by_upkeep c.clean-answer.result) (marked_by_upkeep c.clean-answer.result)) (c.as_mut-logged.ensures.value ∙ c.self.view_is) all.goes
+
+pub returns-clause-areas : goal.returns-clause-areas
+returns-clause-areas g c =
+    subst (λ (v : LoggedView g.row.D.Denot). OnlyCleans g.D.Disk.content g.D.Disk.may_leave v c.clean-answer.new.self c.args.page c.args.frame.now.page c.clean-answer.result) (c.as_mut-logged.ensures.value ∙ c.self.view_is) c.clean-answer.ensures.areas
+
+pub returns-clause-count : goal.returns-clause-count
+returns-clause-count g c =
+    subst (λ (v : LoggedView g.row.D.Denot). c.clean-answer.result ≢ DiskFault → g.D.Disk.faults c.clean-answer.new.self.disk ≡ g.D.Disk.faults v.disk) (c.as_mut-logged.ensures.value ∙ c.self.view_is) c.clean-answer.ensures.count

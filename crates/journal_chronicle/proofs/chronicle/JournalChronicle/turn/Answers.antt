@@ -1,5 +1,8 @@
-use Rattle.std.proofs.Common.{◌≤◌, subst, rules, sym, ◌∙◌}
+use Rattle.std.proofs.Common.{◌≡◌, ◌≢◌, ◌⊎◌, ◌≤◌, subst, rules, sym, ◌∙◌}
+use Rattle.logged_journal.specs.declared.upkeep.Upkeep.TheVariants.{Done, LogFull, Memory, DiskFault}
 use Rattle.logged_journal.specs.View.{LoggedView}
+use Rattle.logged_journal.specs.Checkpoints.{ForcesImages}
+use Rattle.logged_journal.specs.Upkeep.{IsPastLogToTurn}
 use Rattle.journal_chronicle.specs.Steps.{entered_by_upkeep, marked_by_upkeep, no_page, GoesOnWith}
 use Rattle.journal_chronicle.specs.Inside.{IsChronicle}
 use Rattle.journal_chronicle.proofs.Goings.{slots-few}
@@ -38,3 +41,19 @@ pub returns-clause-chronicle : goal.returns-clause-chronicle
 returns-clause-chronicle g c =
     let all = kept g c in
     subst (λ (v : LoggedView g.row.D.Denot). GoesOnWith g.row.SLOTS no_page v c.turn-answer.new.self (entered_by_upkeep c.turn-answer.result) (marked_by_upkeep c.turn-answer.result)) (c.as_mut-logged.ensures.value ∙ c.self.view_is) all.goes
+
+pub returns-clause-too_long : goal.returns-clause-too_long
+returns-clause-too_long g c =
+    subst (λ (v : LoggedView g.row.D.Denot). c.turn-answer.result ≡ LogFull → IsPastLogToTurn g.row.SLOTS v) (c.as_mut-logged.ensures.value ∙ c.self.view_is) c.turn-answer.ensures.too_long
+
+pub returns-clause-only_too_long : goal.returns-clause-only_too_long
+returns-clause-only_too_long g c =
+    subst (λ (v : LoggedView g.row.D.Denot). IsPastLogToTurn g.row.SLOTS v → (c.turn-answer.result ≡ LogFull) ⊎ (c.turn-answer.result ≡ Memory)) (c.as_mut-logged.ensures.value ∙ c.self.view_is) c.turn-answer.ensures.only_too_long
+
+pub returns-clause-old_log : goal.returns-clause-old_log
+returns-clause-old_log g c =
+    subst (λ (v : LoggedView g.row.D.Denot). c.turn-answer.result ≡ Done → ForcesImages g.D.Disk.content c.args.frames.now v c.turn-answer.new.self) (c.as_mut-logged.ensures.value ∙ c.self.view_is) c.turn-answer.ensures.old_log
+
+pub returns-clause-count : goal.returns-clause-count
+returns-clause-count g c =
+    subst (λ (v : LoggedView g.row.D.Denot). c.turn-answer.result ≢ DiskFault → g.D.Disk.faults c.turn-answer.new.self.disk ≡ g.D.Disk.faults v.disk) (c.as_mut-logged.ensures.value ∙ c.self.view_is) c.turn-answer.ensures.count

@@ -7,7 +7,8 @@ use Rattle.core_store.specs.Limited.{is_past_limit}
 use Rattle.core_store.specs.Owed.{entries_needed}
 use Rattle.logged_journal.specs.View.{LoggedView, IsPast}
 use Rattle.logged_journal.specs.Records.{MayHave}
-use Rattle.logged_journal.specs.Calls.{IsOfJournal, DoesCall, FailsCommit, IsGranted, KeepsFrames}
+use Rattle.logged_journal.specs.Calls.{IsOfJournal, DoesCall, FailsCommit, IsGranted, KeepsFrames, OnlyForces}
+use Rattle.logged_journal.proofs.Areas.{areas-kept}
 use Rattle.logged_journal.proofs.AppliedCalls.{few-needed, still, opens-still, opens-commit, not-granted, is-granted, never-done, never-memory, no-other, if-none, commit-left}
 use Rattle.logged_journal.proofs.logged.LoggedJournal.apply.Given.{Over}
 use Rattle.logged_journal.proofs.logged.LoggedJournal.apply.Goals as goal
@@ -187,12 +188,35 @@ returns-then-is_within g c =
       fault = λ is. absurd (subst IsOfJournal is c.log_call.ensures.journal);
       later = subst (λ (d : g.row.D.Denot). g.D.Disk.faults c.args.self.now.disk ≤ g.D.Disk.faults d) (sym c.log_call.ensures.disk.disk) (omega (arith));
       count = λ _. ap (λ (d : g.row.D.Denot). g.D.Disk.faults d) c.log_call.ensures.disk.disk;
+      areas = areas-kept g.D.Disk.content g.D.Disk.may_leave c.args.self.now c.log_call.new.self c.args.call.now c.log_call.result c.log_call.ensures.disk.disk (λ is _. free.0 is);
       moments = subst (λ (w : LoggedView g.row.D.Denot). w.disk ≡ w.disk → LeavesOnlyImages g.D.Disk.moment g.D.Disk.left_since w.disk c.log_call.new.self.disk (MayHave w c.args.pass)) c.self.view_is
           (λ _. still g.D.Disk.may_leave g.D.Disk.moment g.D.Disk.left_since g.D.Disk.only_now _ c.args.pass c.log_call.new.self.disk
           (c.log_call.ensures.disk.disk ∙ ap (λ (w : LoggedView g.row.D.Denot). w.disk) (sym c.self.view_is)) c.self.invariant.kept) refl;
       opens = opens-still g.D.Disk.may_leave g.D.Disk.moment g.D.Disk.left_since g.D.Disk.only_now g.row.SLOTS c.args.pass c.args.call.now _ c.args.self.now c.log_call.new.self.disk c.self.view_is
           c.self.invariant.kept c.log_call.ensures.disk.disk c.know_images.ensures.left;
     }
+
+-- ---- what the areas have
+
+pub returns-in-Some-clause-areas : goal.returns-in-Some-clause-areas
+returns-in-Some-clause-areas g c = areas-kept g.D.Disk.content g.D.Disk.may_leave c.args.self.now c.args.self.now c.args.call.now _ refl (λ is done. absurd (cc (done)))
+
+pub returns-then-not-grants-clause-areas : goal.returns-then-not-grants-clause-areas
+returns-then-not-grants-clause-areas g c =
+    areas-kept g.D.Disk.content g.D.Disk.may_leave c.args.self.now c.refuse.new.self c.args.call.now c.refuse.result c.refuse.ensures.disk.disk
+    (λ is done.
+    never-done g.row.SLOTS c.args.self.now.journal c.refuse.new.self.journal c.args.pass c.refuse.result
+    (λ granted. refused g c (subst (λ (x : TransactionCall). IsGranted c.args.self.now.journal c.args.pass x) (sym is) granted))
+    (subst (λ (x : TransactionCall). DoesCall g.row.SLOTS c.args.self.now.journal c.refuse.new.self.journal c.args.pass x c.refuse.result) is c.refuse.ensures.does) done)
+
+pub returns-then-is_past-clause-areas : goal.returns-then-is_past-clause-areas
+returns-then-is_past-clause-areas g c =
+    areas-kept g.D.Disk.content g.D.Disk.may_leave c.args.self.now c.mark_full.new.self c.args.call.now reply.LogFull (ap (λ (w : LoggedView g.row.D.Denot). w.disk) c.mark_full.ensures.marked)
+    (λ is done. absurd (cc (done)))
+
+pub returns-clause-areas : goal.returns-clause-areas
+returns-clause-areas g c =
+    subst (λ (x : TransactionCall). OnlyForces g.D.Disk.content g.D.Disk.may_leave c.args.self.now c.commit.new.self x c.commit.result) (sym (left g c)) c.commit.ensures.areas
 
 -- ---- what the images open to
 

@@ -1,4 +1,4 @@
-use Rattle.std.proofs.Common.{◌≡◌, ◌∙◌, ◌+◌, ℕ, Bool, true, false, Result, Ok, Err, refl, sym, ap, subst, arith}
+use Rattle.std.proofs.Common.{◌≡◌, ◌∙◌, ⊎_elim, ◌+◌, ℕ, Bool, true, false, Result, Ok, Err, refl, sym, ap, subst, arith}
 use Rattle.std.specs.Prelude.{OnOk, IsErrOf}
 use Rattle.disk_model.specs.Time.{LeavesOnlyImages}
 use Rattle.disk_model.proofs.Moments.{weaken}
@@ -7,6 +7,7 @@ use Rattle.core_store.specs.declared.room_refusal.RoomRefusal.TheVariants.{Memor
 use Rattle.core_store.specs.Limited.{is_past_limit}
 use Rattle.logged_journal.specs.View.{LoggedView, IsPast, image_need}
 use Rattle.logged_journal.specs.Records.{MayHaveAll}
+use Rattle.logged_journal.proofs.Areas.{cleans-still, cleans-behind}
 use Rattle.logged_journal.proofs.RoomTaken.{room-entry, room-log, room-have}
 use Rattle.logged_journal.proofs.UpkeepOpens.{still-upkeep, still-opened, upkeep-opens}
 use Rattle.logged_journal.proofs.logged.LoggedJournal.clean.Goals as goal
@@ -97,3 +98,32 @@ returns-clause-opens g c =
     let moments = subst (λ (d : g.row.D.Denot). LeavesOnlyImages g.D.Disk.moment g.D.Disk.left_since d c.clean_in_room.new.self.disk (MayHaveAll v)) (ap (λ (u : LoggedView g.row.D.Denot). u.disk) takes)
     (weaken (MayHaveAll v) (λ image has. room-have v w image takes has) c.clean_in_room.ensures.moments) in
     upkeep-opens g.D.Disk.moment g.D.Disk.left_since g.row.SLOTS v v.disk c.clean_in_room.new.self.disk (sym c.failed.ensures.failed ∙ c.in_default.is) c.know_images.ensures.left c.know_images.ensures.all moments
+
+-- ---- what the areas have
+
+pub returns-in-Some-clause-areas : goal.returns-in-Some-clause-areas
+returns-in-Some-clause-areas g c =
+    cleans-still g.D.Disk.content g.D.Disk.may_leave c.args.self.now c.args.self.now c.args.page c.args.frame.now.page _ refl (λ done. absurd (cc (done)))
+
+pub returns-in-Err-TraceFull-clause-areas : goal.returns-in-Err-TraceFull-clause-areas
+returns-in-Err-TraceFull-clause-areas g c =
+    cleans-still g.D.Disk.content g.D.Disk.may_leave c.args.self.now c.reserve_entry.new.self c.args.page c.args.frame.now.page _ (ap (λ (w : LoggedView g.row.D.Denot). w.disk) c.reserve_entry.ensures.same) (λ done. absurd (cc (done)))
+
+pub returns-in-Err-Memory-clause-areas : goal.returns-in-Err-Memory-clause-areas
+returns-in-Err-Memory-clause-areas g c =
+    cleans-still g.D.Disk.content g.D.Disk.may_leave c.args.self.now c.full_or_memory.new.self c.args.page c.args.frame.now.page c.full_or_memory.result (ap (λ (w : LoggedView g.row.D.Denot). w.disk) c.full_or_memory.ensures.same ∙ ap (λ (w : LoggedView g.row.D.Denot). w.disk) c.reserve_entry.ensures.same) (λ done. ⊎_elim (λ full. let e = sym done ∙ full in absurd (cc (e))) (λ memory. let e = sym done ∙ memory in absurd (cc (e))) c.full_or_memory.ensures.answers)
+
+pub returns-then-is_past-clause-areas : goal.returns-then-is_past-clause-areas
+returns-then-is_past-clause-areas g c =
+    cleans-still g.D.Disk.content g.D.Disk.may_leave c.args.self.now c.mark_full.new.self c.args.page c.args.frame.now.page _ (ap (λ (w : LoggedView g.row.D.Denot). w.disk) c.mark_full.ensures.marked ∙ ap (λ (w : LoggedView g.row.D.Denot). w.disk) c.reserve_entry.ensures.same) (λ done. absurd (cc (done)))
+
+pub returns-then-is_err-clause-areas : goal.returns-then-is_err-clause-areas
+returns-then-is_err-clause-areas g c =
+    cleans-still g.D.Disk.content g.D.Disk.may_leave c.args.self.now c.take_room.new.self c.args.page c.args.frame.now.page _ (ap (λ (w : LoggedView g.row.D.Denot). w.disk) c.take_room.ensures.same ∙ ap (λ (w : LoggedView g.row.D.Denot). w.disk) c.reserve_entry.ensures.same) (λ done. absurd (cc (done)))
+
+pub returns-clause-areas : goal.returns-clause-areas
+returns-clause-areas g c =
+    let v = c.args.self.now in
+    let w = c.take_room.new.self in
+    let takes = room-log v c.reserve_entry.new.self w (room-entry v c.reserve_entry.new.self (by-ok c.reserve_entry.result _ _ c.in-Ok.is c.reserve_entry.ensures.reserved)) c.take_room.ensures.same in
+    cleans-behind g.D.Disk.content g.D.Disk.may_leave v w c.clean_in_room.new.self c.args.page c.args.frame.now.page c.clean_in_room.result takes c.clean_in_room.ensures.areas

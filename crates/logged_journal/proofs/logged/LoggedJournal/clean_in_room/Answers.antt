@@ -2,6 +2,7 @@ use Rattle.std.proofs.Common.{◌∙◌, rules, sym, ap, subst, arith}
 use Rattle.disk_model.specs.Time.{LeavesOnlyImages}
 use Rattle.logged_journal.specs.View.{LoggedView}
 use Rattle.logged_journal.specs.Records.{MayHaveAll}
+use Rattle.logged_journal.proofs.Areas.{cleans-unforced, cleans-unplaced, cleans-all}
 use Rattle.logged_journal.proofs.CommitDone.{on-ok, on-err}
 use Rattle.logged_journal.proofs.CleanSteps.{fails-behind, wanted-moments, placed-moments, leads-all, cleans}
 use Rattle.logged_journal.proofs.logged.LoggedJournal.clean_in_room.Goals as goal
@@ -43,3 +44,21 @@ returns-clause-moments g c =
     subst (λ (d : g.row.D.Denot). LeavesOnlyImages g.D.Disk.moment g.D.Disk.left_since c.args.self.now.disk d (MayHaveAll c.args.self.now)) (sym (ap (λ (w : LoggedView g.row.D.Denot). w.disk) c.hide.ensures.hidden))
     (placed-moments c.args.page c.args.frame.now.page c.args.self.now c.log_wanted.new.self c.requires.running c.log_wanted.ensures.logged c.force_all.new.self forces
     g.D.Disk.moment g.D.Disk.left_since c.put_in_place.new.self.disk c.force_all.ensures.moments c.put_in_place.ensures.moments)
+
+-- ---- what the areas have
+
+pub returns-then-is_err-clause-areas : goal.returns-then-is_err-clause-areas
+returns-then-is_err-clause-areas g c =
+    cleans-unforced g.D.Disk.content g.D.Disk.may_leave c.args.page c.args.frame.now.page c.args.self.now c.log_wanted.new.self c.log_wanted.ensures.logged c.force_all.new.self c.force_all.ensures.others
+
+pub returns-then-is_err-2-clause-areas : goal.returns-then-is_err-2-clause-areas
+returns-then-is_err-2-clause-areas g c =
+    cleans-unplaced g.D.Disk.content g.D.Disk.may_leave c.args.page c.args.frame.now.page c.args.self.now c.log_wanted.new.self c.log_wanted.ensures.logged c.force_all.new.self c.put_in_place.new.self
+    c.force_all.ensures.others c.put_in_place.ensures.others
+
+pub returns-clause-areas : goal.returns-clause-areas
+returns-clause-areas g c =
+    let succeeded = sym c.is_err.ensures.value ∙ c.if-is_err.false in
+    cleans-all g.D.Disk.content g.D.Disk.may_leave c.args.page c.args.frame.now.page c.args.self.now c.log_wanted.new.self c.log_wanted.ensures.logged c.force_all.new.self c.put_in_place.new.self c.hide.new.self
+    (on-ok c.force_all.result _ succeeded c.force_all.ensures.area) c.force_all.ensures.others c.put_in_place.ensures.others (on-ok c.force_all.result _ succeeded c.force_all.ensures.bytes)
+    (ap (λ (w : LoggedView g.row.D.Denot). w.disk) c.hide.ensures.hidden)

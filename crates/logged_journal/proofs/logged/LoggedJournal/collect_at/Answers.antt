@@ -1,4 +1,4 @@
-use Rattle.std.proofs.Common.{rules, ◌≡◌, ◌≤◌, sym, ◌∙◌, ap, subst, refl, true, false, Some, IfSome}
+use Rattle.std.proofs.Common.{rules, ◌≡◌, ◌≤◌, sym, ◌∙◌, ap, subst, refl, Some, IfSome}
 use Rattle.std.specs.Prelude.{Option}
 use Rattle.core_store.specs.declared.round_at.RoundAt.{RoundAt}
 use Rattle.core_store.specs.RoundView.{asked}

@@ -1,5 +1,6 @@
-use Rattle.std.proofs.Common.{◌≡◌, ◌∙◌, ℕ, ◌+◌, ◌≤◌, false, List, length, Option, None, ⊎_elim, refl, sym, map, ap, subst, arith, rules}
+use Rattle.std.proofs.Common.{◌≡◌, ◌∙◌, ℕ, ◌+◌, ◌≤◌, false, List, [], length, option_map, Option, None, ⊎_elim, refl, sym, map, ap, subst, arith, rules}
 use Rattle.std.specs.Prelude.{⊤, is_err, IfSome}
+use Rattle.std.specs.Option.{option_map_or}
 use Rattle.plain_model.specs.declared.calls.Call.TheVariants as call
 use Rattle.plain_model.specs.declared.calls.Reply.TheVariants as reply
 use Rattle.plain_model.specs.declared.calls.Entry.TheVariants.{Call}
@@ -12,9 +13,10 @@ use Rattle.disk_model.specs.Told.{KeepsOthers, IsImageBut}
 use Rattle.disk_model.specs.Time.{LeavesOnlyImages}
 use Rattle.disk_model.proofs.Moments.{at_exit}
 use Rattle.log_record.specs.declared.cell_record.CellRecord.{CellRecord}
+use Rattle.log_record.specs.declared.cell_record.CellRecord.TheVariants as logs
 use Rattle.log_record.specs.Spelling.{cell_record_bytes}
 use Rattle.gate_log.specs.Batches.{most_bytes}
-use Rattle.gate_log.specs.State.{LogState, forced, failed, used}
+use Rattle.gate_log.specs.State.{LogState, forced, failed, used, forced_area}
 use Rattle.gate_log.specs.OnDisk.{with_batch, IsOn, HasEither}
 use Rattle.core_store.specs.declared.act.Act.TheVariants.{Other}
 use Rattle.core_store.specs.declared.note.Note.{Note}
@@ -30,8 +32,10 @@ use Rattle.logged_journal.specs.Inside.{view_of}
 use Rattle.logged_journal.specs.declared.logged.LoggedJournal.TheInside.{Inside}
 use Rattle.logged_journal.specs.declared.failed.FailedCall.{FailedCall}
 use Rattle.logged_journal.specs.View.{LoggedView}
-use Rattle.logged_journal.specs.Records.{MayHave, AreMarkedAfter}
-use Rattle.logged_journal.specs.Calls.{IsOfJournal, IsGranted, DoesCall, KeepsFrames, GoesOn, joined}
+use Rattle.logged_journal.specs.Records.{MayHave, AreMarkedAfter, bytes_joined}
+use Rattle.logged_journal.proofs.NoteBytes.{joined-one, forces-these}
+use Rattle.logged_journal.proofs.Areas.{others-forced, batch-forced}
+use Rattle.logged_journal.specs.Calls.{IsOfJournal, IsGranted, DoesCall, KeepsFrames, GoesOn, OnlyForces, joined}
 use Rattle.logged_journal.specs.Kept.{IsStanding}
 use Rattle.logged_journal.proofs.Commits.{pages-apart}
 use Rattle.logged_journal.proofs.CommitDone.{commit-done, commit-marked, commit-logged, commit-falls, commit-owed, was-ok, on-ok, on-err, with_record, record-on, note-holds, record-bounded, record-moments, kept-failed, HasCommitted, counted-falls, kept-done}
@@ -124,6 +128,17 @@ returns-then-is_err-clause-moments g c =
     (owed c.self.inside c.args.self.now c.args.pass c.self.view_is c.requires.granted) c.append_record.ensures.log run others in
     subst (λ (w : LoggedView g.row.D.Denot). LeavesOnlyImages g.D.Disk.moment g.D.Disk.left_since w.disk c.force.new.disk (MayHave w c.args.pass)) c.self.view_is moments
 
+pub returns-then-is_err-clause-areas : goal.returns-then-is_err-clause-areas
+returns-then-is_err-clause-areas g c =
+    let v = view_of c.self.inside in
+    let log = c.append_record.new.log in
+    let keeps = subst (λ (d : g.row.D.Denot). KeepsOthers g.D.Disk.content g.D.Disk.may_leave d c.force.new.disk log.area) c.as_mut.ensures.value c.force.ensures.keeps in
+    record {
+      others = subst (λ (w : LoggedView g.row.D.Denot). KeepsOthers g.D.Disk.content g.D.Disk.may_leave w.disk c.force.new.disk w.log.area) c.self.view_is
+          (others-forced g.D.Disk.content g.D.Disk.may_leave v c.force.new.disk log c.args.pass c.append_record.ensures.log keeps);
+      batch = λ is done. absurd (cc (done));
+    }
+
 -- ---- where it was done
 
 pub apply-reply-requires : goal.apply-reply-requires
@@ -213,6 +228,12 @@ log-is g c =
 stands : (g : Over) (c : goal.After-self-2-1 g) → IsStanding g.D.Disk.may_leave (view_of c.self.inside)
 stands g c = c.self.invariant.kept.standing (running c.self.inside c.args.self.now c.self.view_is c.requires.running)
 
+-- the commit's record is that of the note that joined
+record-joined : (g : Over) (c : goal.After-self-2-1 g) → bytes_joined c.self.inside.journal c.apply-reply.new.self ≡ cell_record_bytes (logs.Commit c.args.pass)
+record-joined g c =
+    joined-one c.self.inside.journal c.apply-reply.new.self (note g c) (c.apply-reply.ensures.noted (entered g c))
+    ∙ ap (λ (o : Option CellRecord). option_map_or cell_record_bytes o []) (commit-logged (end_of c.self.inside.journal.history).state (cells_of c.self.inside.journal) c.args.pass (grants g c).granted)
+
 committed : (g : Over) (c : goal.After-self-2-1 g)
     → HasCommitted g.D.Disk.may_leave (view_of c.self.inside) (after g c) c.args.pass (note g c) (with_batch (stands g c).batches c.append_record.new.log.tail)
 committed g c =
@@ -288,6 +309,19 @@ returns-clause-goes_on g c is =
       marks = joined (note g c) (c.apply-reply.ensures.noted (entered g c))
           (subst (λ (o : Option CellRecord). AreMarkedAfter c.self.inside.journal.history.slots o c.self.inside.marks c.self.inside.marks)
           (sym (commit-logged (end_of c.self.inside.journal.history).state (cells_of c.self.inside.journal) c.args.pass (grants g c).granted)) (commit-marked c.self.inside.journal.history.slots c.args.pass c.self.inside.marks));
+      log = forces-these v (after g c) (cell_record_bytes (logs.Commit c.args.pass)) (record-joined g c) (c.len-self-inside.ensures ∙ ap (λ (l : List Note). length l) c.history.ensures.notes) (log-is g c);
+    })
+
+pub returns-clause-areas : goal.returns-clause-areas
+returns-clause-areas g c =
+    let v = view_of c.self.inside in
+    let log = c.append_record.new.log in
+    let keeps = subst (λ (d : g.row.D.Denot). KeepsOthers g.D.Disk.content g.D.Disk.may_leave d c.force.new.disk log.area) c.as_mut.ensures.value c.force.ensures.keeps in
+    let bytes = subst (λ (d : g.row.D.Denot). g.D.Disk.content c.force.new.disk log.area ≡ option_map (forced_area log.durable log.tail) (g.D.Disk.content d log.area)) c.as_mut.ensures.value (on-ok c.force.result _ (succeeded g c) c.force.ensures.bytes) in
+    subst (λ (w : LoggedView g.row.D.Denot). OnlyForces g.D.Disk.content g.D.Disk.may_leave w (after g c) call.Commit c.apply-reply.result) c.self.view_is
+    (record {
+      others = others-forced g.D.Disk.content g.D.Disk.may_leave v c.force.new.disk log c.args.pass c.append_record.ensures.log keeps;
+      batch = λ is done. batch-forced g.D.Disk.content v (after g c) log c.args.pass c.append_record.ensures.log (record-joined g c) bytes;
     })
 
 pub returns-clause-frames : goal.returns-clause-frames

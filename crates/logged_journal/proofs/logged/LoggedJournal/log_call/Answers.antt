@@ -19,7 +19,9 @@ use Rattle.logged_journal.specs.View.{LoggedView, IsPast}
 use Rattle.logged_journal.specs.Records.{last_bytes}
 use Rattle.logged_journal.specs.Kept.{IsKept}
 use Rattle.logged_journal.specs.Calls.{DoesCall, KeepsFrames, GoesOn, GoWithNotes, stayed, joined}
-use Rattle.logged_journal.proofs.CalledJournals.{of-journal, called-slots, called-goes, kept-reserved, IsCalled, asked, after_call, called-room, called-bounded, kept-called}
+use Rattle.logged_journal.proofs.NoteBytes.{appends-last}
+use Rattle.logged_journal.proofs.Resting.{goes-on-same}
+use Rattle.logged_journal.proofs.CalledJournals.{note_of, of-journal, called-slots, called-goes, kept-reserved, IsCalled, asked, after_call, called-room, called-bounded, kept-called}
 use Rattle.logged_journal.proofs.logged.LoggedJournal.log_call.Given.{Over}
 use Rattle.logged_journal.proofs.logged.LoggedJournal.log_call.Goals as goal
 
@@ -77,6 +79,13 @@ returns-then-is_err-clause-frames g c =
       elsewhere = λ page apart. refl;
     })
 
+pub returns-then-is_err-clause-goes_on : goal.returns-then-is_err-clause-goes_on
+returns-then-is_err-clause-goes_on g c =
+    let v : LoggedView g.row.D.Denot = view_of c.self.inside in
+    subst (λ (w : LoggedView g.row.D.Denot). GoesOn w (record v { log = c.reserve.new.self })) c.self.view_is
+    (subst (λ (l : LogState). GoesOn v (record v { log = l })) (sym c.reserve.ensures.log)
+    (goes-on-same g.D.Disk.may_leave v v.journal v.journal.round v.journal.marks _ refl (running c.self.inside c.args.self.now c.self.view_is c.requires.running) c.self.invariant.kept))
+
 pub apply-requires : goal.apply-requires
 apply-requires g c =
     let small : g.row.SLOTS ≤ 14 = ⊎_elim (λ six. omega arith) (λ fourteen. omega arith) c.self.invariant.size in (
@@ -116,6 +125,13 @@ returns-in-Memory-clause-frames g c =
     let e = c.apply.ensures in
     subst (λ (v : LoggedView g.row.D.Denot). KeepsFrames v.journal c.apply.new.self c.args.held.now c.apply.new.held) c.self.view_is
     (record { pages = e.pages; agree = e.agree; elsewhere = e.elsewhere })
+
+pub returns-in-Memory-clause-goes_on : goal.returns-in-Memory-clause-goes_on
+returns-in-Memory-clause-goes_on g c =
+    let v : LoggedView g.row.D.Denot = view_of c.self.inside in
+    subst (λ (w : LoggedView g.row.D.Denot). GoesOn w (record v { journal = c.apply.new.self; log = c.reserve.new.self })) c.self.view_is
+    (subst (λ (l : LogState). GoesOn v (record v { journal = c.apply.new.self; log = l })) (sym c.reserve.ensures.log)
+    (goes-on-same g.D.Disk.may_leave v c.apply.new.self v.journal.round v.journal.marks _ (c.apply.ensures.memory c.in-Memory.is).0 (running c.self.inside c.args.self.now c.self.view_is c.requires.running) c.self.invariant.kept))
 
 -- ---- where it was answered
 
@@ -231,6 +247,12 @@ goes-with : (g : Over) (c : goal.After-self-1 g) → GoWithNotes (view_of c.self
 goes-with g c (stayed notes marks) = stayed notes marks
 goes-with g c (joined n notes marks) = joined n notes marks
 
+-- the log but for its room
+log-joined : (g : Over) (c : goal.After-self-1 g) → c.append_last.new.log ≡ record (appended (view_of c.self.inside).log (last_bytes c.apply.new.self.notes)) { room = c.append_last.new.log.room }
+log-joined g c =
+    let is = log-is g c in
+    is ∙ ap (λ (n : ℕ). record (appended (view_of c.self.inside).log (last_bytes c.apply.new.self.notes)) { room = n }) (sym (ap (λ (l : LogState). l.room) is))
+
 pub returns-in_default : goal.returns-in_default
 returns-in_default g c =
     let e = c.apply.ensures in
@@ -247,5 +269,5 @@ returns-in_default g c =
       kept = λ either. absurd (⊎_elim (λ full. is.entered.1 full) (λ memory. is.entered.0 memory) either);
       disk = record { disk = ap (λ (w : LoggedView g.row.D.Denot). w.disk) c.self.view_is; durable = ap (λ (w : LoggedView g.row.D.Denot). w.durable) c.self.view_is };
       goes_on = subst (λ (old : LoggedView g.row.D.Denot). GoesOn old w) c.self.view_is
-          (record { running = running c.self.inside c.args.self.now c.self.view_is c.requires.running; log_full = refl; peak = peak-is g c; opened = refl; marks = goes-with g c (called-goes g.row.SLOTS v c.apply.new.self c.append_last.new.marks c.args.pass c.args.call.now c.apply.result c.self.invariant.own c.append_last.ensures.marks is) });
+          (record { running = running c.self.inside c.args.self.now c.self.view_is c.requires.running; log_full = refl; peak = peak-is g c; opened = refl; marks = goes-with g c (called-goes g.row.SLOTS v c.apply.new.self c.append_last.new.marks c.args.pass c.args.call.now c.apply.result c.self.invariant.own c.append_last.ensures.marks is); log = appends-last v w (note_of g.row.SLOTS v.journal c.apply.new.self c.args.pass c.args.call.now c.apply.result) (is.does.noted is.entered) (record { disk = refl; durable = refl }) (log-joined g c) });
     }

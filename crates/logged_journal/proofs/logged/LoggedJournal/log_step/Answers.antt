@@ -18,7 +18,7 @@ use Rattle.logged_journal.specs.View.{LoggedView, IsPast, bytes_counted}
 use Rattle.logged_journal.specs.Records.{last_bytes, last_logged, AreMarkedAfter}
 use Rattle.logged_journal.specs.Kept.{IsKept}
 use Rattle.logged_journal.specs.Calls.{DoesCollect, KeepsFrames, GoesOn}
-use Rattle.logged_journal.proofs.Resting.{kept-same, room-more, room-enough}
+use Rattle.logged_journal.proofs.Resting.{kept-same, goes-on-same, room-more, room-enough}
 use Rattle.logged_journal.proofs.CollectorEvents.{IsCollected, does-made, last-collected, collected, kept-collected, goes-on-collected}
 use Rattle.logged_journal.proofs.logged.LoggedJournal.log_step.Given.{Over}
 use Rattle.logged_journal.proofs.logged.LoggedJournal.log_step.Goals as goal
@@ -107,6 +107,22 @@ returns-then-is_err-clause-frames g c =
     let agree = subst (λ (v : LoggedView g.row.D.Denot). Agree (cells_of v.journal) c.args.held.now) (sym c.self.view_is) c.requires.agree in
     subst (λ (v : LoggedView g.row.D.Denot). KeepsFrames v.journal c.self.inside.journal c.args.held.now c.args.held.now) c.self.view_is
     (record { pages = refl; agree = agree; elsewhere = λ page out. refl })
+
+pub returns-then-is_err-clause-goes_on : goal.returns-then-is_err-clause-goes_on
+returns-then-is_err-clause-goes_on g c =
+    let v : LoggedView g.row.D.Denot = view_of c.self.inside in
+    let running = ap (λ (w : LoggedView g.row.D.Denot). w.failed) c.self.view_is ∙ c.requires.running in
+    subst (λ (w : LoggedView g.row.D.Denot). GoesOn w (record v { log = c.reserve.new.self })) c.self.view_is
+    (subst (λ (l : LogState). GoesOn v (record v { log = l })) (sym c.reserve.ensures.log)
+    (goes-on-same g.D.Disk.may_leave v v.journal v.journal.round v.journal.marks _ refl running c.self.invariant.kept))
+
+pub returns-in-Memory-clause-goes_on : goal.returns-in-Memory-clause-goes_on
+returns-in-Memory-clause-goes_on g c =
+    let v : LoggedView g.row.D.Denot = view_of c.self.inside in
+    let running = ap (λ (w : LoggedView g.row.D.Denot). w.failed) c.self.view_is ∙ c.requires.running in
+    subst (λ (w : LoggedView g.row.D.Denot). GoesOn w (record v { journal = c.make_event.new.self; log = c.reserve.new.self })) c.self.view_is
+    (subst (λ (l : LogState). GoesOn v (record v { journal = c.make_event.new.self; log = l })) (sym c.reserve.ensures.log)
+    (goes-on-same g.D.Disk.may_leave v c.make_event.new.self v.journal.round v.journal.marks _ (c.make_event.ensures.memory c.in-Memory.is).0 running c.self.invariant.kept))
 
 pub invariant_of-self-in-Memory : goal.invariant_of-self-in-Memory
 invariant_of-self-in-Memory g c =

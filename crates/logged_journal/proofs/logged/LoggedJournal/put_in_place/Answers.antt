@@ -1,7 +1,7 @@
 use Rattle.std.proofs.Common.{◌∙◌, List, ℕ, Option, sym, ap, subst}
 use Rattle.std.specs.Prelude.{IfSome}
 use Rattle.disk_model.specs.declared.area.Area.TheVariants.{Pages}
-use Rattle.disk_model.proofs.Moments.{and_then}
+use Rattle.disk_model.proofs.Moments.{and_then, keeps_still}
 use Rattle.cell_page.specs.Format.{Spells}
 use Rattle.page_area.specs.Place.{bytes_of_page}
 use Rattle.logged_journal.specs.View.{LoggedView}
@@ -38,3 +38,9 @@ returns-clause-clean g c =
       logged = c.know_image.ensures.image image may;
       in_place = subst (λ (o : Option (List ℕ)). IfSome o (λ area. Spells c.args.page c.args.frame.now.page (bytes_of_page g.row.SLOTS c.args.page area))) (sym (keeps Pages).same ∙ settled image.pages (may Pages)) there;
     }
+
+pub returns-then-is_err-2-clause-others : goal.returns-then-is_err-2-clause-others
+returns-then-is_err-2-clause-others g c = keeps_still c.write_page.ensures.others c.sync_pages.ensures.keeps
+
+pub returns-clause-others : goal.returns-clause-others
+returns-clause-others g c = keeps_still c.write_page.ensures.others c.sync_pages.ensures.keeps

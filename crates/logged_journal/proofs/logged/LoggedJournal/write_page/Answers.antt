@@ -136,3 +136,13 @@ returns-clause-moments g c =
     subst (λ (w : LoggedView g.row.D.Denot). LeavesOnlyImages g.D.Disk.moment g.D.Disk.left_since w.disk c.write_in_place.new.disk (MayHaveAll w)) c.self.view_is
     (torn-moments g.D.Disk.may_leave g.row.SLOTS v stands c.self.invariant.own c.args.page 1 (one-imaged g.D.Disk.may_leave v kept stands c.args.page there current empty)
     g.D.Disk.moment g.D.Disk.left_since c.write_in_place.new.disk run)
+
+pub returns-then-is_err-clause-others : goal.returns-then-is_err-clause-others
+returns-then-is_err-clause-others g c =
+    subst (λ (w : LoggedView g.row.D.Denot). KeepsOthers g.D.Disk.content g.D.Disk.may_leave w.disk c.write_in_place.new.disk Pages) c.self.view_is
+    (subst (λ (d : g.row.D.Denot). KeepsOthers g.D.Disk.content g.D.Disk.may_leave d c.write_in_place.new.disk Pages) c.as_mut.ensures.value c.write_in_place.ensures.keeps)
+
+pub returns-clause-others : goal.returns-clause-others
+returns-clause-others g c =
+    subst (λ (w : LoggedView g.row.D.Denot). KeepsOthers g.D.Disk.content g.D.Disk.may_leave w.disk c.write_in_place.new.disk Pages) c.self.view_is
+    (subst (λ (d : g.row.D.Denot). KeepsOthers g.D.Disk.content g.D.Disk.may_leave d c.write_in_place.new.disk Pages) c.as_mut.ensures.value c.write_in_place.ensures.keeps)
