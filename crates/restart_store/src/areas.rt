@@ -1,14 +1,16 @@
-//! The pages area and the two log areas of a fresh store.
+//! The pages area and the two log areas of a new store.
 ghost use Rattle.std.specs.Prelude.{◌≡◌, ◌≢◌, ⊤, ◌*◌, ◌≤◌, ◌++◌, [], List, length, option_map, IfSome, OnOk};
+ghost use Rattle.std.specs.List.{flat_map};
 ghost use Rattle.disk_model.specs.Causes.{HasCause};
 ghost use Rattle.disk_model.specs.Areas.{in_area};
 ghost use Rattle.disk_model.specs.Told.{Keeps, KeepsOthers, IsImageBut};
 ghost use Rattle.disk_model.specs.Time.{Elapses, LeavesOnlyImages};
 ghost use Rattle.disk_model.specs.declared.area.Area.TheVariants.{Pages, Super};
-ghost use Rattle.cell_page.specs.Format.{IsSlotCount, page_size};
+ghost use Rattle.cell_page.specs.Format.{IsSlotCount, IsPage, page_size, page_bytes};
 ghost use Rattle.log_record.specs.Spelling.{known_version};
-ghost use Rattle.restart_store.specs.Fresh.{IsMade, fresh_page_bytes_of, fresh_pages_of, first_body_of, fresh_store};
+ghost use Rattle.restart_store.specs.Fresh.{IsMade, AreNew, pages_of, first_body_of, store_of};
 
+use crate::pages::{NewPages, count, page_at};
 use cell_page::Page;
 use disk_model::{Area, Disk, DiskFailed};
 use gate_log::make_anew;
@@ -27,12 +29,17 @@ fn version<const SLOTS: usize>() -> u8
     if SLOTS == 6 { 1 } else { 2 }
 }
 
-/// Writes the page of this number at the end of the pages area, where it belongs.
-fn write_page<D: Disk, const SLOTS: usize>(disk: &mut D, page: u16) -> Result<(), DiskFailed>
+/// Writes the page, which is that of this number, at the end of the pages area, where it belongs.
+fn write_page<D: Disk, const SLOTS: usize>(
+    disk: &mut D,
+    number: u16,
+    page: &Page<SLOTS>,
+) -> Result<(), DiskFailed>
     requires count { IsSlotCount SLOTS }
     requires few { SLOTS ≤ 14 }
-    requires place { IfSome (D.content disk.old Pages) (λ c. length c ≡ page_size SLOTS * page) }
-    ensures bytes { OnOk result (D.content disk.new Pages ≡ option_map (λ c. c ++ fresh_page_bytes_of SLOTS page) (D.content disk.old Pages)) }
+    requires rules { IsPage number page.now }
+    requires place { IfSome (D.content disk.old Pages) (λ c. length c ≡ page_size SLOTS * number) }
+    ensures bytes { OnOk result (D.content disk.new Pages ≡ option_map (λ c. c ++ page_bytes page.now) (D.content disk.old Pages)) }
     ensures keeps { KeepsOthers D.content D.may_leave disk.old disk.new Pages }
     ensures time { Elapses D.may_leave D.moment D.left_since disk.old disk.new }
     ensures cause { HasCause (D.faults disk.old) (D.faults disk.new) result }
@@ -40,35 +47,43 @@ fn write_page<D: Disk, const SLOTS: usize>(disk: &mut D, page: u16) -> Result<()
     let len = Page::<SLOTS>::encoded_len();
     let mut bytes = [0; LONGEST_PAGE];
     let spelled = &mut bytes[..len];
-    Page::<SLOTS>::fresh(page).encode(spelled);
-    disk.write_at(Area::Pages, len as u64 * page as u64, spelled)
+    page.encode(spelled);
+    disk.write_at(Area::Pages, len as u64 * number as u64, spelled)
 }
 
-/// Writes so many pages into the pages area, which is empty.
-fn write_pages<D: Disk, const SLOTS: usize>(disk: &mut D, pages: u16) -> Result<(), DiskFailed>
+/// Writes the pages into the pages area, which is empty.
+fn write_pages<D: Disk, const SLOTS: usize>(
+    disk: &mut D,
+    pages: NewPages<SLOTS>,
+) -> Result<(), DiskFailed>
     requires count { IsSlotCount SLOTS }
+    requires new { AreNew pages }
     requires empty { IfSome (D.content disk.old Pages) (λ c. c ≡ []) }
-    ensures bytes { OnOk result (D.content disk.new Pages ≡ option_map (λ _. fresh_pages_of SLOTS pages) (D.content disk.old Pages)) }
+    ensures bytes { OnOk result (D.content disk.new Pages ≡ option_map (λ _. flat_map page_bytes (pages_of pages.entry)) (D.content disk.old Pages)) }
     ensures moments { LeavesOnlyImages D.moment D.left_since disk.old disk.new (IsImageBut D.may_leave disk.old Pages (λ _. ⊤)) }
     ensures keeps { KeepsOthers D.content D.may_leave disk.old disk.new Pages }
     ensures cause { HasCause (D.faults disk.old) (D.faults disk.new) result }
 {
-    for page in 0..pages {
-        write_page::<D, SLOTS>(disk, page)?;
+    for number in 0..count(pages) {
+        write_page(disk, number, &page_at(pages, number))?;
     }
     Ok(())
 }
 
 /// Makes the pages area anew, for good.
-fn make_pages<D: Disk, const SLOTS: usize>(disk: &mut D, pages: u16) -> Result<(), DiskFailed>
+fn make_pages<D: Disk, const SLOTS: usize>(
+    disk: &mut D,
+    pages: NewPages<SLOTS>,
+) -> Result<(), DiskFailed>
     requires count { IsSlotCount SLOTS }
-    ensures made { OnOk result (IsMade D.content D.may_leave disk.old disk.new Pages (fresh_pages_of SLOTS pages)) }
+    requires new { AreNew pages }
+    ensures made { OnOk result (IsMade D.content D.may_leave disk.old disk.new Pages (flat_map page_bytes (pages_of pages.entry))) }
     ensures moments { LeavesOnlyImages D.moment D.left_since disk.old disk.new (IsImageBut D.may_leave disk.old Pages (λ _. ⊤)) }
     ensures keeps { KeepsOthers D.content D.may_leave disk.old disk.new Pages }
     ensures cause { HasCause (D.faults disk.old) (D.faults disk.new) result }
 {
     disk.cut(Area::Pages, 0)?;
-    write_pages::<D, SLOTS>(disk, pages)?;
+    write_pages(disk, pages)?;
     disk.sync(Area::Pages)?;
     Ok(())
 }
@@ -82,21 +97,22 @@ pub fn first_body<const SLOTS: usize>(pages: u16) -> [u8; 4]
     [TURN, version::<SLOTS>(), pages[0], pages[1]]
 }
 
-/// Makes all areas of a fresh store anew but the super area, for good.
+/// Makes all areas of a new store anew but the super area, for good.
 ///
 /// At each moment a loss of power leaves the super area as before, whatever it answers.
 pub(crate) fn make_areas<D: Disk, const SLOTS: usize>(
     disk: &mut D,
-    pages: u16,
+    pages: NewPages<SLOTS>,
 ) -> Result<(), DiskFailed>
     requires count { IsSlotCount SLOTS }
-    ensures made { OnOk result ((area : _) → area ≢ Super → IsMade D.content D.may_leave disk.old disk.new area (in_area (fresh_store SLOTS pages 0) area)) }
+    requires new { AreNew pages }
+    ensures made { OnOk result ((area : _) → area ≢ Super → IsMade D.content D.may_leave disk.old disk.new area (in_area (store_of (pages_of pages.entry) 0) area)) }
     ensures moments { LeavesOnlyImages D.moment D.left_since disk.old disk.new (λ image. D.may_leave disk.old Super (in_area image Super)) }
     ensures keeps { Keeps D.content D.may_leave disk.old disk.new Super }
     ensures cause { HasCause (D.faults disk.old) (D.faults disk.new) result }
 {
-    let first = first_body::<SLOTS>(pages);
-    make_pages::<D, SLOTS>(disk, pages)?;
+    let first = first_body::<SLOTS>(count(pages));
+    make_pages(disk, pages)?;
     make_anew(disk, Area::LogA, &first)?;
     make_anew(disk, Area::LogB, &first)?;
     Ok(())

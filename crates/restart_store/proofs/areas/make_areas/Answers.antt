@@ -1,3 +1,5 @@
+use Rattle.std.proofs.Common.{ℕ, length, ap, ◌∙◌}
+use Rattle.restart_store.specs.Fresh.{pages_of, first_body_of}
 use Rattle.disk_model.specs.declared.area.Area.TheVariants.{LogA, LogB, Super}
 use Rattle.disk_model.specs.Areas.{in_area}
 use Rattle.disk_model.proofs.Moments.{weaken}
@@ -30,6 +32,7 @@ returns-clause-moments g c =
 
 pub returns-clause-made : goal.returns-clause-made
 returns-clause-made g c =
-    areas_made g.row.SLOTS c.args.pages c.in_ok-make_pages.ensures.made c.make_pages.ensures.keeps
-    (log_made g.row.SLOTS LogA c.args.pages c.first_body-first.result c.first_body-first.ensures c.in_ok-make_anew.ensures.reads c.in_ok-make_anew.ensures.settled) c.make_anew.ensures.keeps
-    (log_made g.row.SLOTS LogB c.args.pages c.first_body-first.result c.first_body-first.ensures c.in_ok-make_anew-2.ensures.reads c.in_ok-make_anew-2.ensures.settled) c.make_anew-2.ensures.keeps
+    let few = c.count.ensures.count in
+    areas_made (pages_of c.args.pages) c.in_ok-make_pages.ensures.made c.make_pages.ensures.keeps
+    (log_made g.row.SLOTS LogA (length (pages_of c.args.pages)) c.first_body-first.result (c.first_body-first.ensures ∙ ap (λ (n : ℕ). first_body_of g.row.SLOTS n) few) c.in_ok-make_anew.ensures.reads c.in_ok-make_anew.ensures.settled) c.make_anew.ensures.keeps
+    (log_made g.row.SLOTS LogB (length (pages_of c.args.pages)) c.first_body-first.result (c.first_body-first.ensures ∙ ap (λ (n : ℕ). first_body_of g.row.SLOTS n) few) c.in_ok-make_anew-2.ensures.reads c.in_ok-make_anew-2.ensures.settled) c.make_anew-2.ensures.keeps
