@@ -12,7 +12,7 @@ use std::{fs, io};
 const PIECE: usize = 16_384;
 
 /// An open file, and how many bytes it is to have, where that was asked and no call on it failed since. Whoever works on the
-/// files has their lock, so nobody else is to change the number; where somebody did, the next write or cut fails.
+/// files has their lock, so nobody else is to change the number, nor what lies under the name.
 ///
 /// Its descriptor is never that of a standard stream.
 #[derive(Drop)]
@@ -21,6 +21,8 @@ pub(crate) struct OpenFile {
     len: Option<u64>,
     device: u64,
     node: u64,
+    /// Whether it was written or cut since it was made durable.
+    is_changed: bool,
 }
 
 impl Model for OpenFile {
@@ -48,6 +50,7 @@ impl OpenFile {
             len: None,
             device: told.dev(),
             node: told.ino(),
+            is_changed: false,
         })
     }
 
@@ -81,43 +84,49 @@ impl OpenFile {
         self.file.read_exact_at(into, at)
     }
 
-    /// Fails where the file has fewer bytes than so many, or has another number than it is to have, and else gives that number.
-    fn require_length(&mut self, count: u64) -> io::Result<u64> {
-        let len = self.require_bytes(count)?;
-        if self.file.metadata()?.len() != len {
-            return Err(ErrorKind::InvalidData.into());
+    /// Fails where the file doesn't lie under this name any more, or has another number of bytes than it is to have: what lies elsewhere,
+    /// or was cut off by somebody else, nobody finds again.
+    fn require_place<R: Files<File = File>>(&self, files: &R, path: Path<'_>) -> io::Result<()> {
+        let told = fs::symlink_metadata(files, path)?;
+        if !self.is_told_by(&told) {
+            return Err(ErrorKind::NotFound.into());
         }
-        Ok(len)
+        if self.len.is_none_or(|len| len == told.len()) {
+            Ok(())
+        } else {
+            Err(ErrorKind::InvalidData.into())
+        }
     }
 
     /// Writes the bytes at this offset, which can't be past the end.
-    pub(crate) fn write_at(&mut self, at: u64, bytes: &[u8]) -> io::Result<()> {
-        let len = self.require_length(at)?;
+    fn write_at(&mut self, at: u64, bytes: &[u8]) -> io::Result<()> {
+        let len = self.require_bytes(at)?;
         self.len = None;
+        self.is_changed = true;
         self.file.write_all_at(bytes, at)?;
         self.len = Some(len.max(at.saturating_add(bytes.len() as u64)));
         Ok(())
     }
 
     /// Takes the bytes from this length on away. The file can't be shorter.
-    pub(crate) fn cut(&mut self, len: u64) -> io::Result<()> {
-        self.require_length(len)?;
+    fn cut(&mut self, len: u64) -> io::Result<()> {
+        self.require_bytes(len)?;
         self.len = None;
+        self.is_changed = true;
         self.file.set_len(len)?;
         self.len = Some(len);
         Ok(())
     }
 
-    /// Makes the bytes last. The file has to lie under this name by then, with as many bytes as it is to have: what lasts without
-    /// a name, or was cut off by somebody else, nobody finds again.
+    /// Makes the bytes last. Where nothing was written since that was done last, the file has to lie under this name; else the write
+    /// asked.
     fn sync<R: Files<File = File>>(&mut self, files: &R, path: Path<'_>) -> io::Result<()> {
-        self.file.sync_data()?;
-        let told = fs::symlink_metadata(files, path)?;
-        if self.is_told_by(&told) && self.len.is_none_or(|len| len == told.len()) {
-            Ok(())
-        } else {
-            Err(ErrorKind::NotFound.into())
+        if !self.is_changed {
+            self.require_place(files, path)?;
         }
+        self.file.sync_data()?;
+        self.is_changed = false;
+        Ok(())
     }
 
     /// Takes the lock of the file, without waiting.
@@ -193,6 +202,54 @@ impl AreaFile {
             self.open = Some(file);
         }
         Ok(self.open.as_mut().unwrap())
+    }
+
+    /// Writes the bytes at this offset, which can't be past the end. The file has to lie under its name, with as many bytes as it is to
+    /// have. The first call opens it.
+    pub(crate) fn write_at<R: Files<File = File>>(
+        &mut self,
+        files: &R,
+        folder: Path<'_>,
+        at: u64,
+        bytes: &[u8],
+    ) -> io::Result<()> {
+        self.opened(files, folder)?;
+        match &mut self.open {
+            Some(open) => {
+                open.require_place(files, self.path.as_path())?;
+                open.write_at(at, bytes)
+            }
+            None => Ok(()),
+        }
+    }
+
+    /// Writes the byte that commits what was written before it. That write asked where the file lies.
+    pub(crate) fn commit_at<R: Files<File = File>>(
+        &mut self,
+        files: &R,
+        folder: Path<'_>,
+        at: u64,
+        byte: &[u8],
+    ) -> io::Result<()> {
+        self.opened(files, folder)?.write_at(at, byte)
+    }
+
+    /// Takes the bytes from this length on away. The file can't be shorter, and has to lie under its name, with as many bytes as it is to
+    /// have. The first call opens it.
+    pub(crate) fn cut<R: Files<File = File>>(
+        &mut self,
+        files: &R,
+        folder: Path<'_>,
+        len: u64,
+    ) -> io::Result<()> {
+        self.opened(files, folder)?;
+        match &mut self.open {
+            Some(open) => {
+                open.require_place(files, self.path.as_path())?;
+                open.cut(len)
+            }
+            None => Ok(()),
+        }
     }
 
     /// Makes what the file reads last. The first call opens it.

@@ -9,6 +9,7 @@ use disk_model::{Area, Disk, DiskFailed};
 use std::alloc::{AllocError, Global};
 use std::fs::{File, Files, TryLockError};
 use std::io;
+use std::io::ErrorKind;
 use std::marker::Model;
 use thiserror::Error;
 
@@ -45,7 +46,9 @@ impl From<TryLockError> for LockRefusal {
 /// Each is a plain file: a folder, a device or a link isn't opened. None has the descriptor of a standard
 /// stream, also where one was closed when the program started.
 ///
-/// A sync fails where a file no longer lies under its name, or has another length than it is to have.
+/// A write or a cut fails where the file no longer lies under its name, or has another length than it is to have. So does a sync of a
+/// file that was not written since the last one. The byte that commits a batch in a log area goes in without that test: the write of the
+/// batch made it.
 /// After a sync that failed each later sync fails: the operating system may have dropped what it could
 /// not write, and tells of it only once. A later program could read it from the system's memory all the
 /// same. So a disk with the lock leaves a mark, the file `brahma.open`, which [`HostDisk::end_run`] takes
@@ -55,6 +58,7 @@ pub struct HostDisk<R: Files<File = File>> {
     files: HostFiles<R>,
     faults: u64,
     sync_failed: bool,
+    reason: Option<io::Error>,
 }
 
 impl<R: Files<File = File>> Model for HostDisk<R> {
@@ -75,6 +79,7 @@ impl<R: Files<File = File> + Drop> HostDisk<R> {
             files: HostFiles::new(alloc, files, folder)?,
             faults: 0,
             sync_failed: false,
+            reason: None,
         })
     }
 
@@ -104,6 +109,13 @@ impl<R: Files<File = File> + Drop> HostDisk<R> {
         }
     }
 
+    /// Why the first call failed, where one did: what the operating system answered, or `InvalidInput` where a file is no plain one
+    /// or is shorter than what was asked, `InvalidData` where somebody else changed its length, and `NotFound` where it no longer
+    /// lies under its name. It is for a message alone.
+    pub fn reason(&self) -> Option<io::Error> {
+        self.reason
+    }
+
     /// What the operating system answered, with its failure counted.
     fn counted<T: Drop>(&mut self, answer: io::Result<T>) -> Result<T, DiskFailed>
         ensures told { is_ok result ≡ is_ok answer }
@@ -112,15 +124,18 @@ impl<R: Files<File = File> + Drop> HostDisk<R> {
     {
         match answer {
             Ok(value) => Ok(value),
-            Err(_) => Err(self.failed()),
+            Err(error) => Err(self.failed(error)),
         }
     }
 
-    /// One failure more.
-    fn failed(&mut self) -> DiskFailed
+    /// One failure more, for this reason.
+    fn failed(&mut self, error: io::Error) -> DiskFailed
         ensures cause { Rose self.old.faults self.new.faults × (self.old.faults ≤ self.new.faults) }
         ensures counted { self.new ≡ after_fault self.old }
     {
+        if self.reason.is_none() {
+            self.reason = Some(error);
+        }
         self.faults = self.faults.saturating_add(1);
         DiskFailed
     }
@@ -193,11 +208,16 @@ impl<R: Files<File = File> + Drop + Send> Disk for HostDisk<R> {
         ensures counted { self.new ≡ (if is_ok result then self.old else after_failed_sync self.old) }
         ensures none_after_failure { IsTrue self.old.sync_failed → IsErr result }
     {
-        if self.sync_failed || self.files.sync(area).is_err() {
-            self.sync_failed = true;
-            return Err(self.failed());
+        if self.sync_failed {
+            return Err(self.failed(ErrorKind::Other.into()));
         }
-        Ok(())
+        match self.files.sync(area) {
+            Ok(()) => Ok(()),
+            Err(error) => {
+                self.sync_failed = true;
+                Err(self.failed(error))
+            }
+        }
     }
 
     /// Does nothing. [`DiskFailed`] never comes.

@@ -138,13 +138,23 @@ impl<R: Files<File = File> + Drop> HostFiles<R> {
     }
 
     /// Writes the bytes at this offset of the area, which can't be past the end.
+    ///
+    /// A single byte that goes into a log area commits the batch that was written before it. Each other write asks first whether the file
+    /// still lies under its name, with as many bytes as it is to have.
     pub(crate) fn write_at(&mut self, area: Area, at: u64, bytes: &[u8]) -> io::Result<()> {
-        self.opened(area)?.write_at(at, bytes)
+        let folder = self.folder.as_path();
+        let file = self.areas.of(area);
+        if matches!(area, Area::LogA | Area::LogB) && bytes.len() == 1 {
+            file.commit_at(&self.files, folder, at, bytes)
+        } else {
+            file.write_at(&self.files, folder, at, bytes)
+        }
     }
 
     /// Takes the bytes of the area from this length on away. The area can't be shorter.
     pub(crate) fn cut(&mut self, area: Area, len: u64) -> io::Result<()> {
-        self.opened(area)?.cut(len)
+        let folder = self.folder.as_path();
+        self.areas.of(area).cut(&self.files, folder, len)
     }
 
     /// Makes what the area reads last.
