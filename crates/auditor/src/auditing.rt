@@ -10,7 +10,7 @@ ghost use Rattle.auditor.specs.Recount.{AreCounted, ArePages, strong_found, weak
 
 use crate::counts::count_all;
 use crate::difference::{Difference, Differences};
-use crate::replay::{get, replay};
+use crate::replay::{get, replayed};
 use crate::report::Report;
 use cell_page::{CELLS_OF_PAGE, Cell, ROOT};
 use core_store::{Frame, Notes};
@@ -161,8 +161,36 @@ fn find_differences<const SLOTS: usize>(
     Ok(list)
 }
 
+/// Tells what the counts say, which are those of all pointers by their bit, beside what the frames keep.
+pub fn report_on<const SLOTS: usize>(
+    alloc: Global,
+    cells: &[Cell<SLOTS>],
+    zeros: &[u32],
+    ones: &[u32],
+    frames: &[Frame<SLOTS>],
+) -> Result<Report, Memory>
+    requires size { IsSlotCount SLOTS }
+    requires zeros { AreCounted (map cell_of cells.now) false zeros.now }
+    requires ones { AreCounted (map cell_of cells.now) true ones.now }
+    requires small { (k : ℕ) → k < length cells.now → (slice_index zeros.now k ≤ 1000000) × (slice_index ones.now k ≤ 1000000) }
+    requires few { length frames.now ≤ 1024 }
+    requires ids { length cells.now ≡ 8 * length frames.now + 1 }
+    requires pages { ArePages frames.now }
+    ensures live { IfOk result (λ r. r.live ≡ live_in (map cell_of cells.now)) }
+    ensures zero { IfOk result (λ r. r.zero ≡ zero_in (map cell_of cells.now) (ids_of (length frames.now))) }
+    ensures differences { IfOk result (λ r. r.differences ≡ differences_of (map cell_of cells.now) frames.now) }
+{
+    let list = find_differences(alloc, cells, zeros, ones, frames)?;
+    let ids = (CELLS_OF_PAGE * frames.len()) as u32;
+    Ok(Report {
+        live: live_in(cells),
+        zero: zero_in(cells, zeros, ones, ids),
+        differences: Differences::from(list),
+    })
+}
+
 /// Counts all pointers again, and tells what it found beside what the frames keep.
-fn recount<const SLOTS: usize>(
+pub fn recount<const SLOTS: usize>(
     alloc: Global,
     cells: &[Cell<SLOTS>],
     frames: &[Frame<SLOTS>],
@@ -177,13 +205,7 @@ fn recount<const SLOTS: usize>(
 {
     let zeros = count_all(alloc, cells, false)?;
     let ones = count_all(alloc, cells, true)?;
-    let list = find_differences(alloc, cells, zeros.as_slice(), ones.as_slice(), frames)?;
-    let ids = (CELLS_OF_PAGE * frames.len()) as u32;
-    Ok(Report {
-        live: live_in(cells),
-        zero: zero_in(cells, zeros.as_slice(), ones.as_slice(), ids),
-        differences: Differences::from(list),
-    })
+    report_on(alloc, cells, zeros.as_slice(), ones.as_slice(), frames)
 }
 
 /// Replays the notes' records over the opening cells, counts the pointers to each id again, and tells each id whose
@@ -203,6 +225,6 @@ pub fn audit<const SLOTS: usize>(
     ensures zero { IfOk result (λ r. r.zero ≡ zero_in (cells_after_notes SLOTS (store_of opening.now) trace.now.list) (ids_of (length frames.now))) }
     ensures differences { IfOk result (λ r. r.differences ≡ differences_of (cells_after_notes SLOTS (store_of opening.now) trace.now.list) frames.now) }
 {
-    let cells = replay(alloc, opening, trace)?;
+    let cells = replayed(alloc, opening, trace)?;
     recount(alloc, cells.as_slice(), frames)
 }

@@ -47,9 +47,9 @@ fn count_slot<const SLOTS: usize>(counts: &mut [u32], cell: &Cell<SLOTS>, slot: 
 }
 
 /// Counts the pointers of a live cell that have this bit, each at its target.
-fn count_cell<const SLOTS: usize>(counts: &mut [u32], cell: &Cell<SLOTS>, bit: bool)
+pub fn count_cell<const SLOTS: usize>(counts: &mut [u32], cell: &Cell<SLOTS>, bit: bool)
     requires size { IsSlotCount SLOTS }
-    requires room { (id : ℕ) → id < length counts.old → slice_index counts.old id ≤ 1000000 }
+    requires room { (id : ℕ) → id < length counts.old → slice_index counts.old id ≤ 4000000000 }
     ensures len { length counts.new ≡ length counts.old }
     ensures each { (id : ℕ) → id < length counts.old → slice_index counts.new id ≡ slice_index counts.old id + aims_in id bit (cell_of cell.now) }
     ensures few { (id : ℕ) → aims_in id bit (cell_of cell.now) ≤ 14 }

@@ -9,7 +9,9 @@ mod journal;
 mod replay;
 mod report;
 
-pub use auditing::audit;
+pub use auditing::{audit, recount, report_on};
+pub use counts::count_cell;
 pub use difference::{Difference, Differences};
 pub use journal::audit_journal;
+pub use replay::replayed;
 pub use report::Report;

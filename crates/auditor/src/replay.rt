@@ -232,7 +232,7 @@ fn redo_all<const SLOTS: usize>(cells: &mut [Cell<SLOTS>], trace: &Notes)
 }
 
 /// The cells after the notes, all but their counts, which are of no account.
-pub(crate) fn replay<const SLOTS: usize>(
+pub fn replayed<const SLOTS: usize>(
     alloc: Global,
     opening: &[Cell<SLOTS>],
     trace: &Notes,

@@ -1,0 +1,5 @@
+mod FollowLaws
+mod LevelLaws
+mod PieceLaws
+mod TableLaws
+mod SameLaws

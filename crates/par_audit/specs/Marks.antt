@@ -1,0 +1,40 @@
+-- Marks, and following pointers from marked objects.
+use Rattle.std.specs.Prelude.{◌≡◌, ℕ, ◌<◌, Bool, true, false, ◌&&◌, ◌||◌, ◌==◌, not, List, [], ◌++◌, length, Contains, ◌↔◌, slice_get, slice_index_or}
+use Rattle.std.specs.Option.{option_map_or}
+use Rattle.std.specs.List.{list_any}
+use Rattle.cell_model.specs.Cells.{Cell as StoredCell, is_live}
+use Rattle.cell_page.specs.declared.cell.Cell.{Cell}
+
+-- whether the id is marked
+abbrev pub is_marked : List Bool → ℕ → Bool
+is_marked marks id = slice_index_or marks id false
+
+-- whether the id has an object; 0 is no id
+abbrev pub is_object : List StoredCell → ℕ → Bool
+is_object cells id = not (id == 0) && is_live cells id
+
+-- whether the id stands among these
+abbrev pub is_in : List ℕ → ℕ → Bool
+is_in ids id = list_any (λ x. x == id) ids
+
+-- the slots of the id's cell
+abbrev pub slots_at : {slots : ℕ} → List (Cell slots) → ℕ → List ℕ
+slots_at cells id = option_map_or (λ c. c.slots) (slice_get cells id) []
+
+-- whether an object of the level names the id
+abbrev pub is_named : {slots : ℕ} → List (Cell slots) → List ℕ → ℕ → Bool
+is_named cells level id = list_any (λ x. is_in (slots_at cells x) id) level
+
+-- the table marks what the objects of the level name
+pub record IsNameTable {slots : ℕ} (cells : List (Cell slots)) (level : List ℕ) (ids : ℕ) (table : List Bool) : Type 0 where
+  pub len : length table ≡ ids
+  pub each : (id : ℕ) → id < ids → is_marked table id ≡ is_named cells level id
+
+-- from these marks and this list of found objects, to those after it: each object with one of the names is marked, and what
+-- is newly marked is found, behind what was found before
+pub record Follows (cells : List StoredCell) (has_name : ℕ → Bool) (before after : List Bool) (listed listed_after : List ℕ) : Type 0 where
+  pub len : length after ≡ length before
+  pub marked : (id : ℕ) → is_marked after id ≡ (is_marked before id || (has_name id && is_object cells id))
+  pub found : List ℕ
+  pub appended : listed_after ≡ listed ++ found
+  pub new : (id : ℕ) → Contains found id ↔ ((is_marked before id ≡ false) × (is_marked after id ≡ true))

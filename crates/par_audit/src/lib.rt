@@ -1,0 +1,17 @@
+//! The parallel audit: the recount of all pointers and the marking of what the root reaches, by pieces in several threads.
+#![tactic(auto)]
+
+mod following;
+mod garbage;
+mod journal;
+mod marking;
+mod names;
+mod pieces;
+mod tables;
+mod wide;
+
+pub use garbage::garbage_in;
+pub use journal::par_audit_journal;
+pub use marking::mark;
+pub use tables::{Tables, count_by_pieces};
+pub use wide::{Wide, par_audit, recount_by_pieces};
