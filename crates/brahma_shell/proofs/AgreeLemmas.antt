@@ -216,7 +216,7 @@ agrees-active cs s s' e a = record {
 step-keeps : (p : Point) (notes : List Note) → Gives p line.CollectStep notes → (moment_after p.moment (entries_in notes)).state.active ≡ p.moment.state.active
 step-keeps p notes g =
     ⊎_elim
-    (λ h. ap (λ (ns : List Note). (moment_after p.moment (entries_in ns)).state.active) h.1 ∙ collector-keeps p.moment h.0.entry h.2)
+    (λ h. ap (λ (ns : List Note). (moment_after p.moment (entries_in ns)).state.active) h.1 ∙ collector-keeps p.moment h.0.entry h.2.entry)
     (λ h. ap (λ (ns : List Note). (moment_after p.moment (entries_in ns)).state.active) h.0)
     g
 

@@ -10,9 +10,9 @@ use Rattle.opened_images.specs.Opened.{Opened, OpensTo}
 use Rattle.store_opening.specs.declared.open_refusal.OpenRefusal.TheVariants.{Memory}
 use Rattle.disk_model.proofs.Moments.{no_call}
 use Rattle.store_opening.specs.Looks.{IsLookedAt}
-use Rattle.script_lines.specs.Numbers.{number_of, pages_of}
+use Rattle.script_lines.specs.Numbers.{object_slots, number_of, pages_of}
 use Rattle.brahma_shell.specs.declared.commands.Command.{Command}
-use Rattle.brahma_shell.specs.declared.commands.Command.TheVariants.{Init, Replay, Run, Gen, Audit}
+use Rattle.brahma_shell.specs.declared.commands.Command.TheVariants.{Init, Replay, Run, Gen, Audit, ParAudit, Migrate}
 use Rattle.gen_options.specs.declared.reading.Asked.{Asked}
 use Rattle.brahma_shell.specs.declared.ended.Ended.{Ended}
 use Rattle.brahma_shell.specs.declared.ended.Ended.TheVariants.{Shut, Kept}
@@ -22,8 +22,11 @@ use Rattle.brahma_shell.specs.Commands.{AskOptions, command_of}
 use Rattle.brahma_shell.specs.Ended.{disk_in, shut_in}
 use Rattle.brahma_shell.specs.Top.{IsStatusOfReplay, GoesLater, Outside, Ends, AlwaysOpens, Unopened, Replayed, Audited, Generated, Made}
 use Rattle.brahma_shell.specs.Ran.{Ran}
+use Rattle.brahma_shell.specs.ParAudited.{ParAudited}
 use Rattle.brahma_shell.specs.Answered.{CanBeDone, Answered}
-use Rattle.brahma_shell.proofs.CompleteLemmas.{made-open, unopened-open, unopened-closed, unopened-memory, replayed-open, replayed-done, audited-open, audited-done, generated-open, generated-done, ran-open, ran-done}
+use Rattle.brahma_shell.specs.Migrated.{AlwaysOpensAtEither, Migrated, Unmigrated}
+use Rattle.brahma_shell.proofs.CompleteLemmas.{at-either, made-open, unopened-open, unopened-either, unopened-closed, unopened-memory, replayed-open, replayed-done, audited-open, audited-done, par_audited-open, par_audited-done, generated-open, generated-done, ran-open, ran-done}
+use Rattle.brahma_shell.proofs.MigratedLemmas.{closed-unmigrated, unmigrated-closed, goes-on-open, goes-on-either, migrated-open, migration-done}
 
 none-some : (o : Option Command) (c : Command) → o ≡ None → o ≡ Some c → ⊥
 none-some None c e f = cc (f)
@@ -64,6 +67,41 @@ audit-run o e f = let h : Some Audit ≡ Some Run = sym e ∙ f in absurd (cc (h
 
 gen-run : (o : Option Command) (a : Asked) → o ≡ Some (Gen a) → o ≡ Some Run → ⊥
 gen-run o a e f = let h : Some (Gen a) ≡ Some Run = sym e ∙ f in absurd (cc (h))
+
+-- nor is a parallel audit
+init-par_audit : (o : Option Command) (p n : ℕ) → o ≡ Some (Init p) → o ≡ Some (ParAudit n) → ⊥
+init-par_audit o p n e f = let h : Some (Init p) ≡ Some (ParAudit n) = sym e ∙ f in absurd (cc (h))
+
+replay-par_audit : (o : Option Command) (n : ℕ) → o ≡ Some Replay → o ≡ Some (ParAudit n) → ⊥
+replay-par_audit o n e f = let h : Some Replay ≡ Some (ParAudit n) = sym e ∙ f in absurd (cc (h))
+
+run-par_audit : (o : Option Command) (n : ℕ) → o ≡ Some Run → o ≡ Some (ParAudit n) → ⊥
+run-par_audit o n e f = let h : Some Run ≡ Some (ParAudit n) = sym e ∙ f in absurd (cc (h))
+
+audit-par_audit : (o : Option Command) (n : ℕ) → o ≡ Some Audit → o ≡ Some (ParAudit n) → ⊥
+audit-par_audit o n e f = let h : Some Audit ≡ Some (ParAudit n) = sym e ∙ f in absurd (cc (h))
+
+gen-par_audit : (o : Option Command) (a : Asked) (n : ℕ) → o ≡ Some (Gen a) → o ≡ Some (ParAudit n) → ⊥
+gen-par_audit o a n e f = let h : Some (Gen a) ≡ Some (ParAudit n) = sym e ∙ f in absurd (cc (h))
+
+-- nor a migration
+init-migrate : (o : Option Command) (p : ℕ) → o ≡ Some (Init p) → o ≡ Some Migrate → ⊥
+init-migrate o p e f = let h : Some (Init p) ≡ Some Migrate = sym e ∙ f in absurd (cc (h))
+
+replay-migrate : (o : Option Command) → o ≡ Some Replay → o ≡ Some Migrate → ⊥
+replay-migrate o e f = let h : Some Replay ≡ Some Migrate = sym e ∙ f in absurd (cc (h))
+
+run-migrate : (o : Option Command) → o ≡ Some Run → o ≡ Some Migrate → ⊥
+run-migrate o e f = let h : Some Run ≡ Some Migrate = sym e ∙ f in absurd (cc (h))
+
+audit-migrate : (o : Option Command) → o ≡ Some Audit → o ≡ Some Migrate → ⊥
+audit-migrate o e f = let h : Some Audit ≡ Some Migrate = sym e ∙ f in absurd (cc (h))
+
+gen-migrate : (o : Option Command) (a : Asked) → o ≡ Some (Gen a) → o ≡ Some Migrate → ⊥
+gen-migrate o a e f = let h : Some (Gen a) ≡ Some Migrate = sym e ∙ f in absurd (cc (h))
+
+par_audit-migrate : (o : Option Command) (n : ℕ) → o ≡ Some (ParAudit n) → o ≡ Some Migrate → ⊥
+par_audit-migrate o n e f = let h : Some (ParAudit n) ≡ Some Migrate = sym e ∙ f in absurd (cc (h))
 
 same-asked : (o : Option Command) (a b : Asked) → o ≡ Some (Gen a) → o ≡ Some (Gen b) → a ≡ b
 same-asked o a b e f = let h : Some (Gen a) ≡ Some (Gen b) = sym e ∙ f in cc (h)
@@ -136,15 +174,40 @@ mapped : (o : Option ℕ) (p : ℕ) → option_map Init o ≡ Some (Init p) → 
 mapped None p e = absurd (cc (e))
 mapped (Some n) p e = cc (e)
 
-one-word : (a b c : Bool) (p : ℕ) → (if a then Some Replay else if b then Some Run else if c then Some Audit else None) ≡ Some (Init p) → ⊥
-one-word true b c p e = absurd (cc (e))
-one-word false true c p e = absurd (cc (e))
-one-word false false true p e = absurd (cc (e))
-one-word false false false p e = absurd (cc (e))
+one-word : (a b c d : Bool) (p : ℕ) → (if a then Some Replay else if b then Some Run else if c then Some Audit else if d then Some Migrate else None) ≡ Some (Init p) → ⊥
+one-word true b c d p e = absurd (cc (e))
+one-word false true c d p e = absurd (cc (e))
+one-word false false true d p e = absurd (cc (e))
+one-word false false false true p e = absurd (cc (e))
+one-word false false false false p e = absurd (cc (e))
 
-two-words : (a : Bool) (o : Option ℕ) (p : ℕ) → (if a then option_map Init o else None) ≡ Some (Init p) → o ≡ Some p
-two-words true o p e = mapped o p e
-two-words false o p e = absurd (cc (e))
+two-words : (a b : Bool) (o : Option ℕ) (p : ℕ) → (if a then option_map Init o else if b then option_map ParAudit o else None) ≡ Some (Init p) → o ≡ Some p
+two-words true b o p e = mapped o p e
+two-words false true None p e = absurd (cc (e))
+two-words false true (Some n) p e = absurd (cc (e))
+two-words false false o p e = absurd (cc (e))
+
+pieces-mapped : (o : Option ℕ) (p : ℕ) → option_map ParAudit o ≡ Some (ParAudit p) → o ≡ Some p
+pieces-mapped None p e = absurd (cc (e))
+pieces-mapped (Some n) p e = cc (e)
+
+two-pieces : (a b : Bool) (o : Option ℕ) (p : ℕ) → (if a then option_map Init o else if b then option_map ParAudit o else None) ≡ Some (ParAudit p) → o ≡ Some p
+two-pieces true b None p e = absurd (cc (e))
+two-pieces true b (Some n) p e = absurd (cc (e))
+two-pieces false true o p e = pieces-mapped o p e
+two-pieces false false o p e = absurd (cc (e))
+
+one-pieces : (a b c d : Bool) (p : ℕ) → (if a then Some Replay else if b then Some Run else if c then Some Audit else if d then Some Migrate else None) ≡ Some (ParAudit p) → ⊥
+one-pieces true b c d p e = absurd (cc (e))
+one-pieces false true c d p e = absurd (cc (e))
+one-pieces false false true d p e = absurd (cc (e))
+one-pieces false false false true p e = absurd (cc (e))
+one-pieces false false false false p e = absurd (cc (e))
+
+more-pieces : (a : Bool) (o : Option Asked) (p : ℕ) → (if a then option_map Gen o else None) ≡ Some (ParAudit p) → ⊥
+more-pieces true None p e = absurd (cc (e))
+more-pieces true (Some x) p e = absurd (cc (e))
+more-pieces false o p e = absurd (cc (e))
 
 more-words : (a : Bool) (o : Option Asked) (p : ℕ) → (if a then option_map Gen o else None) ≡ Some (Init p) → ⊥
 more-words true None p e = absurd (cc (e))
@@ -154,9 +217,16 @@ more-words false o p e = absurd (cc (e))
 -- `init` is asked with a number of pages from 1 to 1,024
 pub pages-within : (words : List (List ℕ)) (p : ℕ) → Some (Init p) ≡ command_of words → (1 ≤ p) × (p ≤ 1024)
 pages-within [] p e = absurd (cc (e))
-pages-within (word ∷ []) p e = absurd (one-word (bytes_eq word (codes "replay")) (bytes_eq word (codes "run")) (bytes_eq word (codes "audit")) p (sym e))
-pages-within (word ∷ number ∷ []) p e = within (number_of number) p (two-words (bytes_eq word (codes "init")) (pages_of number) p (sym e))
+pages-within (word ∷ []) p e = absurd (one-word (bytes_eq word (codes "replay")) (bytes_eq word (codes "run")) (bytes_eq word (codes "audit")) (bytes_eq word (codes "migrate")) p (sym e))
+pages-within (word ∷ number ∷ []) p e = within (number_of number) p (two-words (bytes_eq word (codes "init")) (bytes_eq word (codes "paudit")) (pages_of number) p (sym e))
 pages-within (word ∷ number ∷ other ∷ words) p e = absurd (more-words (bytes_eq word (codes "gen")) (asked_of (number ∷ other ∷ words)) p (sym e))
+
+-- `paudit` is asked with a number of pieces from 1 to 1,024
+pub pieces-within : (words : List (List ℕ)) (p : ℕ) → Some (ParAudit p) ≡ command_of words → (1 ≤ p) × (p ≤ 1024)
+pieces-within [] p e = absurd (cc (e))
+pieces-within (word ∷ []) p e = absurd (one-pieces (bytes_eq word (codes "replay")) (bytes_eq word (codes "run")) (bytes_eq word (codes "audit")) (bytes_eq word (codes "migrate")) p (sym e))
+pieces-within (word ∷ number ∷ []) p e = within (number_of number) p (two-pieces (bytes_eq word (codes "init")) (bytes_eq word (codes "paudit")) (pages_of number) p (sym e))
+pieces-within (word ∷ number ∷ other ∷ words) p e = absurd (more-pieces (bytes_eq word (codes "gen")) (asked_of (number ∷ other ∷ words)) p (sym e))
 
 -- ---- no memory to read the options of `gen`
 
@@ -184,6 +254,12 @@ options-run words ask e = let g = options-gen words Run ask e in absurd (cc (g.1
 options-audit : (words : List (List ℕ)) → AskOptions words → command_of words ≡ Some Audit → ⊥
 options-audit words ask e = let g = options-gen words Audit ask e in absurd (cc (g.1))
 
+pub options-par_audit : (words : List (List ℕ)) (n : ℕ) → AskOptions words → command_of words ≡ Some (ParAudit n) → ⊥
+options-par_audit words n ask e = let g = options-gen words (ParAudit n) ask e in absurd (cc (g.1))
+
+options-migrate : (words : List (List ℕ)) → AskOptions words → command_of words ≡ Some Migrate → ⊥
+options-migrate words ask e = let g = options-gen words Migrate ask e in absurd (cc (g.1))
+
 module _ {S D : Type 0} (content : D → Area → Option (List ℕ)) (may_leave : D → Area → List ℕ → Type 0) (moment : D → ℕ) (left_since : D → ℕ → Bytes → Type 0)
     (words : List (List ℕ)) (script later : S) (disk : D) (before after : Outside) (status : ℕ) (ended : Ended D) (goes : GoesLater before after)
     (stay : (d : D) (area : Area) → IfSome (content d area) (may_leave d area)) (counts : (d : D) (t : ℕ) (image : Bytes) → t ≤ moment d → IsImage may_leave d image → left_since d t image) where
@@ -204,11 +280,16 @@ module _ {S D : Type 0} (content : D → Area → Option (List ℕ)) (may_leave 
     replayed = λ e. absurd (none-some (command_of words) Replay none e);
     ran = λ e. absurd (none-some (command_of words) Run none e);
     audited = λ e. absurd (none-some (command_of words) Audit none e);
+    par_audited = λ n e. absurd (none-some (command_of words) (ParAudit n) none e);
     generated = λ a e. absurd (none-some (command_of words) (Gen a) none e);
+    migrated = λ e. absurd (none-some (command_of words) Migrate none e);
     makes_open = λ pages e. absurd (none-some (command_of words) (Init pages) none e);
     stays_open = λ tell ids opens other. subst (λ (e : Ended D). AlwaysOpens may_leave ids (disk_in e)) (sym back) opens;
+    stays_either = λ tell ids opens other. subst (λ (e : Ended D). AlwaysOpensAtEither may_leave ids (disk_in e)) (sym back) opens;
+    migrates = λ tell ids opens e. absurd (none-some (command_of words) Migrate none e);
     complete = λ tell command e. absurd (none-some (command_of words) command none e);
-    refuses = λ image reads closed ask. absurd (⊎_elim (none-some (command_of words) Replay none) (λ h. ⊎_elim (none-some (command_of words) Run none) (λ h. ⊎_elim (none-some (command_of words) Audit none) (λ g. none-some (command_of words) (Gen g.0) none g.1) h) h) ask);
+    refuses = λ image reads closed ask. absurd (⊎_elim (none-some (command_of words) Replay none) (λ h. ⊎_elim (none-some (command_of words) Run none) (λ h. ⊎_elim (none-some (command_of words) Audit none) (λ h. ⊎_elim (λ n. none-some (command_of words) (ParAudit n.0) none n.1) (λ g. none-some (command_of words) (Gen g.0) none g.1) h) h) h) ask);
+    refuses_to_migrate = λ image reads closed e. absurd (none-some (command_of words) Migrate none e);
     only_refused = λ tell seven. absurd (omega (arith, two, seven));
   }
 
@@ -228,7 +309,7 @@ module _ {S D : Type 0} (content : D → Area → Option (List ℕ)) (may_leave 
         printed = ends;
         shut = ap (λ (e : Ended D). is_some (shut_in e)) back;
         failed = λ six. absurd (omega (arith, eight, six));
-        moments = λ cells image reads opens. subst (λ (e : Ended D). LeavesOnlyImages moment left_since disk (disk_in e) (λ other. IsImage may_leave disk other ⊎ Opened 6 other (OpensTo cells))) (sym back) (no_call may_leave (λ other. IsImage may_leave disk other ⊎ Opened 6 other (OpensTo cells)) only_now (λ other may. inl may));
+        moments = λ cells image reads opens. subst (λ (e : Ended D). LeavesOnlyImages moment left_since disk (disk_in e) (λ other. IsImage may_leave disk other ⊎ Opened object_slots other (OpensTo cells))) (sym back) (no_call may_leave (λ other. IsImage may_leave disk other ⊎ Opened object_slots other (OpensTo cells)) only_now (λ other may. inl may));
       } in
       record {
         usage = λ two. absurd (omega (arith, eight, two));
@@ -241,11 +322,16 @@ module _ {S D : Type 0} (content : D → Area → Option (List ℕ)) (may_leave 
         replayed = λ e. absurd (options-replay words ask e);
         ran = λ e. absurd (options-run words ask e);
         audited = λ e. absurd (options-audit words ask e);
+        par_audited = λ n e. absurd (options-par_audit words n ask e);
         generated = λ a e. (same, inl unopened);
+        migrated = λ e. absurd (options-migrate words ask e);
         makes_open = λ pages e. absurd (options-init words pages ask e);
         stays_open = λ tell ids opens other. subst (λ (e : Ended D). AlwaysOpens may_leave ids (disk_in e)) (sym back) opens;
+        stays_either = λ tell ids opens other. subst (λ (e : Ended D). AlwaysOpensAtEither may_leave ids (disk_in e)) (sym back) opens;
+        migrates = λ tell ids opens e. absurd (options-migrate words ask e);
         complete = λ tell command e can reads writes faults. inr (inl eight);
         refuses = λ image reads closed ask. unopened;
+        refuses_to_migrate = λ image reads closed e. absurd (options-migrate words ask e);
         only_refused = λ tell seven. absurd (omega (arith, eight, seven));
       }
 
@@ -263,11 +349,16 @@ module _ {S D : Type 0} (content : D → Area → Option (List ℕ)) (may_leave 
         replayed = λ e. absurd (init-replay (command_of words) pages asked e);
         ran = λ e. absurd (init-run (command_of words) pages asked e);
         audited = λ e. absurd (init-audit (command_of words) pages asked e);
+        par_audited = λ n e. absurd (init-par_audit (command_of words) pages n asked e);
         generated = λ a e. absurd (init-gen (command_of words) pages a asked e);
+        migrated = λ e. absurd (init-migrate (command_of words) pages asked e);
         makes_open = λ other e not_six. subst (λ (n : ℕ). AlwaysOpens may_leave (8 * n) (disk_in ended)) (same-pages (command_of words) pages other asked e) (made-open may_leave (disk_in ended) pages (pages-within words pages (sym asked)).0 (made.opens not_six));
         stays_open = λ tell ids opens other. absurd (other pages asked);
+        stays_either = λ tell ids opens other. absurd (other pages asked);
+        migrates = λ tell ids opens e. absurd (init-migrate (command_of words) pages asked e);
         complete = λ tell command e can reads writes faults. ⊎_elim (λ zero. inl zero) (λ h. ⊎_elim (λ five. absurd (writes (made.write five).0)) (λ six. absurd (faults (made.failed six).0)) h) made.statuses;
-        refuses = λ image reads closed ask. absurd (⊎_elim (init-replay (command_of words) pages asked) (λ h. ⊎_elim (init-run (command_of words) pages asked) (λ h. ⊎_elim (init-audit (command_of words) pages asked) (λ g. init-gen (command_of words) pages g.0 asked g.1) h) h) ask);
+        refuses = λ image reads closed ask. absurd (⊎_elim (init-replay (command_of words) pages asked) (λ h. ⊎_elim (init-run (command_of words) pages asked) (λ h. ⊎_elim (init-audit (command_of words) pages asked) (λ h. ⊎_elim (λ n. init-par_audit (command_of words) pages n.0 asked n.1) (λ g. init-gen (command_of words) pages g.0 asked g.1) h) h) h) ask);
+        refuses_to_migrate = λ image reads closed e. absurd (init-migrate (command_of words) pages asked e);
         only_refused = λ tell seven. absurd (not-refused status made.statuses seven);
       }
 
@@ -278,20 +369,25 @@ module _ {S D : Type 0} (content : D → Area → Option (List ℕ)) (may_leave 
     no_reading = λ none. absurd (none-some (command_of words) Replay none asked);
     statuses = inr is;
     goes_later = goes;
-    only_looks = λ other image reads closed. ⊎_elim (λ u. u.1.refused.only_looks image reads closed) (λ r. absurd (closed r.run.opening (r.opened image reads))) replayed;
+    only_looks = λ other image reads closed. ⊎_elim (λ u. u.1.refused.only_looks image reads closed.0) (λ r. absurd (closed.0 r.run.opening (r.opened image reads))) replayed;
     unread = λ two. absurd (not-usage status is two);
     made = λ pages e. absurd (init-replay (command_of words) pages e asked);
     replayed = λ _. replayed;
     ran = λ e. absurd (replay-run (command_of words) asked e);
     audited = λ e. absurd (replay-audit (command_of words) asked e);
+    par_audited = λ n e. absurd (replay-par_audit (command_of words) n asked e);
     generated = λ a e. absurd (replay-gen (command_of words) a asked e);
+    migrated = λ e. absurd (replay-migrate (command_of words) asked e);
     makes_open = λ pages e. absurd (init-replay (command_of words) pages e asked);
-    stays_open = λ tell ids opens other. ⊎_elim (λ u. unopened-open content may_leave moment left_since disk before after status ended u.1 stay counts tell ids opens) (λ r. replayed-open content may_leave script later disk before after status ended r stay tell ids opens) replayed;
+    stays_open = λ tell ids opens other. ⊎_elim (λ u. unopened-open content may_leave moment left_since disk before after status ended u.1 stay counts tell ids opens) (λ r. replayed-open content may_leave script later disk before after status ended r stay tell ids (at-either may_leave ids disk opens)) replayed;
+    stays_either = λ tell ids opens other. ⊎_elim (λ u. unopened-either content may_leave moment left_since disk before after status ended u.1 stay counts tell ids opens) (λ r. at-either may_leave ids (disk_in ended) (replayed-open content may_leave script later disk before after status ended r stay tell ids opens)) replayed;
+    migrates = λ tell ids opens e. absurd (replay-migrate (command_of words) asked e);
     complete = λ tell command e can reads writes faults.
         let c = subst (CanBeDone may_leave disk before.left) (same-command (command_of words) command Replay e asked) can in
-        ⊎_elim (λ u. unopened-memory content may_leave moment left_since disk before after status ended u.1 stay tell c.0 c.1 faults) (λ r. replayed-done content may_leave script later disk before after status ended r stay tell c.0 c.1 c.2 reads writes faults) replayed;
+        ⊎_elim (λ u. unopened-memory content may_leave moment left_since disk before after status ended u.1 stay tell c.0 c.1 faults) (λ r. replayed-done content may_leave script later disk before after status ended r stay tell c.0 (at-either may_leave c.0 disk c.1) c.2 reads writes faults) replayed;
     refuses = λ image reads closed ask. ⊎_elim (λ u. u.1) (λ r. absurd (closed r.run.opening (r.opened image reads))) replayed;
-    only_refused = λ tell seven image reads. ⊎_elim (λ u. unopened-closed content may_leave moment left_since disk before after status ended u.1 seven image reads) (λ r. absurd (r.only_untold seven tell)) replayed;
+    refuses_to_migrate = λ image reads closed e. absurd (replay-migrate (command_of words) asked e);
+    only_refused = λ tell seven image reads. (⊎_elim (λ u. unopened-closed content may_leave moment left_since disk before after status ended u.1 seven image reads) (λ r. absurd (r.only_untold seven tell)) replayed, λ e. absurd (replay-migrate (command_of words) asked e));
   }
 
   pub asks-audit : command_of words ≡ Some Audit → (status ≡ 0) ⊎ ((status ≡ 5) ⊎ ((status ≡ 6) ⊎ ((status ≡ 7) ⊎ ((status ≡ 8) ⊎ (status ≡ 9))))) → later ≡ script → Unopened content may_leave moment left_since disk before after status ended ⊎ Audited content may_leave disk before after status ended
@@ -303,20 +399,55 @@ module _ {S D : Type 0} (content : D → Area → Option (List ℕ)) (may_leave 
         no_reading = λ none. absurd (none-some (command_of words) Audit none asked);
         statuses = inr is;
         goes_later = goes;
-        only_looks = λ other image reads closed. ⊎_elim (λ u. u.refused.only_looks image reads closed) (λ a. absurd (closed a.cells (a.opened image reads))) audited;
+        only_looks = λ other image reads closed. ⊎_elim (λ u. u.refused.only_looks image reads closed.0) (λ a. absurd (closed.0 a.cells (a.opened image reads))) audited;
         unread = λ two. absurd (not-usage status is two);
         made = λ pages e. absurd (init-audit (command_of words) pages e asked);
         replayed = λ e. absurd (replay-audit (command_of words) e asked);
         ran = λ e. absurd (audit-run (command_of words) asked e);
         audited = λ _. (same, audited);
+        par_audited = λ n e. absurd (audit-par_audit (command_of words) n asked e);
         generated = λ a e. absurd (audit-gen (command_of words) a asked e);
+        migrated = λ e. absurd (audit-migrate (command_of words) asked e);
         makes_open = λ pages e. absurd (init-audit (command_of words) pages e asked);
-        stays_open = λ tell ids opens other. ⊎_elim (λ u. unopened-open content may_leave moment left_since disk before after status ended u stay counts tell ids opens) (λ a. audited-open content may_leave disk before after status ended a stay tell ids opens) audited;
+        stays_open = λ tell ids opens other. ⊎_elim (λ u. unopened-open content may_leave moment left_since disk before after status ended u stay counts tell ids opens) (λ a. audited-open content may_leave disk before after status ended a stay tell ids (at-either may_leave ids disk opens)) audited;
+        stays_either = λ tell ids opens other. ⊎_elim (λ u. unopened-either content may_leave moment left_since disk before after status ended u stay counts tell ids opens) (λ a. at-either may_leave ids (disk_in ended) (audited-open content may_leave disk before after status ended a stay tell ids opens)) audited;
+        migrates = λ tell ids opens e. absurd (audit-migrate (command_of words) asked e);
         complete = λ tell command e can reads writes faults.
             let c = subst (CanBeDone may_leave disk before.left) (same-command (command_of words) command Audit e asked) can in
             ⊎_elim (λ u. unopened-memory content may_leave moment left_since disk before after status ended u stay tell c.0 c.1 faults) (λ a. audited-done content may_leave disk before after status ended a writes) audited;
         refuses = λ image reads closed ask. ⊎_elim (λ u. u) (λ a. absurd (closed a.cells (a.opened image reads))) audited;
-        only_refused = λ tell seven image reads. ⊎_elim (λ u. unopened-closed content may_leave moment left_since disk before after status ended u seven image reads) (λ a. absurd (audit-opened status a.statuses seven)) audited;
+        refuses_to_migrate = λ image reads closed e. absurd (audit-migrate (command_of words) asked e);
+        only_refused = λ tell seven image reads. (⊎_elim (λ u. unopened-closed content may_leave moment left_since disk before after status ended u seven image reads) (λ a. absurd (audit-opened status a.statuses seven)) audited, λ e. absurd (audit-migrate (command_of words) asked e));
+      }
+
+  pub asks-par_audit : (n : ℕ) → command_of words ≡ Some (ParAudit n) → (status ≡ 0) ⊎ ((status ≡ 5) ⊎ ((status ≡ 6) ⊎ ((status ≡ 7) ⊎ ((status ≡ 8) ⊎ (status ≡ 9))))) → later ≡ script → Unopened content may_leave moment left_since disk before after status ended ⊎ ParAudited content may_leave disk before after status ended
+      → Answered content may_leave moment left_since words script later disk before after status ended
+  asks-par_audit n asked statuses same audited =
+      let is = of-gen status statuses in
+      record {
+        usage = λ two. absurd (not-usage status is two);
+        no_reading = λ none. absurd (none-some (command_of words) (ParAudit n) none asked);
+        statuses = inr is;
+        goes_later = goes;
+        only_looks = λ other image reads closed. ⊎_elim (λ u. u.refused.only_looks image reads closed.0) (λ a. absurd (closed.0 a.cells (a.opened image reads))) audited;
+        unread = λ two. absurd (not-usage status is two);
+        made = λ pages e. absurd (init-par_audit (command_of words) pages n e asked);
+        replayed = λ e. absurd (replay-par_audit (command_of words) n e asked);
+        ran = λ e. absurd (run-par_audit (command_of words) n e asked);
+        audited = λ e. absurd (audit-par_audit (command_of words) n e asked);
+        par_audited = λ m e. (same, audited);
+        generated = λ a e. absurd (gen-par_audit (command_of words) a n e asked);
+        migrated = λ e. absurd (par_audit-migrate (command_of words) n asked e);
+        makes_open = λ pages e. absurd (init-par_audit (command_of words) pages n e asked);
+        stays_open = λ tell ids opens other. ⊎_elim (λ u. unopened-open content may_leave moment left_since disk before after status ended u stay counts tell ids opens) (λ a. par_audited-open content may_leave disk before after status ended a stay tell ids (at-either may_leave ids disk opens)) audited;
+        stays_either = λ tell ids opens other. ⊎_elim (λ u. unopened-either content may_leave moment left_since disk before after status ended u stay counts tell ids opens) (λ a. at-either may_leave ids (disk_in ended) (par_audited-open content may_leave disk before after status ended a stay tell ids opens)) audited;
+        migrates = λ tell ids opens e. absurd (par_audit-migrate (command_of words) n asked e);
+        complete = λ tell command e can reads writes faults.
+            let c = subst (CanBeDone may_leave disk before.left) (same-command (command_of words) command (ParAudit n) e asked) can in
+            ⊎_elim (λ u. unopened-memory content may_leave moment left_since disk before after status ended u stay tell c.0 c.1 faults) (λ a. par_audited-done content may_leave disk before after status ended a writes) audited;
+        refuses = λ image reads closed ask. ⊎_elim (λ u. u) (λ a. absurd (closed a.cells (a.opened image reads))) audited;
+        refuses_to_migrate = λ image reads closed e. absurd (par_audit-migrate (command_of words) n asked e);
+        only_refused = λ tell seven image reads. (⊎_elim (λ u. unopened-closed content may_leave moment left_since disk before after status ended u seven image reads) (λ a. absurd (audit-opened status a.statuses seven)) audited, λ e. absurd (par_audit-migrate (command_of words) n asked e));
       }
 
   pub asks-gen : (a : Asked) → command_of words ≡ Some (Gen a) → (status ≡ 0) ⊎ ((status ≡ 5) ⊎ ((status ≡ 6) ⊎ ((status ≡ 7) ⊎ ((status ≡ 8) ⊎ (status ≡ 9))))) → later ≡ script
@@ -329,20 +460,25 @@ module _ {S D : Type 0} (content : D → Area → Option (List ℕ)) (may_leave 
         no_reading = λ none. absurd (none-some (command_of words) (Gen a) none asked);
         statuses = inr is;
         goes_later = goes;
-        only_looks = λ other image reads closed. ⊎_elim (λ u. u.refused.only_looks image reads closed) (λ g. absurd (closed g.0.journal.opening (g.2.opened image reads))) generated;
+        only_looks = λ other image reads closed. ⊎_elim (λ u. u.refused.only_looks image reads closed.0) (λ g. absurd (closed.0 g.0.journal.opening (g.2.opened image reads))) generated;
         unread = λ two. absurd (not-usage status is two);
         made = λ pages e. absurd (init-gen (command_of words) pages a e asked);
         replayed = λ e. absurd (replay-gen (command_of words) a e asked);
         ran = λ e. absurd (gen-run (command_of words) a asked e);
         audited = λ e. absurd (audit-gen (command_of words) a e asked);
+        par_audited = λ n e. absurd (gen-par_audit (command_of words) a n asked e);
         generated = λ b e. (same, subst (λ (x : Asked). Unopened content may_leave moment left_since disk before after status ended ⊎ ((v : LoggedView D) × (ended ≡ Kept v) × Generated content may_leave x disk before after status v)) (same-asked (command_of words) a b asked e) generated);
+        migrated = λ e. absurd (gen-migrate (command_of words) a asked e);
         makes_open = λ pages e. absurd (init-gen (command_of words) pages a e asked);
-        stays_open = λ tell ids opens other. ⊎_elim (λ u. unopened-open content may_leave moment left_since disk before after status ended u stay counts tell ids opens) (λ g. generated-open content may_leave a disk before after status g.0 g.2 ended g.1 stay tell ids opens) generated;
+        stays_open = λ tell ids opens other. ⊎_elim (λ u. unopened-open content may_leave moment left_since disk before after status ended u stay counts tell ids opens) (λ g. generated-open content may_leave a disk before after status g.0 g.2 ended g.1 stay tell ids (at-either may_leave ids disk opens)) generated;
+        stays_either = λ tell ids opens other. ⊎_elim (λ u. unopened-either content may_leave moment left_since disk before after status ended u stay counts tell ids opens) (λ g. at-either may_leave ids (disk_in ended) (generated-open content may_leave a disk before after status g.0 g.2 ended g.1 stay tell ids opens)) generated;
+        migrates = λ tell ids opens e. absurd (gen-migrate (command_of words) a asked e);
         complete = λ tell command e can reads writes faults.
             let c = subst (CanBeDone may_leave disk before.left) (same-command (command_of words) command (Gen a) e asked) can in
             ⊎_elim (λ u. unopened-memory content may_leave moment left_since disk before after status ended u stay tell c.0 c.1 faults) (λ g. generated-done content may_leave a disk before after status g.0 g.2 writes faults) generated;
         refuses = λ image reads closed ask. ⊎_elim (λ u. u) (λ g. absurd (closed g.0.journal.opening (g.2.opened image reads))) generated;
-        only_refused = λ tell seven image reads. ⊎_elim (λ u. unopened-closed content may_leave moment left_since disk before after status ended u seven image reads) (λ g. absurd (gen-opened status g.2.statuses seven)) generated;
+        refuses_to_migrate = λ image reads closed e. absurd (gen-migrate (command_of words) a asked e);
+        only_refused = λ tell seven image reads. (⊎_elim (λ u. unopened-closed content may_leave moment left_since disk before after status ended u seven image reads) (λ g. absurd (gen-opened status g.2.statuses seven)) generated, λ e. absurd (gen-migrate (command_of words) a asked e));
       }
 
   pub asks-run : command_of words ≡ Some Run → IsStatusOfReplay status → (later ≡ script) × Unopened content may_leave moment left_since disk before after status ended ⊎ ((v : LoggedView D) × (ended ≡ Kept v) × Ran content may_leave disk before after status v)
@@ -352,21 +488,62 @@ module _ {S D : Type 0} (content : D → Area → Option (List ℕ)) (may_leave 
     no_reading = λ none. absurd (none-some (command_of words) Run none asked);
     statuses = inr is;
     goes_later = goes;
-    only_looks = λ other image reads closed. ⊎_elim (λ u. u.1.refused.only_looks image reads closed) (λ r. absurd (closed r.0.journal.opening (r.2.opened image reads))) ran;
+    only_looks = λ other image reads closed. ⊎_elim (λ u. u.1.refused.only_looks image reads closed.0) (λ r. absurd (closed.0 r.0.journal.opening (r.2.opened image reads))) ran;
     unread = λ two. absurd (not-usage status is two);
     made = λ pages e. absurd (init-run (command_of words) pages e asked);
     replayed = λ e. absurd (replay-run (command_of words) e asked);
     ran = λ _. ran;
     audited = λ e. absurd (audit-run (command_of words) e asked);
+    par_audited = λ n e. absurd (run-par_audit (command_of words) n asked e);
     generated = λ a e. absurd (gen-run (command_of words) a e asked);
+    migrated = λ e. absurd (run-migrate (command_of words) asked e);
     makes_open = λ pages e. absurd (init-run (command_of words) pages e asked);
-    stays_open = λ tell ids opens other. ⊎_elim (λ u. unopened-open content may_leave moment left_since disk before after status ended u.1 stay counts tell ids opens) (λ r. ran-open content may_leave disk before after status r.0 r.2 stay tell ids opens ended r.1) ran;
+    stays_open = λ tell ids opens other. ⊎_elim (λ u. unopened-open content may_leave moment left_since disk before after status ended u.1 stay counts tell ids opens) (λ r. ran-open content may_leave disk before after status r.0 r.2 stay tell ids (at-either may_leave ids disk opens) ended r.1) ran;
+    stays_either = λ tell ids opens other. ⊎_elim (λ u. unopened-either content may_leave moment left_since disk before after status ended u.1 stay counts tell ids opens) (λ r. at-either may_leave ids (disk_in ended) (ran-open content may_leave disk before after status r.0 r.2 stay tell ids opens ended r.1)) ran;
+    migrates = λ tell ids opens e. absurd (run-migrate (command_of words) asked e);
     complete = λ tell command e can reads writes faults.
         let c = subst (CanBeDone may_leave disk before.left) (same-command (command_of words) command Run e asked) can in
-        ⊎_elim (λ u. unopened-memory content may_leave moment left_since disk before after status ended u.1 stay tell c.0 c.1 faults) (λ r. ran-done content may_leave disk before after status r.0 r.2 stay tell c.0 c.1 c.2 reads writes faults) ran;
+        ⊎_elim (λ u. unopened-memory content may_leave moment left_since disk before after status ended u.1 stay tell c.0 c.1 faults) (λ r. ran-done content may_leave disk before after status r.0 r.2 stay tell c.0 (at-either may_leave c.0 disk c.1) c.2 reads writes faults) ran;
     refuses = λ image reads closed ask. ⊎_elim (λ u. u.1) (λ r. absurd (closed r.0.journal.opening (r.2.opened image reads))) ran;
-    only_refused = λ tell seven image reads. ⊎_elim (λ u. unopened-closed content may_leave moment left_since disk before after status ended u.1 seven image reads) (λ r. absurd (run-opened status r.2.statuses seven)) ran;
+    refuses_to_migrate = λ image reads closed e. absurd (run-migrate (command_of words) asked e);
+    only_refused = λ tell seven image reads. (⊎_elim (λ u. unopened-closed content may_leave moment left_since disk before after status ended u.1 seven image reads) (λ r. absurd (run-opened status r.2.statuses seven)) ran, λ e. absurd (run-migrate (command_of words) asked e));
   }
+
+  pub asks-migrate : command_of words ≡ Some Migrate → (status ≡ 0) ⊎ ((status ≡ 5) ⊎ ((status ≡ 6) ⊎ ((status ≡ 7) ⊎ ((status ≡ 8) ⊎ (status ≡ 9))))) → later ≡ script
+      → Unmigrated content may_leave moment left_since disk before after status ended ⊎ Migrated content may_leave moment left_since disk before after status ended
+      → Answered content may_leave moment left_since words script later disk before after status ended
+  asks-migrate asked statuses same migrated =
+      let is = of-gen status statuses in
+      record {
+        usage = λ two. absurd (not-usage status is two);
+        no_reading = λ none. absurd (none-some (command_of words) Migrate none asked);
+        statuses = inr is;
+        goes_later = goes;
+        only_looks = λ other image reads closed.
+            let u = closed-unmigrated content may_leave moment left_since disk before after status ended migrated image reads closed.0 (closed.1 asked) in
+            u.only_looks image reads (closed.1 asked) closed.0;
+        unread = λ two. absurd (not-usage status is two);
+        made = λ pages e. absurd (init-migrate (command_of words) pages e asked);
+        replayed = λ e. absurd (replay-migrate (command_of words) e asked);
+        ran = λ e. absurd (run-migrate (command_of words) e asked);
+        audited = λ e. absurd (audit-migrate (command_of words) e asked);
+        par_audited = λ n e. absurd (par_audit-migrate (command_of words) n e asked);
+        generated = λ a e. absurd (gen-migrate (command_of words) a e asked);
+        migrated = λ _. (same, migrated);
+        makes_open = λ pages e. absurd (init-migrate (command_of words) pages e asked);
+        stays_open = λ tell ids opens other. goes-on-open content may_leave moment left_since disk before after status ended migrated stay tell ids counts opens;
+        stays_either = λ tell ids opens other. goes-on-either content may_leave moment left_since disk before after status ended migrated stay tell ids counts opens;
+        migrates = λ tell ids opens e done. migrated-open content may_leave moment left_since disk before after status ended migrated stay tell ids opens done;
+        complete = λ tell command e can reads writes faults.
+            let c = subst (CanBeDone may_leave disk before.left) (same-command (command_of words) command Migrate e asked) can in
+            migration-done content may_leave moment left_since disk before after status ended migrated stay tell c.0 c.1 writes faults;
+        refuses = λ image reads closed ask.
+            absurd (⊎_elim (λ e. replay-migrate (command_of words) e asked) (λ h. ⊎_elim (λ e. run-migrate (command_of words) e asked) (λ h. ⊎_elim (λ e. audit-migrate (command_of words) e asked) (λ h. ⊎_elim (λ n. par_audit-migrate (command_of words) n.0 n.1 asked) (λ g. gen-migrate (command_of words) g.0 g.1 asked) h) h) h) ask);
+        refuses_to_migrate = λ image reads closed e. closed-unmigrated content may_leave moment left_since disk before after status ended migrated image reads closed.0 (closed.1 asked);
+        only_refused = λ tell seven image reads.
+            let closed = unmigrated-closed content may_leave moment left_since disk before after status ended migrated seven image reads in
+            (closed.0, λ e. closed.1);
+      }
 
 -- ---- the command that was read
 

@@ -34,6 +34,7 @@ use Rattle.client_scripts.specs.Scripts.{AreScripts, AreOfLines}
 use Rattle.script_lines.specs.declared.grammar.Line.{Line}
 use Rattle.brahma_shell.specs.Ran.{BeginAttempts, ClientsDo}
 use Rattle.brahma_shell.specs.Running.{OnlyPeeks}
+use Rattle.script_lines.specs.Numbers.{object_slots}
 
 -- ---- nobody is active
 
@@ -56,8 +57,8 @@ of-notes : (P : Entry → Type 0) (notes : List Note) → AllByRecursion (λ (n 
 of-notes P [] all = tt
 of-notes P (n ∷ notes) all = (all.0, of-notes P notes all.1)
 
-module _ {D : Type 0} (w : LoggedView D) (old behind new : Known 6) (scripts : List ClientScript) (end : WorkEnd) (frames : List (Frame 6)) (fresh : old.knowledge.entries ≡ []) (runs : RunsScripts old behind scripts end) (only : OnlyPeeks behind new)
-    (whole : IsWhole (account D 6) new w frames) (history : history_after 6 (origin_of w) (notes_of w) ≡ history_of w) where
+module _ {D : Type 0} (w : LoggedView D) (old behind new : Known object_slots) (scripts : List ClientScript) (end : WorkEnd) (frames : List (Frame object_slots)) (fresh : old.knowledge.entries ≡ []) (runs : RunsScripts old behind scripts end) (only : OnlyPeeks behind new)
+    (whole : IsWhole (account D object_slots) new w frames) (history : history_after object_slots (origin_of w) (notes_of w) ≡ history_of w) where
   kept-all : new.knowledge.entries ≡ runs.kept
   kept-all = only.entries ∙ runs.entries ∙ ap (λ (xs : List (ℕ × Note)). xs ++ runs.kept) fresh
 

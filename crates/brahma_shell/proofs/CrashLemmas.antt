@@ -35,6 +35,7 @@ use Rattle.store_opening.specs.Store.{Reads}
 use Rattle.journal_opening.specs.Openings.{ReadsAs}
 use Rattle.logged_journal.specs.Opens.{OpensAfter}
 use Rattle.brahma_shell.specs.Top.{Tell}
+use Rattle.script_lines.specs.Numbers.{object_slots}
 
 told : (o : Option (List ℕ)) (P : Type 0) → IsSome o → IfSome o (λ _. P) → P
 told None P some h = absurd (cc (some))
@@ -75,7 +76,7 @@ module _ {D : Type 0} (content : D → Area → Option (List ℕ)) (tell : Tell 
         subst (may_leave old area) (same-some one.0 (in_area image area) (sym one.1 ∙ reads area)) one.2
 
     -- so where each image of before opens after this history, it opens to a graph that a crash may leave
-    pub reopened-safe : (h : History) (cells : List Cell) → IsSlotCount 6 → EachImage may_leave old (OpensAfter 6 h) → ReadsAs content 6 new cells → IsCrashConsistent (end_of h) (graph_of cells)
+    pub reopened-safe : (h : History) (cells : List Cell) → IsSlotCount object_slots → EachImage may_leave old (OpensAfter object_slots h) → ReadsAs content object_slots new cells → IsCrashConsistent (end_of h) (graph_of cells)
     reopened-safe h cells size opens holds =
         let read = read-image new in
         let after = opens read.0 (read-before read.0 read.1) in
@@ -85,7 +86,7 @@ module _ {D : Type 0} (content : D → Area → Option (List ℕ)) (tell : Tell 
     -- what the disk read at first opens to the same cells, and so does whatever else it may leave while it is opened
     pub images-after : (h : History) (now : D) (moment : D → ℕ) (left_since : D → ℕ → Bytes → Type 0)
         → ((disk : D) (t : ℕ) (b : Bytes) → t ≤ moment disk → IsImage may_leave disk b → left_since disk t b)
-        → EachImage may_leave old (OpensAfter 6 h) → OpensMeanwhile content may_leave moment left_since 6 new now → EachImage may_leave now (OpensAfter 6 h)
+        → EachImage may_leave old (OpensAfter object_slots h) → OpensMeanwhile content may_leave moment left_since object_slots new now → EachImage may_leave now (OpensAfter object_slots h)
     images-after h now moment left_since counts opens meanwhile image is =
         let read = read-image new in
         let after = opens read.0 (read-before read.0 read.1) in
@@ -101,13 +102,13 @@ module _ {D : Type 0} (content : D → Area → Option (List ℕ)) (tell : Tell 
             subst (may_leave old area) (sym (one.3 (in_area image area) (is area))) one.2
 
     -- a store that opens is refused for want of memory, or since the disk failed
-    pub never-refused : (h : History) (e : OpenRefusal) → IsSlotCount 6 → EachImage may_leave old (OpensAfter 6 h) → ((image : Bytes) → Reads content new image → Refuses 6 image e) → status_of_refusal e ≡ 7 → ⊥
+    pub never-refused : (h : History) (e : OpenRefusal) → IsSlotCount object_slots → EachImage may_leave old (OpensAfter object_slots h) → ((image : Bytes) → Reads content new image → Refuses object_slots image e) → status_of_refusal e ≡ 7 → ⊥
     never-refused h e size opens refused is =
         let read = read-image new in
         let after = opens read.0 (read-before read.0 read.1) in
         none e read.0 after.cells after.opened (refused read.0 read.1) is
       where
-        none : (e : OpenRefusal) (image : Bytes) (cells : List Cell) → Opened 6 image (OpensTo cells) → Refuses 6 image e → status_of_refusal e ≡ 7 → ⊥
+        none : (e : OpenRefusal) (image : Bytes) (cells : List Cell) → Opened object_slots image (OpensTo cells) → Refuses object_slots image e → status_of_refusal e ≡ 7 → ⊥
         none refusal.Disk image cells o r is = absurd (omega (arith, is))
         none (refusal.Damaged place.LogA at) image cells o r is = let e = one_outcome size image _ _ o r in absurd (cc (e))
         none (refusal.Damaged place.LogB at) image cells o r is = let e = one_outcome size image _ _ o r in absurd (cc (e))
@@ -119,7 +120,7 @@ module _ {D : Type 0} (content : D → Area → Option (List ℕ)) (tell : Tell 
         none refusal.LogFull image cells o r is = absurd (omega (arith, is))
 
     -- a store that is opened again has as many ids as before
-    pub same-size : (h : History) (cells : List Cell) → IsSlotCount 6 → EachImage may_leave old (OpensAfter 6 h) → ReadsAs content 6 new cells → length cells ≡ h.ids + 1
+    pub same-size : (h : History) (cells : List Cell) → IsSlotCount object_slots → EachImage may_leave old (OpensAfter object_slots h) → ReadsAs content object_slots new cells → length cells ≡ h.ids + 1
     same-size h cells size opens holds =
         let read = read-image new in
         let after = opens read.0 (read-before read.0 read.1) in
@@ -155,13 +156,13 @@ history-ids v = cases (failed_commit v)
     cases (Some f) = refl
 
 -- the journal is that of the opening
-pub just-opened : {D : Type 0} (content : D → Area → Option (List ℕ)) (faults : D → ℕ) (disk : D) (v : LoggedView D) → OpensAs content faults 6 disk (record { trace = 1048576; log = 1071644672 }) v → IsJustOpened v
+pub just-opened : {D : Type 0} (content : D → Area → Option (List ℕ)) (faults : D → ℕ) (disk : D) (v : LoggedView D) → OpensAs content faults object_slots disk (record { trace = 1048576; log = 1071644672 }) v → IsJustOpened v
 just-opened content faults disk v o =
     let ids : v.journal.history.ids ≡ length v.journal.opening - 1 = ap (λ (h : History). h.ids) o.history in
     let entries : v.journal.history.entries ≡ [] = ap (λ (h : History). h.entries) o.history in
     record {
       store = record {
-        history = o.history ∙ ap (λ (n : ℕ). opened_history 6 n v.journal.opening) (sym ids) ∙ ap (λ es. record (opened_history 6 v.journal.history.ids v.journal.opening) { entries = es }) (sym entries);
+        history = o.history ∙ ap (λ (n : ℕ). opened_history object_slots n v.journal.opening) (sym ids) ∙ ap (λ es. record (opened_history object_slots v.journal.history.ids v.journal.opening) { entries = es }) (sym entries);
         limits = o.limits;
       };
       entries = entries;
@@ -175,12 +176,12 @@ just-opened content faults disk v o =
 -- its line tells what is stored
 pub stored-opening : {D : Type 0} (v : LoggedView D) → IsJustOpened v → crash_line (end_of v.journal.history).state.stored ≡ reopened_line v
 stored-opening v just =
-    let history : v.journal.history ≡ opened_history 6 v.journal.history.ids v.journal.opening = just.store.history ∙ ap (λ es. record (opened_history 6 v.journal.history.ids v.journal.opening) { entries = es }) just.entries in
+    let history : v.journal.history ≡ opened_history object_slots v.journal.history.ids v.journal.opening = just.store.history ∙ ap (λ es. record (opened_history object_slots v.journal.history.ids v.journal.opening) { entries = es }) just.entries in
     ap (λ (h : History). crash_line (end_of h).state.stored) history
 
-module _ {D : Type 0} (content : D → Area → Option (List ℕ)) (may_leave : D → Area → List ℕ → Type 0) (faults : D → ℕ) (v : LoggedView D) (before : D) (is : before ≡ v.disk) (opens : EachImage may_leave v.disk (OpensAfter 6 (history_of v))) where
-  opens-before : EachImage may_leave before (OpensAfter 6 (history_of v))
-  opens-before = subst (λ (d : D). EachImage may_leave d (OpensAfter 6 (history_of v))) (sym is) opens
+module _ {D : Type 0} (content : D → Area → Option (List ℕ)) (may_leave : D → Area → List ℕ → Type 0) (faults : D → ℕ) (v : LoggedView D) (before : D) (is : before ≡ v.disk) (opens : EachImage may_leave v.disk (OpensAfter object_slots (history_of v))) where
+  opens-before : EachImage may_leave before (OpensAfter object_slots (history_of v))
+  opens-before = subst (λ (d : D). EachImage may_leave d (OpensAfter object_slots (history_of v))) (sym is) opens
 
   -- the disk could not be made to lose power
   pub stays-shut-kept : (written now : Option (List ℕ)) (first_faults faults_now : ℕ) (disk : D) → KeepsAll content may_leave before disk → faults before ≤ faults disk → Rose (faults before) (faults disk)
@@ -198,7 +199,7 @@ module _ {D : Type 0} (content : D → Area → Option (List ℕ)) (may_leave : 
   module _ (lost : D) (loses : LeavesOne content may_leave before lost) (later : faults before ≤ faults lost) where
     -- power was lost, and the opening is refused
     pub stays-shut-refused : (moment : D → ℕ) (left_since : D → ℕ → Bytes → Type 0) → ((disk : D) (t : ℕ) (b : Bytes) → t ≤ moment disk → IsImage may_leave disk b → left_since disk t b)
-        → (e : OpenRefusal) (disk : D) (written now : Option (List ℕ)) (first_faults faults_now status : ℕ) → IsSlotCount 6 → RefusesToOpen content may_leave moment left_since 6 lost e disk → OpensMeanwhile content may_leave moment left_since 6 lost disk → HasFault (faults lost) (faults disk) e
+        → (e : OpenRefusal) (disk : D) (written now : Option (List ℕ)) (first_faults faults_now status : ℕ) → IsSlotCount object_slots → RefusesToOpen content may_leave moment left_since object_slots lost e disk → OpensMeanwhile content may_leave moment left_since object_slots lost disk → HasFault (faults lost) (faults disk) e
         → status ≡ status_of_refusal e → EndsWith written now first_faults faults_now [] (open_refusal_line e) → StaysShut content may_leave faults v written now first_faults faults_now status disk
     stays-shut-refused moment left_since counts e disk written now first_faults faults_now status size refuses meanwhile fault told ends =
         let first : faults v.disk ≤ faults lost = subst (λ (d : D). faults d ≤ faults lost) is later in
@@ -214,7 +215,7 @@ module _ {D : Type 0} (content : D → Area → Option (List ℕ)) (may_leave : 
 
     -- it was opened, and there is no memory for its line
     pub stays-shut-memory : (moment : D → ℕ) (left_since : D → ℕ → Bytes → Type 0) → ((disk : D) (t : ℕ) (b : Bytes) → t ≤ moment disk → IsImage may_leave disk b → left_since disk t b)
-        → (disk : D) (written now : Option (List ℕ)) (first_faults faults_now status : ℕ) → OpensMeanwhile content may_leave moment left_since 6 lost disk → faults lost ≤ faults disk
+        → (disk : D) (written now : Option (List ℕ)) (first_faults faults_now status : ℕ) → OpensMeanwhile content may_leave moment left_since object_slots lost disk → faults lost ≤ faults disk
         → status ≡ 8 → EndsWith written now first_faults faults_now [] (codes "refused: memory\n") → StaysShut content may_leave faults v written now first_faults faults_now status disk
     stays-shut-memory moment left_since counts disk written now first_faults faults_now status meanwhile after told ends =
         let first : faults v.disk ≤ faults lost = subst (λ (d : D). faults d ≤ faults lost) is later in
@@ -229,7 +230,7 @@ module _ {D : Type 0} (content : D → Area → Option (List ℕ)) (may_leave : 
         }
 
     -- it was opened again
-    pub reopens : (new : LoggedView D) → IsSlotCount 6 → OpensAs content faults 6 lost (record { trace = 1048576; log = 1071644672 }) new → (history_of v).ids ≡ v.journal.history.ids → (IsJustOpened new → IsOfReplay may_leave new) → Reopens content may_leave faults v new
+    pub reopens : (new : LoggedView D) → IsSlotCount object_slots → OpensAs content faults object_slots lost (record { trace = 1048576; log = 1071644672 }) new → (history_of v).ids ≡ v.journal.history.ids → (IsJustOpened new → IsOfReplay may_leave new) → Reopens content may_leave faults v new
     reopens new size o ids journal =
         let first : faults v.disk ≤ faults lost = subst (λ (d : D). faults d ≤ faults lost) is later in
         let count : new.journal.history.ids ≡ length new.journal.opening - 1 = ap (λ (h : History). h.ids) o.history in

@@ -36,6 +36,7 @@ use Rattle.brahma_shell.specs.Growth.{IsSameStart}
 use Rattle.brahma_shell.specs.Points.{entries_in}
 use Rattle.brahma_shell.specs.Replay.{StopsReplay, FailsReplay, LeavesLog}
 use Rattle.brahma_shell.proofs.LogLemmas.{none-committed, none-committed_lost, committed, history-uncommitted}
+use Rattle.script_lines.specs.Numbers.{object_slots}
 
 -- ---- the history
 
@@ -107,7 +108,7 @@ pub nothing-more : (old new : Option (List ℕ)) (before now : ℕ) → EndsWith
 nothing-more old new before now h = ⊎_elim (λ a. a) (λ h. subst (Appends old new) (no-front h.0 h.1 h.2) h.3) h
 
 pub front-kept : (old mid new : Option (List ℕ)) (text : List ℕ) → AppendsFront old mid text → Appends mid new [] → AppendsFront old new text
-front-kept old mid new text h none = (h.0, (h.1.0, h.1.1, subst (Appends old new) (append-nil h.1.0) (Appends-trans old mid new h.1.0 [] h.1.2 none)))
+front-kept old mid new text h none = (h.0, (h.1.0, h.1.1, subst (Appends old new) (append-nil h.1.0) (Appends-trans old mid new h.1.0 [] h.1.2 none)), h.2)
 
 -- ---- the marks
 
@@ -144,7 +145,7 @@ sound-opening j sound none = subst (λ (m : Moment). IsSoundGraph m.state.commit
 module _ {D : Type 0} (may_leave : D → Area → List ℕ → Type 0) (v : LoggedView D) where
   pub of-replay : IsOfOpenedStore v.journal → IsSoundGraph v.journal.history.opening → FailedGranted v
       → IsLegal v.journal.history → is_stopped (end_of v.journal.history) ≡ false → entries_in v.journal.notes ≡ v.journal.history.entries → IsSound (core_of v.journal)
-      → AreLed 6 (opening_of v.journal) v.journal.notes (core_of v.journal) → IsDurable v.journal (durable_notes v) → EachImage may_leave v.disk (MayBeLeft v) → EachImage may_leave v.disk (OpensAfter 6 (history_of v)) → IsOfReplay may_leave v
+      → AreLed object_slots (opening_of v.journal) v.journal.notes (core_of v.journal) → IsDurable v.journal (durable_notes v) → EachImage may_leave v.disk (MayBeLeft v) → EachImage may_leave v.disk (OpensAfter object_slots (history_of v)) → IsOfReplay may_leave v
   of-replay opened graph granted legal running entries sound led lasting images opens =
       let whole = legal-history v legal running granted in
       record {
@@ -168,8 +169,8 @@ of-opened v w just same =
       history =
           same.history
           ∙ ap (λ (h : History). record h { entries = w.journal.history.entries }) just.store.history
-          ∙ ap (λ (n : ℕ). record (opened_history 6 n v.journal.opening) { entries = w.journal.history.entries }) (sym ids)
-          ∙ ap (λ (cs : List Cell). record (opened_history 6 w.journal.history.ids cs) { entries = w.journal.history.entries }) (sym same.opening);
+          ∙ ap (λ (n : ℕ). record (opened_history object_slots n v.journal.opening) { entries = w.journal.history.entries }) (sym ids)
+          ∙ ap (λ (cs : List Cell). record (opened_history object_slots w.journal.history.ids cs) { entries = w.journal.history.entries }) (sym same.opening);
       limits = same.limits ∙ just.store.limits;
     }
 

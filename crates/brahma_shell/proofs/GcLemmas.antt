@@ -20,7 +20,7 @@ use Rattle.brahma_shell.specs.declared.replay.Stop.{Stop}
 use Rattle.brahma_shell.specs.declared.replay.Stop.TheVariants as stop
 use Rattle.brahma_shell.specs.Points.{Point, after_notes, point_of, entries_in, MayRest, IsExactAt}
 use Rattle.brahma_shell.specs.Growth.{Grows, GrowsByEvent}
-use Rattle.brahma_shell.specs.Follows.{IsOfCollector, AreOfCollector, GivesStep}
+use Rattle.brahma_shell.specs.Follows.{IsOfCollector, AreOfCollector, GivesStep, IsNoteOfCollector}
 use Rattle.script_lines.specs.Output.{AppendsFront}
 use Rattle.brahma_shell.specs.Replay.{Performs, CutsOff, StepsOnce, StopsPerform}
 use Rattle.brahma_shell.specs.Rest.{StaysQuiet}
@@ -32,13 +32,17 @@ use Rattle.brahma_shell.proofs.QuietLemmas.{IsQuietSoFar, quiet-below}
 
 -- ---- one step
 
+-- its note is one of the collector
+note-of-event : (old new : JournalView) (popped : Bool) (left : ℕ) (e : Entry) → IsOfCollector e → (g : GrowsByEvent old new popped left e) → IsNoteOfCollector g.note
+note-of-event old new popped left e of g = record { entry = subst IsOfCollector (sym g.entry) of; act = g.act }
+
 -- what a step does that was made, with its text
 pub step-performs : (old new : JournalView) (popped : Bool) (left : ℕ) (e : Entry) → IsOfCollector e → GrowsByEvent old new popped left e → Performs old new CollectStep (line_of e)
 step-performs old new popped left e of g = record {
   notes = g.note ∷ [];
   grows = g.grows;
   unmarked = g.unmarked;
-  gives = inl (g.note, refl, subst IsOfCollector (sym g.entry) of);
+  gives = inl (g.note, refl, note-of-event old new popped left e of g);
   printed = append-nil (line_of g.note.entry) ∙ ap line_of g.entry;
 }
 
@@ -114,7 +118,7 @@ Collected-more a b d popped s text w x y c h p =
       notes = c.notes ++ g.note ∷ [];
       grows = Grows-trans a b d c.notes (g.note ∷ []) c.grows g.grows;
       unmarked = g.unmarked ∙ c.unmarked;
-      each = AreOfCollector-append c.notes (g.note ∷ []) c.each (subst IsOfCollector (sym g.entry) h.1, tt);
+      each = AreOfCollector-append c.notes (g.note ∷ []) c.each (note-of-event b d s.popped s.left h.0 h.1 g, tt);
       pops = count-more c.notes g.note s.popped popped g.pop c.pops;
       printed = subst (Appends w y) (sym all) (Appends-trans w x y (text_of (entries_in c.notes)) text c.printed p);
     }

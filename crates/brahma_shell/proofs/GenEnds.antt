@@ -35,6 +35,7 @@ use Rattle.brahma_shell.proofs.LogLemmas.{committed}
 use Rattle.brahma_shell.proofs.GivesLemmas.{Splits, lines-split, gives-all, gives-none}
 use Rattle.brahma_shell.proofs.GrowthLemmas.{Grows-start, IsSameStart-none, IsSameStart-more}
 use Rattle.brahma_shell.proofs.PointLemmas.{after_notes-append}
+use Rattle.script_lines.specs.Numbers.{object_slots}
 
 -- a journal that is just opened has no point behind it
 fresh-point : {D : Type 0} (v : LoggedView D) → IsJustOpened v → point_of v.journal ≡ start_point v.journal
@@ -81,7 +82,7 @@ rests-behind asked turns j few gives given =
     nil (n ∷ ns) = ap (λ (x : List Note). n ∷ x) (nil ns)
 
 module _ {D : Type 0} (content : D → Area → Option (List ℕ)) (may_leave : D → Area → List ℕ → Type 0) (faults : D → ℕ) (asked : Asked) (disk : D) (before after : Outside) (v w : LoggedView D) (just : IsJustOpened v) (turns : List Turn)
-    (gives : Generates (generator asked.seed asked.clients asked.transactions) turns) (opened : ReadsAs content 6 disk w.journal.opening) (size : w.journal.history.ids ≡ length w.journal.opening - 1) (journal : IsOfReplay may_leave w) where
+    (gives : Generates (generator asked.seed asked.clients asked.transactions) turns) (opened : ReadsAs content object_slots disk w.journal.opening) (size : w.journal.history.ids ≡ length w.journal.opening - 1) (journal : IsOfReplay may_leave w) where
   -- memory was out before the first turn
   pub ends-unmade : w ≡ v → Ends before after [] (codes "refused: memory\n") → Generated content may_leave asked disk before after 8 w
   ends-unmade same printed =
@@ -235,8 +236,8 @@ pub opened-since : {D : Type 0} (v w : LoggedView D) (notes : List Note) → IsJ
 opened-since v w notes just g = of-opened v w just (IsSameStart-more v.journal v.journal w.journal notes (IsSameStart-none v.journal) g)
 
 -- the opening's cells are read as before
-pub reads-since : {D : Type 0} (content : D → Area → Option (List ℕ)) (disk : D) (v w : LoggedView D) (notes : List Note) → Grows v.journal w.journal notes → ReadsAs content 6 disk v.journal.opening → ReadsAs content 6 disk w.journal.opening
-reads-since content disk v w notes g reads = subst (ReadsAs content 6 disk) (sym g.opening) reads
+pub reads-since : {D : Type 0} (content : D → Area → Option (List ℕ)) (disk : D) (v w : LoggedView D) (notes : List Note) → Grows v.journal w.journal notes → ReadsAs content object_slots disk v.journal.opening → ReadsAs content object_slots disk w.journal.opening
+reads-since content disk v w notes g reads = subst (ReadsAs content object_slots disk) (sym g.opening) reads
 
 -- and there are as many ids
 pub size-since : {D : Type 0} (v w : LoggedView D) (notes : List Note) → IsJustOpened v → Grows v.journal w.journal notes → w.journal.history.ids ≡ length w.journal.opening - 1

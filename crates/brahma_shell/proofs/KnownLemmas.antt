@@ -19,6 +19,7 @@ use Rattle.logged_journal.specs.Records.{MayBeLeft, durable_notes}
 use Rattle.logged_journal.specs.Opens.{OpensAfter}
 use Rattle.brahma_shell.specs.Points.{entries_in}
 use Rattle.brahma_shell.specs.Running.{HoldsNow}
+use Rattle.script_lines.specs.Numbers.{object_slots}
 
 -- the count rose where the disk failed a call
 rose-failed : {D : Type 0} (faults : D → ℕ) (v : LoggedView D) (o : Option FailedCall) → IfSome o (λ f. Rose v.opened f.faults) → IfSome o (λ f. f.faults ≤ faults v.disk) → IsSome o → Rose v.opened (faults v.disk)
@@ -27,8 +28,8 @@ rose-failed faults v (Some f) a b some = omega (arith, a, b)
 
 -- what each call hands out, put together
 pub holds-now : {D : Type 0} (may_leave : D → Area → List ℕ → Type 0) (faults : D → ℕ) (v : LoggedView D) (j : JournalView) (notes : List Note) (marks both : Marks) (failed : Option FailedCall)
-    → j ≡ v.journal → v.journal.history.slots ≡ 6 → graph_of j.opening ≡ j.history.opening → is_stopped (end_of j.history) ≡ false → notes ≡ j.notes → map (λ n. n.entry) notes ≡ j.history.entries → IsSound (core_of j) → AreLed 6 (opening_of j) j.notes (core_of j)
-    → marks ≡ j.marks → (marks.trace ≡ true → WasFull j) → both.log ≡ v.log_full → (both.log ≡ true → v.journal.limits.log < v.peak + image_need 6) → IsDurable v.journal (durable_notes v) → EachImage may_leave v.disk (MayBeLeft v) → EachImage may_leave v.disk (OpensAfter 6 (history_of v))
+    → j ≡ v.journal → v.journal.history.slots ≡ object_slots → graph_of j.opening ≡ j.history.opening → is_stopped (end_of j.history) ≡ false → notes ≡ j.notes → map (λ n. n.entry) notes ≡ j.history.entries → IsSound (core_of j) → AreLed object_slots (opening_of j) j.notes (core_of j)
+    → marks ≡ j.marks → (marks.trace ≡ true → WasFull j) → both.log ≡ v.log_full → (both.log ≡ true → v.journal.limits.log < v.peak + image_need object_slots) → IsDurable v.journal (durable_notes v) → EachImage may_leave v.disk (MayBeLeft v) → EachImage may_leave v.disk (OpensAfter object_slots (history_of v))
     → failed ≡ v.failed → IfSome failed (λ f. Rose v.opened f.faults) → IfSome failed (λ f. f.faults ≤ faults v.disk) → v.opened ≤ faults v.disk → HoldsNow may_leave faults v
 holds-now may_leave faults v j notes marks both failed is slots graph running told entries sound led marks_are full log log_full lasting images opens failed_is counted now later = record {
   slots = slots;
@@ -36,7 +37,7 @@ holds-now may_leave faults v j notes marks both failed is slots graph running to
   running = subst (λ (x : JournalView). is_stopped (end_of x.history) ≡ false) is running;
   entries = subst (λ (x : JournalView). entries_in x.notes ≡ x.history.entries) is (ap entries_in (sym told) ∙ entries);
   sound = subst (λ (x : JournalView). IsSound (core_of x)) is sound;
-  led = subst (λ (x : JournalView). AreLed 6 (opening_of x) x.notes (core_of x)) is led;
+  led = subst (λ (x : JournalView). AreLed object_slots (opening_of x) x.notes (core_of x)) is led;
   full = λ e. subst WasFull is (full (ap (λ (m : Marks). m.trace) marks_are ∙ ap (λ (x : JournalView). x.marks.trace) is ∙ e));
   log_full = λ e. log_full (log ∙ e);
   lasting = lasting;

@@ -12,14 +12,15 @@ use Rattle.logged_journal.specs.declared.failed.FailedCall.{FailedCall}
 use Rattle.logged_journal.specs.View.{LoggedView, history_of}
 use Rattle.store_opening.specs.declared.open_refusal.OpenRefusal.TheVariants.{Memory}
 use Rattle.journal_opening.specs.Openings.{OpensAs, RefusesToOpen, HasFault}
+use Rattle.script_lines.specs.Numbers.{object_slots}
 
 -- where the disk failed no call, the history is the journal's
 pub running-history : {D : Type 0} (v : LoggedView D) → v.failed ≡ None → history_of v ≡ v.journal.history
 running-history v e = ap (λ (f : Option FailedCall). option_map_or (λ client. with_entry v.journal.history (Call client Commit DiskFault)) (option_and_then (λ x. x.commit) f) v.journal.history) e
 
-module _ {D : Type 0} (content : D → Area → Option (List ℕ)) (may_leave : D → Area → List ℕ → Type 0) (moment : D → ℕ) (left_since : D → ℕ → Bytes → Type 0) (faults : D → ℕ) (disk : D) (limits : Limits) (v : LoggedView D) (opened : OpensAs content faults 6 disk limits v) where
+module _ {D : Type 0} (content : D → Area → Option (List ℕ)) (may_leave : D → Area → List ℕ → Type 0) (moment : D → ℕ) (left_since : D → ℕ → Bytes → Type 0) (faults : D → ℕ) (disk : D) (limits : Limits) (v : LoggedView D) (opened : OpensAs content faults object_slots disk limits v) where
   -- what opens is refused for want of memory
-  pub refuses-memory : (now : D) → RefusesToOpen content may_leave moment left_since 6 disk Memory now
+  pub refuses-memory : (now : D) → RefusesToOpen content may_leave moment left_since object_slots disk Memory now
   refuses-memory now = record {
     refused = λ image reads. tt;
     for_good = λ of_store. absurd of_store;

@@ -10,21 +10,22 @@ use Rattle.quiet_rounds.specs.JournalSteps.{IsSoundJournal}
 use Rattle.quiet_rounds.proofs.JournalEvents.{journal-looks}
 use Rattle.brahma_shell.specs.Points.{point_of, entries_in}
 use Rattle.brahma_shell.proofs.PointLemmas.{moment_of_point}
+use Rattle.script_lines.specs.Numbers.{object_slots}
 
 -- its notes lead to what it has
-pub looked-led : (i j : JournalView) → OnlyLooks 6 i j → AreLed 6 (opening_of i) i.notes (core_of i) → AreLed 6 (opening_of j) j.notes (core_of j)
-looked-led i j l led = subst (λ (x : JournalView). AreLed 6 (opening_of x) x.notes (core_of j)) (sym l.same) (subst (λ (c : Core). AreLed 6 (opening_of i) i.notes c) (sym l.core) led)
+pub looked-led : (i j : JournalView) → OnlyLooks object_slots i j → AreLed object_slots (opening_of i) i.notes (core_of i) → AreLed object_slots (opening_of j) j.notes (core_of j)
+looked-led i j l led = subst (λ (x : JournalView). AreLed object_slots (opening_of x) x.notes (core_of j)) (sym l.same) (subst (λ (c : Core). AreLed object_slots (opening_of i) i.notes c) (sym l.core) led)
 
-pub looked-lower : (i j : JournalView) (left : ℕ) → OnlyLooks 6 i j → left < last_left i.notes → left < last_left j.notes
+pub looked-lower : (i j : JournalView) (left : ℕ) → OnlyLooks object_slots i j → left < last_left i.notes → left < last_left j.notes
 looked-lower i j left l less = subst (λ (x : JournalView). left < last_left x.notes) (sym l.same) less
 
-pub looked-opening : (i j k : JournalView) → OnlyLooks 6 i j → k.opening ≡ i.opening → k.opening ≡ j.opening
+pub looked-opening : (i j k : JournalView) → OnlyLooks object_slots i j → k.opening ≡ i.opening → k.opening ≡ j.opening
 looked-opening i j k l e = e ∙ sym (ap (λ (x : JournalView). x.opening) l.same)
 
-pub looked-limits : (i j k : JournalView) → OnlyLooks 6 i j → k.limits ≡ i.limits → k.limits ≡ j.limits
+pub looked-limits : (i j k : JournalView) → OnlyLooks object_slots i j → k.limits ≡ i.limits → k.limits ≡ j.limits
 looked-limits i j k l e = e ∙ sym (ap (λ (x : JournalView). x.limits) l.same)
 
 -- beside no active transaction its round is in step
-pub looked-in_step : (i j : JournalView) → OnlyLooks 6 i j → IsSoundJournal 6 i → entries_in i.notes ≡ i.history.entries → (point_of i).moment.state.active ≡ [] → IsInStep 6 j.history.ids j.round
+pub looked-in_step : (i j : JournalView) → OnlyLooks object_slots i j → IsSoundJournal object_slots i → entries_in i.notes ≡ i.history.entries → (point_of i).moment.state.active ≡ [] → IsInStep object_slots j.history.ids j.round
 looked-in_step i j l s entries idle =
-    (journal-looks 6 i j s (ap (λ (m : Moment). m.state.active) (sym (moment_of_point i entries)) ∙ idle) l).journal.in_step
+    (journal-looks object_slots i j s (ap (λ (m : Moment). m.state.active) (sym (moment_of_point i entries)) ∙ idle) l).journal.in_step

@@ -1,6 +1,6 @@
 -- How a replay goes on from one loss of power to the next, and how each of its stretches ends it.
 use Rattle.std.proofs.Common.{◌≡◌, ◌⊎◌, ⊎_elim, inl, inr, ◌≤◌, ℕ, ◌+◌, Bool, true, false, List, [], ◌++◌, ◌-◌, length, Option, Some, None, refl, sym, ap, subst, ◌∙◌, arith, Err}
-use Rattle.std.specs.Prelude.{Result, Ok, IfOk, IfSome, MatchBool, codes}
+use Rattle.std.specs.Prelude.{Result, Ok, IfOk, IfSome, IsSome, MatchBool, codes}
 use Rattle.std.specs.Io.KnownBytes.{prepend_known, Appends}
 use Rattle.plain_model.specs.History.{History, IsLegal}
 use Rattle.plain_model.specs.Text.{text_of, stored_line}
@@ -27,7 +27,7 @@ use Rattle.journal_opening.specs.Openings.{ReadsAs}
 use Rattle.logged_journal.specs.View.{LoggedView, history_of}
 use Rattle.script_lines.specs.Reading.{TakesLine, TakesLastLine}
 use Rattle.script_lines.specs.Output.{AppendsFront, EndsWith, refused_line, open_refusal_line}
-use Rattle.script_lines.proofs.OutputLemmas.{Appends-none, Appends-trans, AppendsFront-longer, AppendsFront-after}
+use Rattle.script_lines.proofs.OutputLemmas.{Appends-none, Appends-trans, AppendsFront-after}
 use Rattle.brahma_shell.specs.declared.ended.Ended.{Ended}
 use Rattle.brahma_shell.specs.declared.ended.Ended.TheVariants.{Shut, Kept}
 use Rattle.brahma_shell.specs.declared.replay.Reached.{Reached}
@@ -40,7 +40,7 @@ use Rattle.brahma_shell.specs.Replay.{HasFollowed, AsksCrash, ComesToCrash, Stop
 use Rattle.brahma_shell.specs.Runs.{Run, whole, ids_at, end_point, since_opening}
 use Rattle.brahma_shell.specs.Top.{Tell, IsJustOpened, IsOfReplay, Outside, outside, Ends, EndsAtCrash, Replayed, text_in, whole_text, stored_at_end, status_of_refusal}
 use Rattle.brahma_shell.specs.Crashes.{Reopens, StaysShut, StopsCrash, shut, unwritten, reopened_line}
-use Rattle.brahma_shell.proofs.EndLemmas.{FailedGranted, of-replay, of-opened, sound-opening, off, front-kept, nothing-more, FollowsPart-to}
+use Rattle.brahma_shell.proofs.EndLemmas.{FailedGranted, of-replay, of-opened, sound-opening, off, front-kept, no-failure, nothing-more, FollowsPart-to}
 use Rattle.brahma_shell.proofs.LogLemmas.{history-running, none-committed, committed}
 use Rattle.brahma_shell.proofs.FollowLemmas.{ids-since}
 use Rattle.brahma_shell.proofs.PointLemmas.{ids_of_point}
@@ -49,6 +49,7 @@ use Rattle.brahma_shell.proofs.JoinLemmas.{IsNextOf, ids-joined, FollowsAll-join
 use Rattle.brahma_shell.proofs.RunLemmas.{first_run, extended, reopened, StandsAt, stands-first, last-extended, next-of, text-extended, legal-extended, exit-extended, stored-extended, text-reopened, stands-again, exit-standing, stored-standing}
 use Rattle.brahma_shell.proofs.RunEnds.{AtEnd, AtLoss, ends-done, ends-refused, ends-read, ends-write, ends-memory, ends-limit, ends-fault, ends-lost-disk, ends-lost-memory, ends-lost-room, ends-lost-store}
 use Rattle.brahma_shell.proofs.TopLemmas.{EndsWith-after, FollowsPart-all}
+use Rattle.script_lines.specs.Numbers.{object_slots}
 
 -- ---- between two stretches
 
@@ -113,14 +114,14 @@ pub ends-script : {S D : Type 0} (content : D → Area → Option (List ℕ)) (m
     → before.write_faults ≤ count → EndsScript mid after.written count after.write_faults (end_of v.journal.history).state.stored status → Replayed content may_leave script later disk before after status (Kept v)
 ends-script {S} {D} content may_leave script later disk before after r v k mid count status marks running follows text stored le ends =
     ⊎_elim
-    (λ e. subst Ending (sym e) (ends-done content may_leave script later disk before after r v k running marks.trace marks.log follows (ends-behind before.written mid after.written (text_in r) (stored_line (stored_at_end r)) (stored_line (end_of v.journal.history).state.stored) stored text (ends.done e))))
+    (λ e. subst Ending (sym e) (ends-done content may_leave script later disk before after r v k marks.running marks.trace marks.log follows (ends-behind before.written mid after.written (text_in r) (stored_line (stored_at_end r)) (stored_line (end_of v.journal.history).state.stored) stored text (ends.done e))))
     (λ h. ⊎_elim
     (λ e. let w = ends.write e in
     let rose : Rose before.write_faults after.write_faults = omega (arith, le, w.1) in
-    subst Ending (sym e) (ends-write content may_leave script later disk before after r v k marks.trace marks.log rose (FollowsPart-all before.left after.left (whole r) follows)
-    (AppendsFront-after before.written mid after.written (text_in r) (stored_line (stored_at_end r)) text (subst (AppendsFront mid after.written) stored w.0))
-    (none-commit r.failed (λ client. FollowsToCommit before.left client (whole r)) running)))
-    (λ e. subst Ending (sym e) (ends-memory content may_leave script later disk before after r v k running marks.trace marks.log (FollowsPart-all before.left after.left (whole r) follows)
+    subst Ending (sym e) (ends-write content may_leave script later disk before after r v k marks.trace marks.log rose
+    (inr (follows, AppendsFront-after before.written mid after.written (text_in r) (stored_line (stored_at_end r)) text (subst (AppendsFront mid after.written) stored w.0)))
+    (none-commit r.failed (λ client. FollowsToCommit before.left client (whole r)) running) (λ some. absurd (no-failure v marks.running some))))
+    (λ e. subst Ending (sym e) (ends-memory content may_leave script later disk before after r v k marks.running marks.trace marks.log (FollowsPart-all before.left after.left (whole r) follows)
     (EndsWith-after before.written mid after.written before.write_faults count after.write_faults (text_in r) (codes "refused: memory\n") le text (ends.memory e))))
     h)
     ends.statuses
@@ -147,7 +148,7 @@ marks-ok r f a b e m = subst (λ (s : Result Reached Stop). LeavesMarks s a b) e
 pub then-journal : {D : Type 0} (content : D → Area → Option (List ℕ)) (may_leave : D → Area → List ℕ → Type 0) (source left before mid : Option (List ℕ)) (number : ℕ) (cells : List Cell) (v w : LoggedView D)
     → ComesTo content may_leave source left before mid number cells v → IsSameStart v.journal w.journal → FailedGranted w
     → IsLegal w.journal.history → is_stopped (end_of w.journal.history) ≡ false → entries_in w.journal.notes ≡ w.journal.history.entries → IsSound (core_of w.journal)
-    → AreLed 6 (opening_of w.journal) w.journal.notes (core_of w.journal) → IsDurable w.journal (durable_notes w) → EachImage may_leave w.disk (MayBeLeft w) → EachImage may_leave w.disk (OpensAfter 6 (history_of w)) → IsOfReplay may_leave w
+    → AreLed object_slots (opening_of w.journal) w.journal.notes (core_of w.journal) → IsDurable w.journal (durable_notes w) → EachImage may_leave w.disk (MayBeLeft w) → EachImage may_leave w.disk (OpensAfter object_slots (history_of w)) → IsOfReplay may_leave w
 then-journal content may_leave source left before mid number cells v w come same granted legal running entries sound led lasting images opens =
     let first : IsSoundGraph v.journal.history.opening = sound-opening v.journal come.journal.sound come.stands.just.entries in
     let graph : IsSoundGraph w.journal.history.opening = subst IsSoundGraph (sym (ap (λ (h : History). h.opening) same.history)) first in
@@ -191,9 +192,9 @@ module _ {D : Type 0} (content : D → Area → Option (List ℕ)) (may_leave : 
   then-size : come.run.ids ≡ length come.run.opening - 1
   then-size = come.size ∙ ap (λ (cs : List Cell). length cs - 1) (sym come.opened)
 
-  then-end : (disk : D) (b a : Outside) → ReadsAs content 6 disk cells → AtEnd content may_leave disk b a (extended come.run w) w
+  then-end : (disk : D) (b a : Outside) → ReadsAs content object_slots disk cells → AtEnd content may_leave disk b a (extended come.run w) w
   then-end disk b a reads = record {
-    opened = subst (ReadsAs content 6 disk) (sym come.opened) reads;
+    opened = subst (ReadsAs content object_slots disk) (sym come.opened) reads;
     legal = legal-extended content come.run v w come.stands same journal.entries journal.legal;
     last = last-extended content come.run v w come.stands same journal.entries;
     journal = journal;
@@ -207,7 +208,7 @@ module _ {D : Type 0} (content : D → Area → Option (List ℕ)) (may_leave : 
 
   -- ---- how it ends
 
-  module _ {S : Type 0} (script later : S) (disk : D) (reads : ReadsAs content 6 disk cells) where
+  module _ {S : Type 0} (script later : S) (disk : D) (reads : ReadsAs content object_slots disk cells) where
     -- every line was done
     pub all-done : (left_now mid_out written : Option (List ℕ)) (reads_0 reads_1 faults_0 count faults_1 disk_0 disk_1 status : ℕ) → StaysUnmarked w → FollowsAll left left_now (since_opening number w.journal) → Appends mid mid_out (text_of w.journal.history.entries)
         → faults_0 ≤ count → EndsScript mid_out written count faults_1 (end_of w.journal.history).state.stored status
@@ -253,10 +254,8 @@ module _ {D : Type 0} (content : D → Area → Option (List ℕ)) (may_leave : 
         last : (line : List ℕ) → Appends mid mid_out (text_of (history_of w).entries) → EndsWith mid_out written count faults_1 [] line → Ends b a (text_in r) line
         last line t e = EndsWith-after before mid_out written faults_0 count faults_1 (text_in r) line first_le (then-printed mid_out t) e
 
-        front : AppendsFront mid mid_out (text_of (history_of w).entries) → EndsWith mid_out written count faults_1 [] [] → AppendsFront before written (whole_text r)
-        front t e =
-            let kept = front-kept before mid_out written (text_in r) (then-front mid_out t) (nothing-more mid_out written count faults_1 e) in
-            AppendsFront-longer before written (text_in r) (stored_line (stored_at_end r)) kept
+        front : AppendsFront mid mid_out (text_of (history_of w).entries) → EndsWith mid_out written count faults_1 [] [] → AppendsFront before written (text_in r)
+        front t e = front-kept before mid_out written (text_in r) (then-front mid_out t) (nothing-more mid_out written count faults_1 e)
 
         no-commit : (o : Option ℕ) (P : ℕ → Type 0) → o ≡ None → IfSome o P
         no-commit None P e = tt
@@ -271,22 +270,22 @@ module _ {D : Type 0} (content : D → Area → Option (List ℕ)) (may_leave : 
         stops : (s : Stop) → LeavesMarks (Err s) v.journal w.journal → StopsReplay s number left left_now mid mid_out w.journal → LeavesLog faults s v w → (s ≡ stop.Read → Rose reads_0 reads_1) → (s ≡ stop.Write → Rose faults_0 count)
             → EndsWith mid_out written count faults_1 [] (last_line s) → Replayed content may_leave script later disk b a (status_of s) (Kept w)
         stops (stop.Line n) m h g rr rw e =
-            ends-refused content may_leave script later disk b a r w k (then-running g.running) (trace m) (log g.log_full) n
+            ends-refused content may_leave script later disk b a r w k g.running (trace m) (log g.log_full) n
             (FollowsUpTo-joined (whole come.run) (since_opening number w.journal) come.lines then-next source left n come.followed h.0) (last (refused_line n) (running-text mid_out g.running h.1) e)
         stops stop.Read m h g rr rw e =
-            ends-read content may_leave script later disk b a r w k (then-running g.running) (trace m) (log g.log_full) (rr refl)
+            ends-read content may_leave script later disk b a r w k g.running (trace m) (log g.log_full) (rr refl)
             (FollowsRead-joined (whole come.run) (since_opening number w.journal) come.lines then-next source left left_now come.followed h.0) (last (codes "refused: read\n") (running-text mid_out g.running h.1) e)
         stops stop.Write m h g rr rw e =
             let rose : Rose faults_0 faults_1 = omega (arith, rw refl, le) in
-            ends-write content may_leave script later disk b a r w k (trace m) (log g.log_full) rose (part h.0) (front (running-front mid_out g.running h.1) e)
-            (no-commit r.failed (λ client. FollowsToCommit source client (whole r)) (then-running g.running))
+            ends-write content may_leave script later disk b a r w k (trace m) (log g.log_full) rose (inl (part h.0, front (running-front mid_out g.running h.1) e))
+            (no-commit r.failed (λ client. FollowsToCommit source client (whole r)) (then-running g.running)) (λ some. absurd (no-failure w g.running some))
         stops stop.Memory m h g rr rw e =
-            ends-memory content may_leave script later disk b a r w k (then-running g.running) (trace m) (log g.log_full) (part h.0) (last (codes "refused: memory\n") (running-text mid_out g.running h.1) e)
+            ends-memory content may_leave script later disk b a r w k g.running (trace m) (log g.log_full) (part h.0) (last (codes "refused: memory\n") (running-text mid_out g.running h.1) e)
         stops stop.Full m h g rr rw e =
-            ends-limit content may_leave script later disk b a r w k (then-running g.running) (part h.0)
+            ends-limit content may_leave script later disk b a r w k g.running (part h.0)
             (inl (record { marked = (m, log g.log_full); full = full m; printed = last (codes "refused: trace\n") (running-text mid_out g.running h.1) e }))
         stops stop.LogFull m h g rr rw e =
-            ends-limit content may_leave script later disk b a r w k (then-running g.running) (part h.0)
+            ends-limit content may_leave script later disk b a r w k g.running (part h.0)
             (inr (record { marked = (trace m, g.marked); full = log_full g.marked; printed = last (codes "refused: log\n") (running-text mid_out g.running h.1) e }))
         stops stop.Fault m h g rr rw e = absurd h
         stops stop.UpkeepFault m h g rr rw e = absurd h
@@ -301,8 +300,8 @@ module _ {D : Type 0} (content : D → Area → Option (List ℕ)) (may_leave : 
             let rose : Rose faults_0 faults_1 = omega (arith, rw refl, le) in
             let commit = to-commit h.0 h.2 in
             let told : r.failed ≡ Some h.0 = committed faults h.0 v w lost in
-            ends-write content may_leave script later disk b a r w k (trace m) (log lost.log_full) rose (FollowsPart-to source (Ask h.0 Commit) (whole r) commit) (front h.3 e)
-            (subst (λ (o : Option ℕ). IfSome o (λ client. FollowsToCommit source client (whole r))) (sym told) commit)
+            ends-write content may_leave script later disk b a r w k (trace m) (log lost.log_full) rose (inl (FollowsPart-to source (Ask h.0 Commit) (whole r) commit, front h.3 e))
+            (subst (λ (o : Option ℕ). IfSome o (λ client. FollowsToCommit source client (whole r))) (sym told) commit) (λ _. subst (λ (o : Option ℕ). IsSome o) (sym told) refl)
         fails stop.Memory m h rw e = absurd h
         fails stop.Full m h rw e = absurd h
         fails stop.LogFull m h rw e = absurd h
@@ -342,7 +341,7 @@ module _ {D : Type 0} (content : D → Area → Option (List ℕ)) (may_leave : 
     crash-printed = then-printed mid_out (running-text mid_out running text)
 
     -- the store isn't opened again
-    pub all-lost : {S : Type 0} (script later : S) (disk : D) → ReadsAs content 6 disk cells → (faults : D → ℕ) (now : D) (written : Option (List ℕ)) (reads_0 reads_1 faults_0 count faults_1 disk_0 status : ℕ) → faults_0 ≤ count → disk_0 ≤ faults w.disk
+    pub all-lost : {S : Type 0} (script later : S) (disk : D) → ReadsAs content object_slots disk cells → (faults : D → ℕ) (now : D) (written : Option (List ℕ)) (reads_0 reads_1 faults_0 count faults_1 disk_0 status : ℕ) → faults_0 ≤ count → disk_0 ≤ faults w.disk
         → StaysShut content may_leave faults w mid_out written count faults_1 status now
         → Replayed content may_leave script later disk (outside source reads_0 before faults_0 disk_0) (outside left_now reads_1 written faults_1 (faults now)) status (Shut now)
     all-lost {S} script later disk reads faults now written reads_0 reads_1 faults_0 count faults_1 disk_0 status le disk_le x =
@@ -359,7 +358,7 @@ module _ {D : Type 0} (content : D → Area → Option (List ℕ)) (may_leave : 
 
         k : AtLoss content may_leave disk now r
         k = record {
-          opened = subst (ReadsAs content 6 disk) (sym come.opened) reads;
+          opened = subst (ReadsAs content object_slots disk) (sym come.opened) reads;
           legal = legal-extended content come.run v w come.stands same journal.entries journal.legal;
           exit = λ tell. exit-extended content come.run v w come.stands same journal.entries may_leave now (x.opens tell) tell;
           same_ids = then-ids;
@@ -368,6 +367,7 @@ module _ {D : Type 0} (content : D → Area → Option (List ℕ)) (may_leave : 
 
         at : (line : List ℕ) → EndsWith mid_out written count faults_1 [] line → EndsAtCrash b a r line
         at line e = record {
+          running = then-running running;
           follows = FollowsToCrash-here (whole r) (come.lines + n) pick comes.line crash-asks source comes.mid crash-followed (has-line on comes.mid (prepend_known pending left_now) comes.line comes.taken);
           printed = EndsWith-after before mid_out written faults_0 count faults_1 (text_in r) line le crash-printed e;
         }
@@ -375,13 +375,13 @@ module _ {D : Type 0} (content : D → Area → Option (List ℕ)) (may_leave : 
         cases : (e : OpenRefusal) → (e ≡ refusal.Disk → Rose (faults w.disk) (faults now)) → EndsWith mid_out written count faults_1 [] (open_refusal_line e) → (status_of_refusal e ≡ 7 → Tell content → ⊥) → Replayed content may_leave script later disk b a (status_of_refusal e) (Shut now)
         cases refusal.Disk f e u =
             let rose : Rose disk_0 (faults now) = let y = f refl in omega (arith, disk_le, y) in
-            ends-lost-disk content may_leave script later disk b a r now k (then-running running) rose (at (codes "refused: disk\n") e)
-        cases (refusal.Damaged p i) f e u = ends-lost-store content may_leave script later disk b a r now k (then-running running) (refusal.Damaged p i) refl (u refl) (at (open_refusal_line (refusal.Damaged p i)) e)
-        cases refusal.NoStore f e u = ends-lost-store content may_leave script later disk b a r now k (then-running running) refusal.NoStore refl (u refl) (at (open_refusal_line refusal.NoStore) e)
-        cases (refusal.UnknownVersion i) f e u = ends-lost-store content may_leave script later disk b a r now k (then-running running) (refusal.UnknownVersion i) refl (u refl) (at (open_refusal_line (refusal.UnknownVersion i)) e)
-        cases (refusal.Unsound i j) f e u = ends-lost-store content may_leave script later disk b a r now k (then-running running) (refusal.Unsound i j) refl (u refl) (at (open_refusal_line (refusal.Unsound i j)) e)
-        cases refusal.Memory f e u = ends-lost-memory content may_leave script later disk b a r now k (then-running running) (at (codes "refused: memory\n") e)
-        cases refusal.LogFull f e u = ends-lost-room content may_leave script later disk b a r now k (then-running running) (at (codes "refused: log\n") e)
+            ends-lost-disk content may_leave script later disk b a r now k rose (at (codes "refused: disk\n") e)
+        cases (refusal.Damaged p i) f e u = ends-lost-store content may_leave script later disk b a r now k (refusal.Damaged p i) refl (u refl) (at (open_refusal_line (refusal.Damaged p i)) e)
+        cases refusal.NoStore f e u = ends-lost-store content may_leave script later disk b a r now k refusal.NoStore refl (u refl) (at (open_refusal_line refusal.NoStore) e)
+        cases (refusal.UnknownVersion i) f e u = ends-lost-store content may_leave script later disk b a r now k (refusal.UnknownVersion i) refl (u refl) (at (open_refusal_line (refusal.UnknownVersion i)) e)
+        cases (refusal.Unsound i j) f e u = ends-lost-store content may_leave script later disk b a r now k (refusal.Unsound i j) refl (u refl) (at (open_refusal_line (refusal.Unsound i j)) e)
+        cases refusal.Memory f e u = ends-lost-memory content may_leave script later disk b a r now k (at (codes "refused: memory\n") e)
+        cases refusal.LogFull f e u = ends-lost-room content may_leave script later disk b a r now k (at (codes "refused: log\n") e)
 
     -- ---- the store is opened again
 
@@ -427,10 +427,10 @@ module _ {D : Type 0} (content : D → Area → Option (List ℕ)) (may_leave : 
               FollowsPart-done source (prepend_known pending left_now) (come.lines + n + 1) (whole (reopened (extended come.run w) new))
               (HasFollowed-crashed (whole (extended come.run w)) (come.lines + n) pick comes.line crash-asks source comes.mid (prepend_known pending left_now) new.journal.history.ids new.journal.opening crash-followed taken)
 
-      module _ {S : Type 0} (script later : S) (disk : D) (reads : ReadsAs content 6 disk cells) where
+      module _ {S : Type 0} (script later : S) (disk : D) (reads : ReadsAs content object_slots disk cells) where
         again-end : (b a : Outside) → AtEnd content may_leave disk b a (reopened (extended come.run w) new) new
         again-end b a = record {
-          opened = subst (ReadsAs content 6 disk) (sym come.opened) reads;
+          opened = subst (ReadsAs content object_slots disk) (sym come.opened) reads;
           legal = again-stands.legal;
           last = record { events = again-stands.last; failed = sym (none-committed new again.just.running) };
           journal = again.journal;
@@ -460,10 +460,10 @@ module _ {D : Type 0} (content : D → Area → Option (List ℕ)) (may_leave : 
             let r = reopened (extended come.run w) new in
             let rose : Rose faults_0 faults_1 = omega (arith, le, rose_now) in
             let front = subst (AppendsFront before written) (sym again-text) (AppendsFront-after before mid_out written (text_in (extended come.run w)) (reopened_line new) crash-printed t) in
-            ends-write content may_leave script later disk b a r new (again-end b a) again.just.unmarked again.just.log_unmarked rose again-part (AppendsFront-longer before written (text_in r) (stored_line (stored_at_end r)) front) tt
+            ends-write content may_leave script later disk b a r new (again-end b a) again.just.unmarked again.just.log_unmarked rose (inl (again-part, front)) tt (λ some. absurd (no-failure new again.just.running some))
 
     -- a loss of power stops the replay
-    pub all-crashed : {S : Type 0} (script later : S) (disk : D) → ReadsAs content 6 disk cells → (faults : D → ℕ) (written : Option (List ℕ)) (reads_0 reads_1 faults_0 count faults_1 disk_0 status : ℕ) (ended : Ended D) → faults_0 ≤ count → disk_0 ≤ faults w.disk
+    pub all-crashed : {S : Type 0} (script later : S) (disk : D) → ReadsAs content object_slots disk cells → (faults : D → ℕ) (written : Option (List ℕ)) (reads_0 reads_1 faults_0 count faults_1 disk_0 status : ℕ) (ended : Ended D) → faults_0 ≤ count → disk_0 ≤ faults w.disk
         → StopsCrash content may_leave faults w mid_out written count faults_1 status ended
         → Replayed content may_leave script later disk (outside source reads_0 before faults_0 disk_0) (outside left_now reads_1 written faults_1 (faults (disk_in ended))) status ended
     all-crashed script later disk reads faults written reads_0 reads_1 faults_0 count faults_1 disk_0 status ended le disk_le (shut now x) =

@@ -9,17 +9,18 @@ use Rattle.brahma_shell.specs.declared.gc.Stepped.{Stepped}
 use Rattle.brahma_shell.specs.Points.{point_of}
 use Rattle.brahma_shell.specs.Replay.{StepsOnce}
 use Rattle.brahma_shell.specs.Rest.{StaysQuiet}
+use Rattle.script_lines.specs.Numbers.{object_slots}
 
 -- no transaction is active, and of so many objects that were taken out of the queue each was there when the first round opened
 pub record IsQuietSoFar (j : JournalView) (popped : ℕ) : Type 0 where
   pub active : (point_of j).moment.state.active ≡ []
-  pub few : (popped ≡ 0) ⊎ (IsQuietRound 6 (cells_of j) j.round × (popped + length j.queue < j.history.ids))
+  pub few : (popped ≡ 0) ⊎ (IsQuietRound object_slots (cells_of j) j.round × (popped + length j.queue < j.history.ids))
 
 pub quiet-none : (j : JournalView) → (point_of j).moment.state.active ≡ [] → IsQuietSoFar j 0
 quiet-none j idle = record { active = idle; few = inl refl }
 
-quiet-closed : (cells : List Cell) (r : RoundView) → r ≡ Closed → IsQuietRound 6 cells r
-quiet-closed cells r e = subst (λ (x : RoundView). IsQuietRound 6 cells x) (sym e) tt
+quiet-closed : (cells : List Cell) (r : RoundView) → r ≡ Closed → IsQuietRound object_slots cells r
+quiet-closed cells r e = subst (λ (x : RoundView). IsQuietRound object_slots cells x) (sym e) tt
 
 quiet-step : (b d : JournalView) (popped now : ℕ) (taken : Bool) → IsQuietSoFar b popped → StaysQuiet b d taken → d.history.ids ≡ b.history.ids → now ≡ popped + cond taken 1 0 → IsQuietSoFar d now
 quiet-step b d popped now true q s same e = record {

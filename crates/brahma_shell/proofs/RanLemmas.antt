@@ -28,7 +28,6 @@ use Rattle.latch_table.specs.Views.{first_view}
 use Rattle.journal_chronicle.specs.View.{Origin, account, origin_of, notes_of, history_after, has_transaction}
 use Rattle.shared_store.specs.Passes.{Known}
 use Rattle.script_lines.specs.declared.grammar.Line.{Line}
-use Rattle.script_lines.proofs.OutputLemmas.{AppendsFront-longer}
 use Rattle.script_lines.specs.Output.{AppendsFront}
 use Rattle.client_pass.specs.declared.script.ClientScript.{ClientScript}
 use Rattle.client_scripts.specs.Scripts.{AreScripts, AreOfLines}
@@ -47,6 +46,7 @@ use Rattle.brahma_shell.proofs.ClientsLemmas.{clients-began, clients-did, client
 use Rattle.brahma_shell.proofs.PointLemmas.{moment_of_point}
 use Rattle.brahma_shell.proofs.RestingLemmas.{running-history, rests-behind}
 use Rattle.brahma_shell.proofs.SeenLemmas.{seen-stored}
+use Rattle.script_lines.specs.Numbers.{object_slots}
 
 -- no other status
 other-status : (status n : ℕ) → (status ≡ 0) ⊎ ((status ≡ 5) ⊎ ((status ≡ 6) ⊎ ((status ≡ 8) ⊎ (status ≡ 9)))) → n ≢ 0 → n ≢ 5 → n ≢ 6 → n ≢ 8 → n ≢ 9 → status ≡ n → ⊥
@@ -66,17 +66,17 @@ of-opened may_leave faults v w just origin now = record {
   limits = ap (λ (x : Origin). x.limits) origin ∙ just.store.limits;
 }
   where
-    given : (h : History) → h.slots ≡ 6 → h.opening ≡ graph_of w.journal.opening → h ≡ record (opened_history 6 h.ids w.journal.opening) { entries = h.entries }
-    given h slots opening = ap (λ (n : ℕ). record h { slots = n }) slots ∙ ap (λ (g : List Object). record h { slots = 6; opening = g }) opening
+    given : (h : History) → h.slots ≡ object_slots → h.opening ≡ graph_of w.journal.opening → h ≡ record (opened_history object_slots h.ids w.journal.opening) { entries = h.entries }
+    given h slots opening = ap (λ (n : ℕ). record h { slots = n }) slots ∙ ap (λ (g : List Object). record h { slots = object_slots; opening = g }) opening
 
 -- its history begins with a sound graph
-sound-since : {D : Type 0} (v w : LoggedView D) → IsJustOpened v → origin_of w ≡ origin_of v → history_after 6 (origin_of w) (notes_of w) ≡ history_of w → IsSoundGraph v.journal.history.opening → IsSoundGraph (history_of w).opening
+sound-since : {D : Type 0} (v w : LoggedView D) → IsJustOpened v → origin_of w ≡ origin_of v → history_after object_slots (origin_of w) (notes_of w) ≡ history_of w → IsSoundGraph v.journal.history.opening → IsSoundGraph (history_of w).opening
 sound-since v w just origin history sound =
     let first : v.journal.history.opening ≡ graph_of v.journal.opening = ap (λ (h : History). h.opening) just.store.history in
     let now : (history_of w).opening ≡ graph_of v.journal.opening = sym (ap (λ (h : History). h.opening) history) ∙ ap (λ (x : Origin). graph_of x.opening) origin in
     subst IsSoundGraph (first ∙ sym now) sound
 
-of-run : {D : Type 0} (may_leave : D → Area → List ℕ → Type 0) (faults : D → ℕ) (v w : LoggedView D) → IsJustOpened v → origin_of w ≡ origin_of v → history_after 6 (origin_of w) (notes_of w) ≡ history_of w → IsSoundGraph v.journal.history.opening → IsLegal (history_of w) → HoldsNow may_leave faults w → IsOfReplay may_leave w
+of-run : {D : Type 0} (may_leave : D → Area → List ℕ → Type 0) (faults : D → ℕ) (v w : LoggedView D) → IsJustOpened v → origin_of w ≡ origin_of v → history_after object_slots (origin_of w) (notes_of w) ≡ history_of w → IsSoundGraph v.journal.history.opening → IsLegal (history_of w) → HoldsNow may_leave faults w → IsOfReplay may_leave w
 of-run may_leave faults v w just origin history sound legal now = record {
   legal = legal;
   running = now.running;
@@ -97,7 +97,7 @@ fresh-text v just = ap (λ (h : History). text_of h.entries) (running-history v 
 fresh-unmarked : {D : Type 0} (v : LoggedView D) (A : Type 0) → IsJustOpened v → (v.journal.marks.trace ≡ true) ⊎ (v.log_full ≡ true) → A
 fresh-unmarked v A just on = absurd (⊎_elim (λ e. false≢true (sym just.unmarked ∙ e)) (λ e. false≢true (sym just.log_unmarked ∙ e)) on)
 
-module _ {D : Type 0} (content : D → Area → Option (List ℕ)) (may_leave : D → Area → List ℕ → Type 0) (disk : D) (before after : Outside) (v : LoggedView D) (just : IsJustOpened v) (opened : ReadsAs content 6 disk v.journal.opening) (journal : IsOfReplay may_leave v) where
+module _ {D : Type 0} (content : D → Area → Option (List ℕ)) (may_leave : D → Area → List ℕ → Type 0) (disk : D) (before after : Outside) (v : LoggedView D) (just : IsJustOpened v) (opened : ReadsAs content object_slots disk v.journal.opening) (journal : IsOfReplay may_leave v) where
   -- nothing ran, since memory was out
   pub ends-unrun : Ends before after [] (codes "refused: memory\n") → Ran content may_leave disk before after 8 v
   ends-unrun printed = record {
@@ -172,7 +172,7 @@ pub record Finishes {D : Type 0} (before after : Outside) (w : LoggedView D) (id
   pub exact : IsExactAt (point_of w.journal)
   pub stored : ids ≡ (end_of (history_of w)).state.stored
 
-module _ {D : Type 0} (content : D → Area → Option (List ℕ)) (may_leave : D → Area → List ℕ → Type 0) (faults : D → ℕ) (disk : D) (before after : Outside) (w : LoggedView D) (opened : ReadsAs content 6 disk w.journal.opening) (size : w.journal.history.ids ≡ length w.journal.opening - 1) (journal : IsOfReplay may_leave w) (now : HoldsNow may_leave faults w)
+module _ {D : Type 0} (content : D → Area → Option (List ℕ)) (may_leave : D → Area → List ℕ → Type 0) (faults : D → ℕ) (disk : D) (before after : Outside) (w : LoggedView D) (opened : ReadsAs content object_slots disk w.journal.opening) (size : w.journal.history.ids ≡ length w.journal.opening - 1) (journal : IsOfReplay may_leave w) (now : HoldsNow may_leave faults w)
     (status : ℕ) (stored : Option (List ℕ)) (tells : Tells w stored (shown before.written before.write_faults) (shown after.written after.write_faults) status) (began : Began before after w)
     (finishes : IsUnmarked w → (ids : List ℕ) → stored ≡ Some ids → Finishes before after w ids) (rose : IsSome w.failed → Rose before.disk_faults after.disk_faults) where
   off-done : IsUnmarked w → (w.journal.marks.trace ≡ true) ⊎ (w.log_full ≡ true) → ⊥
@@ -197,8 +197,8 @@ module _ {D : Type 0} (content : D → Area → Option (List ℕ)) (may_leave : 
           began,
           t.0,
           ⊎_elim
-              (λ front. AppendsFront-longer before.written after.written (history_text w) _ front)
-              (λ told. subst (λ (ids : List ℕ). AppendsFront before.written after.written (ending_text w ids)) (finishes told.0 told.1 told.2).stored told.3)
+              (λ front. inl front)
+              (λ told. let f = finishes told.0 told.1 told.2 in inr (f.did, told.0, subst (λ (ids : List ℕ). AppendsFront before.written after.written (ending_text w ids)) f.stored told.3))
               t.1,
         );
     failed_disk = λ e. let t = tells.failed_disk e in (began, t.0, rose t.0, t.1);
@@ -219,11 +219,11 @@ some-is P None x e h = absurd (cc (e))
 some-is P (Some y) x e h = subst P (cc (e)) h
 
 module _ {D : Type 0} (content : D → Area → Option (List ℕ)) (may_leave : D → Area → List ℕ → Type 0) (faults : D → ℕ) (disk : D) (before after : Outside) (v w : LoggedView D) (just : IsJustOpened v) (sound : IsSoundGraph v.journal.history.opening) (scripts : List ClientScript) (each : AreScripts scripts) (asked : List Line)
-    (first new : Known 6) (frames : List (Frame 6)) (is_first : first ≡ first_view (origin_of v)) (stored : Option (List ℕ)) (run : HasRun D first new scripts v.journal.history.ids stored) (alone : IsAlone new) (whole : IsWhole (account D 6) new w frames)
-    (history : history_after 6 (origin_of w) (notes_of w) ≡ history_of w) (told : (client : ℕ) → has_transaction (notes_of w) client ≡ is_some (transaction_of (end_of (history_of w)).state client)) (legal : IsLegal (history_of w)) (now : HoldsNow may_leave faults w) where
+    (first new : Known object_slots) (frames : List (Frame object_slots)) (is_first : first ≡ first_view (origin_of v)) (stored : Option (List ℕ)) (run : HasRun D first new scripts v.journal.history.ids stored) (alone : IsAlone new) (whole : IsWhole (account D object_slots) new w frames)
+    (history : history_after object_slots (origin_of w) (notes_of w) ≡ history_of w) (told : (client : ℕ) → has_transaction (notes_of w) client ≡ is_some (transaction_of (end_of (history_of w)).state client)) (legal : IsLegal (history_of w)) (now : HoldsNow may_leave faults w) where
   same-origin : origin_of w ≡ origin_of v
   same-origin =
-      let fixed : first.knowledge.fixed ≡ Some (origin_of v) = ap (λ (k : Known 6). k.knowledge.fixed) is_first in
+      let fixed : first.knowledge.fixed ≡ Some (origin_of v) = ap (λ (k : Known object_slots). k.knowledge.fixed) is_first in
       some-one (origin_of w) (origin_of v) (sym whole.later.fixed ∙ run.only.fixed ∙ run.runs.fixed ∙ fixed)
     where
       some-one : (x y : Origin) → Some x ≡ Some y → x ≡ y
@@ -233,7 +233,7 @@ module _ {D : Type 0} (content : D → Area → Option (List ℕ)) (may_leave : 
   same-ids = ap (λ (x : Origin). x.ids) same-origin
 
   fresh-entries : first.knowledge.entries ≡ []
-  fresh-entries = ap (λ (k : Known 6). k.knowledge.entries) is_first
+  fresh-entries = ap (λ (k : Known object_slots). k.knowledge.entries) is_first
 
   alone-behind : IsAlone run.behind
   alone-behind = subst (λ s. (s.main ≡ true) × (s.others ≡ 0)) run.only.station alone
@@ -254,14 +254,14 @@ module _ {D : Type 0} (content : D → Area → Option (List ℕ)) (may_leave : 
         stored = seen-stored w new frames whole off.running now.slots now.sound v.journal.history.ids size ids f.2 ∙ ap (λ (h : History). (end_of h).state.stored) (sym unfailed);
       }
 
-  pub ends-run : (status : ℕ) → ReadsAs content 6 disk v.journal.opening → AreOfLines asked scripts → ReadsAll v.journal.history.ids before.left after.left asked → Tells w stored (shown before.written before.write_faults) (shown after.written after.write_faults) status
+  pub ends-run : (status : ℕ) → ReadsAs content object_slots disk v.journal.opening → AreOfLines asked scripts → ReadsAll v.journal.history.ids before.left after.left asked → Tells w stored (shown before.written before.write_faults) (shown after.written after.write_faults) status
       → before.disk_faults ≤ v.opened → after.disk_faults ≡ faults w.disk → Ran content may_leave disk before after status w
   ends-run status opened of read tells first_later last =
       let count : w.opened ≡ v.opened = ap (λ (x : Origin). x.faults) same-origin in
       let rose : IsSome w.failed → Rose before.disk_faults after.disk_faults = λ some. (let r = now.rose some in omega (arith, r, count, first_later, last)) in
       let opening : w.journal.opening ≡ v.journal.opening = ap (λ (x : Origin). x.opening) same-origin in
       ends-told content may_leave faults disk before after w
-      (subst (ReadsAs content 6 disk) (sym opening) opened)
+      (subst (ReadsAs content object_slots disk) (sym opening) opened)
       (same-ids ∙ just.size ∙ ap (λ (cs : List Cell). length cs - 1) (sym opening))
       (of-run may_leave faults v w just same-origin history sound legal now) now status stored tells
       (asked, subst (λ n. ReadsAll n before.left after.left asked) (sym same-ids) read, clients-began w first run.behind new scripts run.end frames fresh-entries run.runs run.only whole history asked each of)

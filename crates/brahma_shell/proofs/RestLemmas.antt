@@ -33,6 +33,7 @@ use Rattle.brahma_shell.proofs.GrowthLemmas.{Grows-point}
 use Rattle.brahma_shell.proofs.PointLemmas.{moment_of_point}
 use Rattle.brahma_shell.proofs.StepLemmas.{free-pops, pop-closed}
 use Rattle.brahma_shell.proofs.StoreLemmas.{looked}
+use Rattle.script_lines.specs.Numbers.{object_slots}
 
 -- ---- looks, one after another
 
@@ -85,31 +86,31 @@ fits-logged cells (Some r) f = f
 
 -- a journal, the same after the collector looked, and the journal behind the event that came then
 pub record MakesStep (i j k : JournalView) (r : Collect) : Type 0 where
-  pub slots : i.history.slots ≡ 6
+  pub slots : i.history.slots ≡ object_slots
   pub sound : IsSound (core_of i)
-  pub in_step : IsInStep 6 i.history.ids i.round
+  pub in_step : IsInStep object_slots i.history.ids i.round
   pub entries : entries_in i.notes ≡ i.history.entries
   -- the looks
   pub same : j ≡ record i { round = j.round }
   pub core : core_of j ≡ core_of i
-  pub passes : Passes 6 (cells_of i) i.round j.round
-  pub looked_in_step : IsInStep 6 j.history.ids j.round
+  pub passes : Passes object_slots (cells_of i) i.round j.round
+  pub looked_in_step : IsInStep object_slots j.history.ids j.round
   -- the event
-  pub event : MakesEvent 6 j k r
+  pub event : MakesEvent object_slots j k r
   pub opening : k.opening ≡ j.opening
-  pub in_step_behind : IsInStep 6 k.history.ids k.round
-  pub fit : AllFit 6 k.opening (logged_in k.notes)
+  pub in_step_behind : IsInStep object_slots k.history.ids k.round
+  pub fit : AllFit object_slots k.opening (logged_in k.notes)
   pub entries_behind : entries_in k.notes ≡ k.history.entries
 
 module _ (i j k : JournalView) (r : Collect) (h : MakesStep i j k r) (idle : (point_of i).moment.state.active ≡ []) where
   -- the journals' sizes
-  looked-slots : j.history.slots ≡ 6
+  looked-slots : j.history.slots ≡ object_slots
   looked-slots = ap (λ (x : JournalView). x.history.slots) h.same ∙ h.slots
 
-  slots-before : (end_of i.history).state.slots ≡ 6
+  slots-before : (end_of i.history).state.slots ≡ object_slots
   slots-before = end_of-slots i.history ∙ h.slots
 
-  slots-looked : (end_of j.history).state.slots ≡ 6
+  slots-looked : (end_of j.history).state.slots ≡ object_slots
   slots-looked = end_of-slots j.history ∙ looked-slots
 
   ids-before : (end_of i.history).state.ids ≡ i.history.ids
@@ -138,44 +139,44 @@ module _ (i j k : JournalView) (r : Collect) (h : MakesStep i j k r) (idle : (po
   event-fits : IfSome h.event.logged (FitsCells (core_of j).cells)
   event-fits =
       let records = ap logged_in h.event.noted ∙ map-append (λ (n : Note). option_map record_of n.logged) j.notes _ in
-      let all = subst (λ (rs : List (Option Record)). AllFit 6 j.opening rs) records (subst (λ (cells : List Cell). AllFit 6 cells (logged_in k.notes)) h.opening h.fit) in
-      let last = fits-last 6 j.opening (logged_in j.notes) (option_map record_of h.event.logged) all in
+      let all = subst (λ (rs : List (Option Record)). AllFit object_slots j.opening rs) records (subst (λ (cells : List Cell). AllFit object_slots cells (logged_in k.notes)) h.opening h.fit) in
+      let last = fits-last object_slots j.opening (logged_in j.notes) (option_map record_of h.event.logged) all in
       fits-logged (core_of j).cells h.event.logged (subst (λ (n : ℕ). IfSome (option_map record_of h.event.logged) (Fits (cells_after n j.opening (logged_in j.notes)))) (sym looked-slots) last)
 
   -- so the event is one of a quiet round
-  is-quiet_event : IsQuietEvent 6 (core_of j) (core_of k) j.round k.round h.event.event h.event.logged
+  is-quiet_event : IsQuietEvent object_slots (core_of j) (core_of k) j.round k.round h.event.event h.event.logged
   is-quiet_event = record {
     sound = subst IsSound (sym h.core) h.sound;
     slots_are = slots-looked;
     quiet = quiet-looked;
     before = refl;
     behind = refl;
-    in_step = subst (λ (n : ℕ). IsInStep 6 n j.round) (sym ids-looked) h.looked_in_step;
-    in_step_behind = subst (λ (n : ℕ). IsInStep 6 n k.round) (ids-behind ∙ sym ids-looked) h.in_step_behind;
+    in_step = subst (λ (n : ℕ). IsInStep object_slots n j.round) (sym ids-looked) h.looked_in_step;
+    in_step_behind = subst (λ (n : ℕ). IsInStep object_slots n k.round) (ids-behind ∙ sym ids-looked) h.in_step_behind;
     fits = event-fits;
-    proceeds = subst (λ (n : ℕ). Proceeds 6 n j.round h.event.event h.event.logged k.round) (sym ids-looked) h.event.proceeds;
+    proceeds = subst (λ (n : ℕ). Proceeds object_slots n j.round h.event.event h.event.logged k.round) (sym ids-looked) h.event.proceeds;
     begins = h.event.begins;
     after = h.event.core;
     collects = h.event.collects;
   }
 
   pops-event : pops r ≡ is_pop h.event.event
-  pops-event = ap pops h.event.answer ∙ pops-told 6 (core_of j) h.event.event h.event.logged _ k.queue (core_of k).round h.event.collects
+  pops-event = ap pops h.event.answer ∙ pops-told object_slots (core_of j) h.event.event h.event.logged _ k.queue (core_of k).round h.event.collects
 
   closed-before : pops r ≡ true → i.round ≡ Closed
-  closed-before p = round-closed i.round (ap (λ (c : Core). c.round) (sym h.core) ∙ pop-closed 6 (core_of j) h.event.event h.event.logged k.queue (core_of k).round h.event.collects (sym pops-event ∙ p))
+  closed-before p = round-closed i.round (ap (λ (c : Core). c.round) (sym h.core) ∙ pop-closed object_slots (core_of j) h.event.event h.event.logged k.queue (core_of k).round h.event.collects (sym pops-event ∙ p))
 
   few-before : length i.queue < i.history.ids
   few-before = subst (λ (n : ℕ). length i.queue < n) ids-before (few-queued (core_of i) h.sound)
 
-  module _ (events : QuietEventLaw) (looks : QuietLooksLaw) (quiet : IsQuietRound 6 (cells_of i) i.round) where
-    quiet-round_looked : IsQuietRound 6 (cells_of j) j.round
-    quiet-round_looked = subst (λ (cells : List Cell). IsQuietRound 6 cells j.round) (ap (λ (c : Core). c.cells) (sym h.core))
-        (looks 6 (core_of i) i.round j.round h.sound slots-before quiet-before refl (subst (λ (n : ℕ). IsInStep 6 n i.round) (sym ids-before) h.in_step) h.passes quiet)
+  module _ (events : QuietEventLaw) (looks : QuietLooksLaw) (quiet : IsQuietRound object_slots (cells_of i) i.round) where
+    quiet-round_looked : IsQuietRound object_slots (cells_of j) j.round
+    quiet-round_looked = subst (λ (cells : List Cell). IsQuietRound object_slots cells j.round) (ap (λ (c : Core). c.cells) (sym h.core))
+        (looks object_slots (core_of i) i.round j.round h.sound slots-before quiet-before refl (subst (λ (n : ℕ). IsInStep object_slots n i.round) (sym ids-before) h.in_step) h.passes quiet)
 
-    stays : IsQuietRound 6 (cells_of k) k.round × (length k.queue + (if pops r then 1 else 0) ≤ length i.queue)
+    stays : IsQuietRound object_slots (cells_of k) k.round × (length k.queue + (if pops r then 1 else 0) ≤ length i.queue)
     stays =
-        let e = events 6 (core_of j) (core_of k) j.round k.round h.event.event h.event.logged is-quiet_event quiet-round_looked in
+        let e = events object_slots (core_of j) (core_of k) j.round k.round h.event.event h.event.logged is-quiet_event quiet-round_looked in
         let queues : j.queue ≡ i.queue = ap (λ (c : Core). c.queue) h.core in
         (e.0, subst (λ (b : Bool). length k.queue + (if b then 1 else 0) ≤ length i.queue) (sym pops-event) (subst (λ (q : List ℕ). length k.queue + (if is_pop h.event.event then 1 else 0) ≤ length q) queues e.1.shorter))
 

@@ -21,6 +21,7 @@ use Rattle.brahma_shell.proofs.LogLemmas.{none-committed, history-uncommitted}
 use Rattle.brahma_shell.proofs.PointLemmas.{may_rest, moment_of_point}
 use Rattle.brahma_shell.proofs.RestLemmas.{rests-exact}
 use Rattle.client_pass.proofs.SameLogs.{same-log_once}
+use Rattle.script_lines.specs.Numbers.{object_slots}
 
 -- ---- a journal that the disk failed no call
 
@@ -31,14 +32,14 @@ pub running-history : {D : Type 0} (v : LoggedView D) → v.failed ≡ None → 
 running-history v e = history-uncommitted v (none-committed v e)
 
 -- its history is what its origin and its notes give
-pub history-given : {D : Type 0} (v : LoggedView D) → v.failed ≡ None → history_after 6 (origin_of v) (notes_of v) ≡ history_of v → v.journal.history ≡ history_after 6 (origin_of v) v.journal.notes
-history-given v e h = sym (running-history v e) ∙ sym h ∙ ap (history_after 6 (origin_of v)) (running-notes v e)
+pub history-given : {D : Type 0} (v : LoggedView D) → v.failed ≡ None → history_after object_slots (origin_of v) (notes_of v) ≡ history_of v → v.journal.history ≡ history_after object_slots (origin_of v) v.journal.notes
+history-given v e h = sym (running-history v e) ∙ sym h ∙ ap (history_after object_slots (origin_of v)) (running-notes v e)
 
 -- where two of one origin have the same notes, their points are the same
-same-point : {D : Type 0} (b w : LoggedView D) → b.failed ≡ None → w.failed ≡ None → origin_of b ≡ origin_of w → notes_of b ≡ notes_of w → history_after 6 (origin_of b) (notes_of b) ≡ history_of b → history_after 6 (origin_of w) (notes_of w) ≡ history_of w → point_of b.journal ≡ point_of w.journal
+same-point : {D : Type 0} (b w : LoggedView D) → b.failed ≡ None → w.failed ≡ None → origin_of b ≡ origin_of w → notes_of b ≡ notes_of w → history_after object_slots (origin_of b) (notes_of b) ≡ history_of b → history_after object_slots (origin_of w) (notes_of w) ≡ history_of w → point_of b.journal ≡ point_of w.journal
 same-point b w f g origin same h k =
     let notes : b.journal.notes ≡ w.journal.notes = sym (running-notes b f) ∙ same ∙ running-notes w g in
-    let history : b.journal.history ≡ w.journal.history = sym (running-history b f) ∙ sym h ∙ ap (λ (x : Origin). history_after 6 x (notes_of b)) origin ∙ ap (history_after 6 (origin_of w)) same ∙ k ∙ running-history w g in
+    let history : b.journal.history ≡ w.journal.history = sym (running-history b f) ∙ sym h ∙ ap (λ (x : Origin). history_after object_slots x (notes_of b)) origin ∙ ap (history_after object_slots (origin_of w)) same ∙ k ∙ running-history w g in
     ap (λ (x : History). after_notes (start_with x b.journal.opening) b.journal.notes) history
     ∙ ap (λ (x : Origin). after_notes (start_with w.journal.history x.opening) b.journal.notes) origin
     ∙ ap (after_notes (start_with w.journal.history w.journal.opening)) notes
@@ -57,8 +58,8 @@ pub record RestsAt (j : JournalView) : Type 0 where
   pub rests : MayRest (point_of j)
   pub exact : (point_of j).moment.state.active ≡ [] → IsExactAt (point_of j)
 
-module _ {D : Type 0} (w : LoggedView D) (behind new : Known 6) (frames : List (Frame 6)) (alone : IsAlone behind) (collected : IsCollected D 6 behind) (only : OnlyPeeks behind new) (whole : IsWhole (account D 6) new w frames)
-    (history : history_after 6 (origin_of w) (notes_of w) ≡ history_of w) (running : w.failed ≡ None) where
+module _ {D : Type 0} (w : LoggedView D) (behind new : Known object_slots) (frames : List (Frame object_slots)) (alone : IsAlone behind) (collected : IsCollected D object_slots behind) (only : OnlyPeeks behind new) (whole : IsWhole (account D object_slots) new w frames)
+    (history : history_after object_slots (origin_of w) (notes_of w) ≡ history_of w) (running : w.failed ≡ None) where
   idle-running : collected.idle.before.failed ≡ None
   idle-running = never-stopped collected.idle.before.failed _ (λ f h. let e = h.0 in absurd (cc (e))) collected.idle.made.stopped
 
@@ -83,9 +84,9 @@ module _ {D : Type 0} (w : LoggedView D) (behind new : Known 6) (frames : List (
       let made = collected.idle.made in
       let idle = made.does.idle.0 refl in
       let given = history-given collected.idle.before idle-running made.history in
-      let slots : collected.idle.before.journal.history.slots ≡ 6 = ap (λ (h : History). h.slots) given in
+      let slots : collected.idle.before.journal.history.slots ≡ object_slots = ap (λ (h : History). h.slots) given in
       let entries : entries_in collected.idle.before.journal.notes ≡ collected.idle.before.journal.history.entries = sym (ap (λ (h : History). h.entries) given) in
       record {
-        rests = subst MayRest at-one_point (may_rest 6 collected.idle.before.journal slots made.sound made.led idle.1 idle.2);
+        rests = subst MayRest at-one_point (may_rest object_slots collected.idle.before.journal slots made.sound made.led idle.1 idle.2);
         exact = subst (λ (p : Point). p.moment.state.active ≡ [] → IsExactAt p) at-one_point (rests-exact collected.idle.before.journal collected.idle.before.journal refl made.sound entries idle.1 idle.2);
       }

@@ -10,38 +10,36 @@ use Rattle.store_opening.specs.declared.open_refusal.OpenRefusal.{OpenRefusal}
 use Rattle.journal_opening.specs.Openings.{ReadsAs}
 use Rattle.logged_journal.specs.View.{LoggedView}
 use Rattle.logged_journal.specs.Opens.{OpensAfter}
-use Rattle.script_lines.specs.Output.{AppendsFront, refused_line, open_refusal_line}
+use Rattle.script_lines.specs.Output.{refused_line, open_refusal_line}
 use Rattle.brahma_shell.specs.declared.ended.Ended.TheVariants.{Shut, Kept}
 use Rattle.brahma_shell.specs.Follows.{FollowsAll, FollowsUpTo, FollowsRead, FollowsPart, FollowsToCommit}
 use Rattle.brahma_shell.specs.Runs.{Run, run_history, whole, ids_at, end_point, IsLastOf}
-use Rattle.brahma_shell.specs.Top.{Tell, IsOfReplay, Outside, Ends, EndsAtCommit, EndsAtUpkeep, EndsAtCrash, EndsAtHistory, EndsAtLog, Replayed, text_in, whole_text, status_of_refusal}
-use Rattle.brahma_shell.proofs.EndLemmas.{both-unmarked}
+use Rattle.brahma_shell.specs.Top.{Tell, IsOfReplay, Outside, Ends, EndsAtCommit, EndsAtUpkeep, EndsAtCrash, EndsAtHistory, EndsAtLog, IsCutShort, Replayed, text_in, whole_text, status_of_refusal}
+use Rattle.brahma_shell.proofs.EndLemmas.{both-unmarked, no-failure}
 use Rattle.brahma_shell.proofs.TopLemmas.{none-refused}
-
-none-failed : (r : Run) → r.failed ≡ None → IsSome r.failed → ⊥
-none-failed r e some = let h = rw e at some in absurd (cc)
+use Rattle.script_lines.specs.Numbers.{object_slots}
 
 -- what is known at the end of each replay that hands a journal back
 pub record AtEnd {D : Type 0} (content : D → Area → Option (List ℕ)) (may_leave : D → Area → List ℕ → Type 0) (disk : D) (before after : Outside) (r : Run) (v : LoggedView D) : Type 0 where
-  pub opened : ReadsAs content 6 disk r.opening
+  pub opened : ReadsAs content object_slots disk r.opening
   pub legal : Tell content → IsLegal (run_history r)
   pub last : IsLastOf r v
   pub journal : IsOfReplay may_leave v
-  pub exit : Tell content → EachImage may_leave v.disk (OpensAfter 6 (run_history r))
+  pub exit : Tell content → EachImage may_leave v.disk (OpensAfter object_slots (run_history r))
   pub same_ids : Tell content → ids_at (end_point (whole r)) ≡ r.ids
   pub size : r.ids ≡ length r.opening - 1
 
 -- and of each that hands the disk back
 pub record AtLoss {D : Type 0} (content : D → Area → Option (List ℕ)) (may_leave : D → Area → List ℕ → Type 0) (disk now : D) (r : Run) : Type 0 where
-  pub opened : ReadsAs content 6 disk r.opening
+  pub opened : ReadsAs content object_slots disk r.opening
   pub legal : Tell content → IsLegal (run_history r)
-  pub exit : Tell content → EachImage may_leave now (OpensAfter 6 (run_history r))
+  pub exit : Tell content → EachImage may_leave now (OpensAfter object_slots (run_history r))
   pub same_ids : Tell content → ids_at (end_point (whole r)) ≡ r.ids
   pub size : r.ids ≡ length r.opening - 1
 
 module _ {S D : Type 0} (content : D → Area → Option (List ℕ)) (may_leave : D → Area → List ℕ → Type 0) (script later : S) (disk : D) (before after : Outside) (r : Run) where
   -- each line was done
-  pub ends-done : (v : LoggedView D) → AtEnd content may_leave disk before after r v → r.failed ≡ None → v.journal.marks.trace ≡ false → v.log_full ≡ false → FollowsAll before.left after.left (whole r) → Appends before.written after.written (whole_text r) → Replayed content may_leave script later disk before after 0 (Kept v)
+  pub ends-done : (v : LoggedView D) → AtEnd content may_leave disk before after r v → v.failed ≡ None → v.journal.marks.trace ≡ false → v.log_full ≡ false → FollowsAll before.left after.left (whole r) → Appends before.written after.written (whole_text r) → Replayed content may_leave script later disk before after 0 (Kept v)
   ends-done v k running trace log follows text = record {
     run = r;
     opened = k.opened;
@@ -67,11 +65,11 @@ module _ {S D : Type 0} (content : D → Area → Option (List ℕ)) (may_leave 
     limit = λ e _. absurd (omega (arith, e));
     limit_crash = λ e _. absurd (omega (arith, e));
     marked = both-unmarked v.journal.marks.trace v.log_full 0 trace log (λ e. omega (arith, e));
-    failed = λ some. absurd (none-failed r running some);
+    failed = λ some. absurd (no-failure v running some);
   }
 
   -- a line was refused
-  pub ends-refused : (v : LoggedView D) → AtEnd content may_leave disk before after r v → r.failed ≡ None → v.journal.marks.trace ≡ false → v.log_full ≡ false → (number : ℕ) → FollowsUpTo before.left number (whole r) → Ends before after (text_in r) (refused_line number) → Replayed content may_leave script later disk before after 3 (Kept v)
+  pub ends-refused : (v : LoggedView D) → AtEnd content may_leave disk before after r v → v.failed ≡ None → v.journal.marks.trace ≡ false → v.log_full ≡ false → (number : ℕ) → FollowsUpTo before.left number (whole r) → Ends before after (text_in r) (refused_line number) → Replayed content may_leave script later disk before after 3 (Kept v)
   ends-refused v k running trace log number follows text = record {
     run = r;
     opened = k.opened;
@@ -97,11 +95,11 @@ module _ {S D : Type 0} (content : D → Area → Option (List ℕ)) (may_leave 
     limit = λ e _. absurd (omega (arith, e));
     limit_crash = λ e _. absurd (omega (arith, e));
     marked = both-unmarked v.journal.marks.trace v.log_full 3 trace log (λ e. omega (arith, e));
-    failed = λ some. absurd (none-failed r running some);
+    failed = λ some. absurd (no-failure v running some);
   }
 
   -- the source failed
-  pub ends-read : (v : LoggedView D) → AtEnd content may_leave disk before after r v → r.failed ≡ None → v.journal.marks.trace ≡ false → v.log_full ≡ false → Rose before.read_faults after.read_faults → FollowsRead before.left after.left (whole r) → Ends before after (text_in r) (codes "refused: read\n") → Replayed content may_leave script later disk before after 4 (Kept v)
+  pub ends-read : (v : LoggedView D) → AtEnd content may_leave disk before after r v → v.failed ≡ None → v.journal.marks.trace ≡ false → v.log_full ≡ false → Rose before.read_faults after.read_faults → FollowsRead before.left after.left (whole r) → Ends before after (text_in r) (codes "refused: read\n") → Replayed content may_leave script later disk before after 4 (Kept v)
   ends-read v k running trace log rose follows text = record {
     run = r;
     opened = k.opened;
@@ -127,12 +125,12 @@ module _ {S D : Type 0} (content : D → Area → Option (List ℕ)) (may_leave 
     limit = λ e _. absurd (omega (arith, e));
     limit_crash = λ e _. absurd (omega (arith, e));
     marked = both-unmarked v.journal.marks.trace v.log_full 4 trace log (λ e. omega (arith, e));
-    failed = λ some. absurd (none-failed r running some);
+    failed = λ some. absurd (no-failure v running some);
   }
 
   -- the sink failed
-  pub ends-write : (v : LoggedView D) → AtEnd content may_leave disk before after r v → v.journal.marks.trace ≡ false → v.log_full ≡ false → Rose before.write_faults after.write_faults → FollowsPart before.left (whole r) → AppendsFront before.written after.written (whole_text r) → IfSome r.failed (λ client. FollowsToCommit before.left client (whole r)) → Replayed content may_leave script later disk before after 5 (Kept v)
-  ends-write v k trace log rose follows text commit = record {
+  pub ends-write : (v : LoggedView D) → AtEnd content may_leave disk before after r v → v.journal.marks.trace ≡ false → v.log_full ≡ false → Rose before.write_faults after.write_faults → IsCutShort before after r → IfSome r.failed (λ client. FollowsToCommit before.left client (whole r)) → (IsSome v.failed → IsSome r.failed) → Replayed content may_leave script later disk before after 5 (Kept v)
+  ends-write v k trace log rose cut commit told = record {
     run = r;
     opened = k.opened;
     legal = k.legal;
@@ -148,7 +146,7 @@ module _ {S D : Type 0} (content : D → Area → Option (List ℕ)) (may_leave 
     done = λ e. absurd (omega (arith, e));
     refused = λ e. absurd (omega (arith, e));
     read = λ e. absurd (omega (arith, e));
-    write = λ _. (rose, follows, text, commit);
+    write = λ _. (rose, cut, commit);
     failed_disk = λ e. absurd (omega (arith, e));
     disk_crash = λ e _. absurd (omega (arith, e));
     store = λ e. absurd (omega (arith, e));
@@ -157,11 +155,11 @@ module _ {S D : Type 0} (content : D → Area → Option (List ℕ)) (may_leave 
     limit = λ e _. absurd (omega (arith, e));
     limit_crash = λ e _. absurd (omega (arith, e));
     marked = both-unmarked v.journal.marks.trace v.log_full 5 trace log (λ e. omega (arith, e));
-    failed = λ _. inl refl;
+    failed = λ some. inr (refl, told some);
   }
 
   -- memory was out
-  pub ends-memory : (v : LoggedView D) → AtEnd content may_leave disk before after r v → r.failed ≡ None → v.journal.marks.trace ≡ false → v.log_full ≡ false → FollowsPart before.left (whole r) → Ends before after (text_in r) (codes "refused: memory\n") → Replayed content may_leave script later disk before after 8 (Kept v)
+  pub ends-memory : (v : LoggedView D) → AtEnd content may_leave disk before after r v → v.failed ≡ None → v.journal.marks.trace ≡ false → v.log_full ≡ false → FollowsPart before.left (whole r) → Ends before after (text_in r) (codes "refused: memory\n") → Replayed content may_leave script later disk before after 8 (Kept v)
   ends-memory v k running trace log follows text = record {
     run = r;
     opened = k.opened;
@@ -187,11 +185,11 @@ module _ {S D : Type 0} (content : D → Area → Option (List ℕ)) (may_leave 
     limit = λ e _. absurd (omega (arith, e));
     limit_crash = λ e _. absurd (omega (arith, e));
     marked = both-unmarked v.journal.marks.trace v.log_full 8 trace log (λ e. omega (arith, e));
-    failed = λ some. absurd (none-failed r running some);
+    failed = λ some. absurd (no-failure v running some);
   }
 
   -- the history is full, or the log
-  pub ends-limit : (v : LoggedView D) → AtEnd content may_leave disk before after r v → r.failed ≡ None → FollowsPart before.left (whole r) → EndsAtHistory before after r v ⊎ EndsAtLog before after r v → Replayed content may_leave script later disk before after 9 (Kept v)
+  pub ends-limit : (v : LoggedView D) → AtEnd content may_leave disk before after r v → v.failed ≡ None → FollowsPart before.left (whole r) → EndsAtHistory before after r v ⊎ EndsAtLog before after r v → Replayed content may_leave script later disk before after 9 (Kept v)
   ends-limit v k running follows which = record {
     run = r;
     opened = k.opened;
@@ -217,7 +215,7 @@ module _ {S D : Type 0} (content : D → Area → Option (List ℕ)) (may_leave 
     limit = λ _ _. (follows, which);
     limit_crash = λ _ e. absurd (cc);
     marked = (λ _. refl, λ _. ⊎_elim (λ h. inl h.marked.0) (λ h. inr h.marked.1) which);
-    failed = λ some. absurd (none-failed r running some);
+    failed = λ some. absurd (no-failure v running some);
   }
 
   -- the disk failed a commit, or upkeep
@@ -247,12 +245,12 @@ module _ {S D : Type 0} (content : D → Area → Option (List ℕ)) (may_leave 
     limit = λ e _. absurd (omega (arith, e));
     limit_crash = λ e _. absurd (omega (arith, e));
     marked = both-unmarked v.journal.marks.trace v.log_full 6 trace log (λ e. omega (arith, e));
-    failed = λ _. inr refl;
+    failed = λ _. inl refl;
   }
 
   -- the disk failed where power was lost, or behind it
-  pub ends-lost-disk : (now : D) → AtLoss content may_leave disk now r → r.failed ≡ None → Rose before.disk_faults after.disk_faults → EndsAtCrash before after r (codes "refused: disk\n") → Replayed content may_leave script later disk before after 6 (Shut now)
-  ends-lost-disk now k running rose at = record {
+  pub ends-lost-disk : (now : D) → AtLoss content may_leave disk now r → Rose before.disk_faults after.disk_faults → EndsAtCrash before after r (codes "refused: disk\n") → Replayed content may_leave script later disk before after 6 (Shut now)
+  ends-lost-disk now k rose at = record {
     run = r;
     opened = k.opened;
     legal = k.legal;
@@ -277,12 +275,12 @@ module _ {S D : Type 0} (content : D → Area → Option (List ℕ)) (may_leave 
     limit = λ e _. absurd (omega (arith, e));
     limit_crash = λ e _. absurd (omega (arith, e));
     marked = tt;
-    failed = λ some. absurd (none-failed r running some);
+    failed = tt;
   }
 
   -- memory was out there
-  pub ends-lost-memory : (now : D) → AtLoss content may_leave disk now r → r.failed ≡ None → EndsAtCrash before after r (codes "refused: memory\n") → Replayed content may_leave script later disk before after 8 (Shut now)
-  ends-lost-memory now k running at = record {
+  pub ends-lost-memory : (now : D) → AtLoss content may_leave disk now r → EndsAtCrash before after r (codes "refused: memory\n") → Replayed content may_leave script later disk before after 8 (Shut now)
+  ends-lost-memory now k at = record {
     run = r;
     opened = k.opened;
     legal = k.legal;
@@ -307,12 +305,12 @@ module _ {S D : Type 0} (content : D → Area → Option (List ℕ)) (may_leave 
     limit = λ e _. absurd (omega (arith, e));
     limit_crash = λ e _. absurd (omega (arith, e));
     marked = tt;
-    failed = λ some. absurd (none-failed r running some);
+    failed = tt;
   }
 
   -- its log had no room to go on there
-  pub ends-lost-room : (now : D) → AtLoss content may_leave disk now r → r.failed ≡ None → EndsAtCrash before after r (codes "refused: log\n") → Replayed content may_leave script later disk before after 9 (Shut now)
-  ends-lost-room now k running at = record {
+  pub ends-lost-room : (now : D) → AtLoss content may_leave disk now r → EndsAtCrash before after r (codes "refused: log\n") → Replayed content may_leave script later disk before after 9 (Shut now)
+  ends-lost-room now k at = record {
     run = r;
     opened = k.opened;
     legal = k.legal;
@@ -337,12 +335,12 @@ module _ {S D : Type 0} (content : D → Area → Option (List ℕ)) (may_leave 
     limit = λ _ e. absurd (cc);
     limit_crash = λ _ _. at;
     marked = tt;
-    failed = λ some. absurd (none-failed r running some);
+    failed = tt;
   }
 
   -- the disk holds no store there, or none that can be opened
-  pub ends-lost-store : (now : D) → AtLoss content may_leave disk now r → r.failed ≡ None → (e : OpenRefusal) → status_of_refusal e ≡ 7 → (Tell content → ⊥) → EndsAtCrash before after r (open_refusal_line e) → Replayed content may_leave script later disk before after 7 (Shut now)
-  ends-lost-store now k running e seven untold at = record {
+  pub ends-lost-store : (now : D) → AtLoss content may_leave disk now r → (e : OpenRefusal) → status_of_refusal e ≡ 7 → (Tell content → ⊥) → EndsAtCrash before after r (open_refusal_line e) → Replayed content may_leave script later disk before after 7 (Shut now)
+  ends-lost-store now k e seven untold at = record {
     run = r;
     opened = k.opened;
     legal = k.legal;
@@ -367,5 +365,5 @@ module _ {S D : Type 0} (content : D → Area → Option (List ℕ)) (may_leave 
     limit = λ e _. absurd (omega (arith, e));
     limit_crash = λ e _. absurd (omega (arith, e));
     marked = tt;
-    failed = λ some. absurd (none-failed r running some);
+    failed = tt;
   }

@@ -30,6 +30,7 @@ use Rattle.brahma_shell.proofs.GrowthLemmas.{start_point-same}
 use Rattle.brahma_shell.proofs.LogLemmas.{history-running, none-committed}
 use Rattle.brahma_shell.proofs.PointLemmas.{moment_of_point}
 use Rattle.brahma_shell.proofs.JoinLemmas.{IsNextOf}
+use Rattle.script_lines.specs.Numbers.{object_slots}
 
 -- ---- runs
 
@@ -50,7 +51,7 @@ pub record StandsAt {D : Type 0} (content : D → Area → Option (List ℕ)) (r
   pub just : IsJustOpened v
   pub running : r.failed ≡ None
   pub last : IsSinceOpening r v.journal
-  pub point : after_events (start_with (opened_history 6 r.ids r.opening) r.opening) r.events ≡ start_point v.journal
+  pub point : after_events (start_with (opened_history object_slots r.ids r.opening) r.opening) r.events ≡ start_point v.journal
   pub ids : Tell content → r.ids ≡ v.journal.history.ids
   pub moment : Tell content → end_of (run_history r) ≡ start_of v.journal.history
   pub legal : Tell content → IsLegal (run_history r)
@@ -59,16 +60,16 @@ pub record StandsAt {D : Type 0} (content : D → Area → Option (List ℕ)) (r
 
 -- the history of a run without its failed commit
 abbrev pub plain_history : Run → History
-plain_history r = record (opened_history 6 r.ids r.opening) { entries = map entry_of r.events }
+plain_history r = record (opened_history object_slots r.ids r.opening) { entries = map entry_of r.events }
 
 pub run-running : (r : Run) → r.failed ≡ None → run_history r ≡ plain_history r
 run-running r e = ap (λ (o : Option ℕ). option_map_or (λ client. with_entry (plain_history r) (Call client Commit DiskFault)) o (plain_history r)) e
 
 -- it begins with the opening
-run-start : (r : Run) → start_of (run_history r) ≡ opening_moment r.ids 6 (graph_of r.opening)
+run-start : (r : Run) → start_of (run_history r) ≡ opening_moment r.ids object_slots (graph_of r.opening)
 run-start r = cases r.failed
   where
-    cases : (o : Option ℕ) → start_of (option_map_or (λ client. with_entry (plain_history r) (Call client Commit DiskFault)) o (plain_history r)) ≡ opening_moment r.ids 6 (graph_of r.opening)
+    cases : (o : Option ℕ) → start_of (option_map_or (λ client. with_entry (plain_history r) (Call client Commit DiskFault)) o (plain_history r)) ≡ opening_moment r.ids object_slots (graph_of r.opening)
     cases None = refl
     cases (Some client) = refl
 
@@ -79,10 +80,10 @@ run-ids r = cases r.failed
     cases None = refl
     cases (Some client) = refl
 
-run-slots : (r : Run) → (run_history r).slots ≡ 6
+run-slots : (r : Run) → (run_history r).slots ≡ object_slots
 run-slots r = cases r.failed
   where
-    cases : (o : Option ℕ) → (option_map_or (λ client. with_entry (plain_history r) (Call client Commit DiskFault)) o (plain_history r)).slots ≡ 6
+    cases : (o : Option ℕ) → (option_map_or (λ client. with_entry (plain_history r) (Call client Commit DiskFault)) o (plain_history r)).slots ≡ object_slots
     cases None = refl
     cases (Some client) = refl
 
@@ -118,8 +119,8 @@ slots-after p (Noted n ∷ es) = slots-after (after_event p (Noted n)) es
 slots-after p (Reopened ids cells ∷ es) = slots-after (after_event p (Reopened ids cells)) es
 
 -- the history of a store that is just opened
-pub opened-as : {D : Type 0} (v : LoggedView D) → IsJustOpened v → v.journal.history ≡ opened_history 6 v.journal.history.ids v.journal.opening
-opened-as v just = just.store.history ∙ ap (λ (es : List Entry). record (opened_history 6 v.journal.history.ids v.journal.opening) { entries = es }) just.entries
+pub opened-as : {D : Type 0} (v : LoggedView D) → IsJustOpened v → v.journal.history ≡ opened_history object_slots v.journal.history.ids v.journal.opening
+opened-as v just = just.store.history ∙ ap (λ (es : List Entry). record (opened_history object_slots v.journal.history.ids v.journal.opening) { entries = es }) just.entries
 
 -- ---- the first opening
 
@@ -177,7 +178,7 @@ module _ {D : Type 0} (content : D → Area → Option (List ℕ)) (r : Run) (v 
   entries-extended = cases (failed_commit w)
     where
       h : History
-      h = record (opened_history 6 r.ids r.opening) { entries = map entry_of (r.events ++ noted w.journal.notes) }
+      h = record (opened_history object_slots r.ids r.opening) { entries = map entry_of (r.events ++ noted w.journal.notes) }
 
       cases : (o : Option ℕ) → (option_map_or (λ client. with_entry h (Call client Commit DiskFault)) o h).entries ≡ (run_history r).entries ++ (option_map_or (λ client. with_entry w.journal.history (Call client Commit DiskFault)) o w.journal.history).entries
       cases None = plain-entries
@@ -222,7 +223,7 @@ module _ {D : Type 0} (content : D → Area → Option (List ℕ)) (r : Run) (v 
       ∙ after-noted (start_point w.journal) w.journal.notes)
       ∙ ap (λ (m : Moment). m.state.stored) (moment_of_point w.journal entries)
 
-  pub exit-extended : (may_leave : D → Area → List ℕ → Type 0) (disk : D) → EachImage may_leave disk (OpensAfter 6 (history_of w)) → Tell content → EachImage may_leave disk (OpensAfter 6 (run_history (extended r w)))
+  pub exit-extended : (may_leave : D → Area → List ℕ → Type 0) (disk : D) → EachImage may_leave disk (OpensAfter object_slots (history_of w)) → Tell content → EachImage may_leave disk (OpensAfter object_slots (run_history (extended r w)))
   exit-extended may_leave disk opens tell image is =
       let after = opens image is in
       record {
@@ -249,7 +250,7 @@ module _ {D : Type 0} (content : D → Area → Option (List ℕ)) (r : Run) (v 
     -- its history has one entry more
     history-reopened : run_history (reopened (extended r w) new) ≡ with_entry (run_history (extended r w)) (Crash (graph_of new.journal.opening))
     history-reopened =
-        ap (λ (es : List Entry). record (opened_history 6 r.ids r.opening) { entries = es }) (map-append entry_of (extended r w).events (Reopened new.journal.history.ids new.journal.opening ∷ []))
+        ap (λ (es : List Entry). record (opened_history object_slots r.ids r.opening) { entries = es }) (map-append entry_of (extended r w).events (Reopened new.journal.history.ids new.journal.opening ∷ []))
         ∙ ap (λ (h : History). with_entry h (Crash (graph_of new.journal.opening))) (sym (run-running (extended r w) now-running))
 
     pub text-reopened : text_in (reopened (extended r w) new) ≡ text_in (extended r w) ++ reopened_line new
@@ -262,16 +263,16 @@ module _ {D : Type 0} (content : D → Area → Option (List ℕ)) (r : Run) (v 
     moment-reopened tell =
         let m = end_of (run_history (extended r w)) in
         let ids : m.state.ids ≡ new.journal.history.ids = end_of-ids (run_history (extended r w)) ∙ run-ids (extended r w) ∙ stands.ids tell ∙ sym same-ids ∙ sym (again.same_ids tell) in
-        let slots : m.state.slots ≡ 6 = end_of-slots (run_history (extended r w)) ∙ run-slots (extended r w) in
+        let slots : m.state.slots ≡ object_slots = end_of-slots (run_history (extended r w)) ∙ run-slots (extended r w) in
         ap end_of history-reopened
         ∙ end_of-with_entry (run_history (extended r w)) (Crash (graph_of new.journal.opening))
         ∙ ap (λ (i : ℕ). opening_moment i m.state.slots (graph_of new.journal.opening)) ids
         ∙ ap (λ (i : ℕ). opening_moment new.journal.history.ids i (graph_of new.journal.opening)) slots
         ∙ ap start_of (sym (opened-as new again.just))
 
-    point-reopened : after_events (start_with (opened_history 6 r.ids r.opening) r.opening) (reopened (extended r w) new).events ≡ start_point new.journal
+    point-reopened : after_events (start_with (opened_history object_slots r.ids r.opening) r.opening) (reopened (extended r w) new).events ≡ start_point new.journal
     point-reopened =
-        let p = start_with (opened_history 6 r.ids r.opening) r.opening in
+        let p = start_with (opened_history object_slots r.ids r.opening) r.opening in
         after_events-append p (extended r w).events (Reopened new.journal.history.ids new.journal.opening ∷ [])
         ∙ ap (λ (n : ℕ). start_with (opened_history n new.journal.history.ids new.journal.opening) new.journal.opening) (slots-after p (extended r w).events)
         ∙ ap (λ (h : History). start_with h new.journal.opening) (sym (opened-as new again.just))
@@ -296,7 +297,7 @@ module _ {D : Type 0} (content : D → Area → Option (List ℕ)) (r : Run) (v 
   end-standing : end_of v.journal.history ≡ start_of v.journal.history
   end-standing = ap (moment_after (start_of v.journal.history)) stands.just.entries
 
-  pub exit-standing : (may_leave : D → Area → List ℕ → Type 0) (disk : D) → EachImage may_leave disk (OpensAfter 6 (history_of v)) → Tell content → EachImage may_leave disk (OpensAfter 6 (run_history r))
+  pub exit-standing : (may_leave : D → Area → List ℕ → Type 0) (disk : D) → EachImage may_leave disk (OpensAfter object_slots (history_of v)) → Tell content → EachImage may_leave disk (OpensAfter object_slots (run_history r))
   exit-standing may_leave disk opens tell image is =
       let after = opens image is in
       let same : end_of (history_of v) ≡ end_of (run_history r) = ap end_of (history-running v stands.just.running) ∙ end-standing ∙ sym (stands.moment tell) in

@@ -28,41 +28,42 @@ use Rattle.shared_store.specs.Passes.{Known}
 use Rattle.brahma_shell.specs.Running.{OnlyPeeks, HasSeen, HasSeenLive}
 use Rattle.brahma_shell.proofs.FirstLemmas.{AreFirst, first-stored}
 use Rattle.brahma_shell.proofs.RestingLemmas.{running-notes}
+use Rattle.script_lines.specs.Numbers.{object_slots}
 
 -- ---- looks, one after another
 
-pub peeks-none : (v : Known 6) → OnlyPeeks v v
+pub peeks-none : (v : Known object_slots) → OnlyPeeks v v
 peeks-none v = record { station = refl; fixed = refl; entries = refl; more = []; peeks = sym (append-nil v.knowledge.peeks) }
 
-pub peeks-more : (u v w : Known 6) → OnlyPeeks u v → OnlyPeeks v w → OnlyPeeks u w
+pub peeks-more : (u v w : Known object_slots) → OnlyPeeks u v → OnlyPeeks v w → OnlyPeeks u w
 peeks-more u v w p q = record {
   station = q.station ∙ p.station;
   fixed = q.fixed ∙ p.fixed;
   entries = q.entries ∙ p.entries;
   more = p.more ++ q.more;
-  peeks = q.peeks ∙ ap (λ (xs : List (ℕ × ℕ × Frame 6)). xs ++ q.more) p.peeks ∙ append_assoc u.knowledge.peeks p.more q.more;
+  peeks = q.peeks ∙ ap (λ (xs : List (ℕ × ℕ × Frame object_slots)). xs ++ q.more) p.peeks ∙ append_assoc u.knowledge.peeks p.more q.more;
 }
 
 -- what was seen is kept
-seen-kept : (v w : Known 6) (id : ℕ) (live : Bool) → OnlyPeeks v w → HasSeen v id live → HasSeen w id live
+seen-kept : (v w : Known object_slots) (id : ℕ) (live : Bool) → OnlyPeeks v w → HasSeen v id live → HasSeen w id live
 seen-kept v w id live p s = record {
   before = s.before;
   behind = s.behind ++ p.more;
   seen = s.seen;
   frame = s.frame;
-  kept = p.peeks ∙ ap (λ (xs : List (ℕ × ℕ × Frame 6)). xs ++ p.more) s.kept ∙ append_assoc s.before ((page_of_id id, s.seen, s.frame) ∷ s.behind) p.more;
+  kept = p.peeks ∙ ap (λ (xs : List (ℕ × ℕ × Frame object_slots)). xs ++ p.more) s.kept ∙ append_assoc s.before ((page_of_id id, s.seen, s.frame) ∷ s.behind) p.more;
   latest = subst (LieBelow s.seen) (sym p.entries) s.latest;
   cell = s.cell;
   found = s.found;
   told = s.told;
 }
 
-all-kept : (v w : Known 6) (n : ℕ) (live : List ℕ) → OnlyPeeks v w → HasSeenLive v n live → HasSeenLive w n live
+all-kept : (v w : Known object_slots) (n : ℕ) (live : List ℕ) → OnlyPeeks v w → HasSeenLive v n live → HasSeenLive w n live
 all-kept v w zero live p s = s
 all-kept v w (suc n) live p s = (s.0, s.1, s.2, seen-kept v w (suc n) s.1 p s.3, all-kept v w n s.0 p s.4)
 
 -- one id more
-pub seen-more : (v w : Known 6) (n id : ℕ) (is : Bool) (before live : List ℕ) → id ≡ n + 1 → OnlyPeeks v w → HasSeenLive v n before → HasSeen w id is → live ≡ before ++ (if is then id ∷ [] else []) → HasSeenLive w (n + 1) live
+pub seen-more : (v w : Known object_slots) (n id : ℕ) (is : Bool) (before live : List ℕ) → id ≡ n + 1 → OnlyPeeks v w → HasSeenLive v n before → HasSeen w id is → live ≡ before ++ (if is then id ∷ [] else []) → HasSeenLive w (n + 1) live
 seen-more v w n id is before live e p s now all =
     let next : n + 1 ≡ suc n = omega arith in
     let same : id ≡ suc n = omega (arith, e) in
@@ -71,22 +72,22 @@ seen-more v w n id is before live e p s now all =
 
 -- ---- one look
 
-pub look-only : (old new : Known 6) (page seen : ℕ) (frame : Frame 6) → new ≡ page_dropped (loaded (page_claimed old page frame) seen) page → OnlyPeeks old new
+pub look-only : (old new : Known object_slots) (page seen : ℕ) (frame : Frame object_slots) → new ≡ page_dropped (loaded (page_claimed old page frame) seen) page → OnlyPeeks old new
 look-only old new page seen frame e = subst (OnlyPeeks old) (sym e) (record { station = refl; fixed = refl; entries = refl; more = peeked seen ((page, frame) ∷ old.hands.pages); peeks = refl })
 
-pub look-seen : (old new : Known 6) (id seen : ℕ) (frame : Frame 6) (cell : Cell 6) → new ≡ page_dropped (loaded (page_claimed old (page_of_id id) frame) seen) (page_of_id id) → slice_index_or frame.page (place_of id) cell ≡ cell → LieBelow seen old.knowledge.entries → HasSeen new id cell.live
+pub look-seen : (old new : Known object_slots) (id seen : ℕ) (frame : Frame object_slots) (cell : Cell object_slots) → new ≡ page_dropped (loaded (page_claimed old (page_of_id id) frame) seen) (page_of_id id) → slice_index_or frame.page (place_of id) cell ≡ cell → LieBelow seen old.knowledge.entries → HasSeen new id cell.live
 look-seen old new id seen frame cell e found low =
-    subst (λ (k : Known 6). HasSeen k id cell.live) (sym e)
+    subst (λ (k : Known object_slots). HasSeen k id cell.live) (sym e)
     (record { before = old.knowledge.peeks; behind = peeked seen old.hands.pages; seen = seen; frame = frame; kept = refl; latest = low; cell = cell; found = found; told = refl })
 
 -- the pass is alone still
-pub alone-still : (old new : Known 6) → OnlyPeeks old new → IsAlone old → IsAlone new
+pub alone-still : (old new : Known object_slots) → OnlyPeeks old new → IsAlone old → IsAlone new
 alone-still old new p alone = subst (λ (s : Station). (s.main ≡ true) × (s.others ≡ 0)) (sym p.station) alone
 
 -- ---- what one look tells of the last journal
 
 -- a look that is kept is so
-look-at : (D : Type 0) (x : Origin) (log : List Note) (before behind : List (ℕ × ℕ × Frame 6)) (y : ℕ × ℕ × Frame 6) → AreSeen (account D 6) x log (before ++ y ∷ behind) → (y.1 ≤ length log) × (y.2 ≡ frame_after 6 x (take y.1 log) y.0)
+look-at : (D : Type 0) (x : Origin) (log : List Note) (before behind : List (ℕ × ℕ × Frame object_slots)) (y : ℕ × ℕ × Frame object_slots) → AreSeen (account D object_slots) x log (before ++ y ∷ behind) → (y.1 ≤ length log) × (y.2 ≡ frame_after object_slots x (take y.1 log) y.0)
 look-at D x log [] behind y h = (h.0, h.1)
 look-at D x log (z ∷ before) behind y h = look-at D x log before behind y h.2
 
@@ -108,34 +109,34 @@ latest n log kept each low =
     (cases_lt n (length log))
 
 -- the cell of the id in the page as the frame has it
-live-in_page : (cells : List StoredCell) (page place : ℕ) (cell : Cell 6) → place < 8 → slice_index_or (page_in 6 cells page) place cell ≡ cell → cell.live ≡ is_live cells (first_id page + place)
-live-in_page cells page zero cell low e = ap (λ (c : Cell 6). c.live) (sym e)
-live-in_page cells page (suc zero) cell low e = ap (λ (c : Cell 6). c.live) (sym e)
-live-in_page cells page (suc (suc zero)) cell low e = ap (λ (c : Cell 6). c.live) (sym e)
-live-in_page cells page (suc (suc (suc zero))) cell low e = ap (λ (c : Cell 6). c.live) (sym e)
-live-in_page cells page (suc (suc (suc (suc zero)))) cell low e = ap (λ (c : Cell 6). c.live) (sym e)
-live-in_page cells page (suc (suc (suc (suc (suc zero))))) cell low e = ap (λ (c : Cell 6). c.live) (sym e)
-live-in_page cells page (suc (suc (suc (suc (suc (suc zero)))))) cell low e = ap (λ (c : Cell 6). c.live) (sym e)
-live-in_page cells page (suc (suc (suc (suc (suc (suc (suc zero))))))) cell low e = ap (λ (c : Cell 6). c.live) (sym e)
+live-in_page : (cells : List StoredCell) (page place : ℕ) (cell : Cell object_slots) → place < 8 → slice_index_or (page_in object_slots cells page) place cell ≡ cell → cell.live ≡ is_live cells (first_id page + place)
+live-in_page cells page zero cell low e = ap (λ (c : Cell object_slots). c.live) (sym e)
+live-in_page cells page (suc zero) cell low e = ap (λ (c : Cell object_slots). c.live) (sym e)
+live-in_page cells page (suc (suc zero)) cell low e = ap (λ (c : Cell object_slots). c.live) (sym e)
+live-in_page cells page (suc (suc (suc zero))) cell low e = ap (λ (c : Cell object_slots). c.live) (sym e)
+live-in_page cells page (suc (suc (suc (suc zero)))) cell low e = ap (λ (c : Cell object_slots). c.live) (sym e)
+live-in_page cells page (suc (suc (suc (suc (suc zero))))) cell low e = ap (λ (c : Cell object_slots). c.live) (sym e)
+live-in_page cells page (suc (suc (suc (suc (suc (suc zero)))))) cell low e = ap (λ (c : Cell object_slots). c.live) (sym e)
+live-in_page cells page (suc (suc (suc (suc (suc (suc (suc zero))))))) cell low e = ap (λ (c : Cell object_slots). c.live) (sym e)
 live-in_page cells page (suc (suc (suc (suc (suc (suc (suc (suc n)))))))) cell low e = absurd (omega (arith, low))
 
 -- where the cell of an id stands
 cell-place : (id : ℕ) → 1 ≤ id → (first_id (page_of_id id) + place_of id ≡ id) × (place_of id < 8)
 cell-place id some = (omega (arith, some), omega arith)
 
-module _ {D : Type 0} (w : LoggedView D) (new : Known 6) (frames : List (Frame 6)) (whole : IsWhole (account D 6) new w frames) (running : w.failed ≡ None) (slots : w.journal.history.slots ≡ 6) where
+module _ {D : Type 0} (w : LoggedView D) (new : Known object_slots) (frames : List (Frame object_slots)) (whole : IsWhole (account D object_slots) new w frames) (running : w.failed ≡ None) (slots : w.journal.history.slots ≡ object_slots) where
   live-told : (id : ℕ) (live : Bool) → 1 ≤ id → HasSeen new id live → live ≡ is_live (cells_of w.journal) id
   live-told id live some s =
       let log = notes_of w in
-      let y : ℕ × ℕ × Frame 6 = (page_of_id id, s.seen, s.frame) in
-      let look = look-at D (origin_of w) log s.before s.behind y (subst (AreSeen (account D 6) (origin_of w) log) s.kept whole.later.peeks) in
+      let y : ℕ × ℕ × Frame object_slots = (page_of_id id, s.seen, s.frame) in
+      let look = look-at D (origin_of w) log s.before s.behind y (subst (AreSeen (account D object_slots) (origin_of w) log) s.kept whole.later.peeks) in
       let all : take s.seen log ≡ log = take_all s.seen log (latest s.seen log new.knowledge.entries whole.once s.latest) in
-      let notes : cells_after_notes 6 w.journal.opening (take s.seen log) ≡ cells_of w.journal =
-      ap (cells_after_notes 6 w.journal.opening) (all ∙ running-notes w running) ∙ ap (λ (n : ℕ). cells_after_notes n w.journal.opening w.journal.notes) (sym slots) in
-      let page : s.frame.page ≡ page_in 6 (cells_of w.journal) (page_of_id id) = ap (λ (f : Frame 6). f.page) look.1 ∙ ap (λ (cells : List StoredCell). page_in 6 cells (page_of_id id)) notes in
+      let notes : cells_after_notes object_slots w.journal.opening (take s.seen log) ≡ cells_of w.journal =
+      ap (cells_after_notes object_slots w.journal.opening) (all ∙ running-notes w running) ∙ ap (λ (n : ℕ). cells_after_notes n w.journal.opening w.journal.notes) (sym slots) in
+      let page : s.frame.page ≡ page_in object_slots (cells_of w.journal) (page_of_id id) = ap (λ (f : Frame object_slots). f.page) look.1 ∙ ap (λ (cells : List StoredCell). page_in object_slots cells (page_of_id id)) notes in
       let at = cell-place id some in
       sym s.told
-      ∙ live-in_page (cells_of w.journal) (page_of_id id) (place_of id) s.cell at.1 (ap (λ (cs : List (Cell 6)). slice_index_or cs (place_of id) s.cell) (sym page) ∙ s.found)
+      ∙ live-in_page (cells_of w.journal) (page_of_id id) (place_of id) s.cell at.1 (ap (λ (cs : List (Cell object_slots)). slice_index_or cs (place_of id) s.cell) (sym page) ∙ s.found)
       ∙ ap (is_live (cells_of w.journal)) at.0
 
   -- of the first n ids just these are live

@@ -1,5 +1,5 @@
 -- What a step of the collector is to the journal.
-use Rattle.std.proofs.Common.{◌≡◌, ℕ, ◌<◌, Bool, true, false, List, [], ◌∷◌, Option, Some, None, refl, sym, ap, subst, ◌∙◌}
+use Rattle.std.proofs.Common.{◌≡◌, ◌≢◌, ℕ, ◌<◌, Bool, true, false, List, [], ◌∷◌, Option, Some, None, refl, sym, ap, subst, ◌∙◌}
 use Rattle.plain_model.specs.declared.calls.Entry.{Entry}
 use Rattle.plain_model.specs.declared.calls.Entry.TheVariants.{Hidden}
 use Rattle.store_model.specs.Core.{Round, Core}
@@ -21,6 +21,7 @@ use Rattle.brahma_shell.specs.Growth.{Grows, GrowsBy, GrowsByEvent, BecomesFull}
 use Rattle.brahma_shell.proofs.GrowthLemmas.{Grows-trans, Grows-point}
 use Rattle.brahma_shell.proofs.PointLemmas.{may_rest, none_left, left_of_point}
 use Rattle.brahma_shell.proofs.StoreLemmas.{looked, marked-full}
+use Rattle.script_lines.specs.Numbers.{object_slots}
 
 -- ---- what the answer tells
 
@@ -48,21 +49,32 @@ pop-closed slots c (act.Start x) None queue round h e = h.none
 pop-closed slots c (act.Start x) (Some r) queue round h e = absurd h
 pop-closed slots c _ logged queue round h e = absurd (cc)
 
+-- what is no event of the collector makes nothing of them
+never-other : (slots : ℕ) (c : Core) (a : Act) (logged : Option CellRecord) (queue : List ℕ) (round : Option Round) → Collects slots c a logged queue round → a ≢ act.Other
+never-other slots c (act.Skip x) logged queue round h e = cc (e)
+never-other slots c (act.Start x) logged queue round h e = cc (e)
+never-other slots c (act.Scan x) logged queue round h e = cc (e)
+never-other slots c act.Judge logged queue round h e = cc (e)
+never-other slots c act.End logged queue round h e = cc (e)
+never-other slots c act.Change logged queue round h e = cc (e)
+never-other slots c act.Other logged queue round h e = h
+
 -- ---- what the step is to the journal before the collector looked
 
 -- an event
-pub grows-event : (i j k : JournalView) (r : Collect) (popped : Bool) (left : ℕ) (e : Entry) → j ≡ record i { round = j.round } → (m : MakesEvent 6 j k r) → k.opening ≡ j.opening → k.limits ≡ j.limits
-    → AreLed 6 (opening_of j) j.notes (core_of j) → entry_of m.logged ≡ e → is_pop m.event ≡ popped → left_of 6 k.round ≡ left → (popped ≡ false → left < last_left j.notes) → GrowsByEvent i k popped left e
+pub grows-event : (i j k : JournalView) (r : Collect) (popped : Bool) (left : ℕ) (e : Entry) → j ≡ record i { round = j.round } → (m : MakesEvent object_slots j k r) → k.opening ≡ j.opening → k.limits ≡ j.limits
+    → AreLed object_slots (opening_of j) j.notes (core_of j) → entry_of m.logged ≡ e → is_pop m.event ≡ popped → left_of object_slots k.round ≡ left → (popped ≡ false → left < last_left j.notes) → GrowsByEvent i k popped left e
 grows-event i j k r popped left e same m opening limits led entry pop told lower =
     let notes : last_left j.notes ≡ last_left i.notes = ap (λ (x : JournalView). last_left x.notes) same in
     record {
-      note = record { entry = entry_of m.logged; logged = m.logged; left = left_of 6 k.round; act = m.event };
+      note = record { entry = entry_of m.logged; logged = m.logged; left = left_of object_slots k.round; act = m.event };
       entry = entry;
+      act = never-other object_slots (core_of j) m.event m.logged k.queue (core_of k).round m.collects;
       pop = pop;
       told = told;
-      grows = Grows-trans i j k [] (record { entry = entry_of m.logged; logged = m.logged; left = left_of 6 k.round; act = m.event } ∷ []) (looked i j same) (record { notes = m.noted; history = m.entry; opening = opening; limits = limits });
+      grows = Grows-trans i j k [] (record { entry = entry_of m.logged; logged = m.logged; left = left_of object_slots k.round; act = m.event } ∷ []) (looked i j same) (record { notes = m.noted; history = m.entry; opening = opening; limits = limits });
       unmarked = m.marks ∙ ap (λ (x : JournalView). x.marks) same;
-      opens = λ p. sym notes ∙ sym (left_of_point j) ∙ none_left 6 j led (pop-closed 6 (core_of j) m.event m.logged k.queue (core_of k).round m.collects (pop ∙ p));
+      opens = λ p. sym notes ∙ sym (left_of_point j) ∙ none_left object_slots j led (pop-closed object_slots (core_of j) m.event m.logged k.queue (core_of k).round m.collects (pop ∙ p));
       lower = λ p. subst (λ (n : ℕ). left < n) notes (lower p);
     }
 
@@ -71,10 +83,10 @@ pub nothing : (i j k : JournalView) → j ≡ record i { round = j.round } → k
 nothing i j k same none = record { more = []; entries = refl; grows = subst (λ (x : JournalView). Grows i x []) (sym none) (looked i j same); unmarked = ap (λ (x : JournalView). x.marks) none ∙ ap (λ (x : JournalView). x.marks) same }
 
 -- nothing, and the collector may rest
-pub rests : (i j k : JournalView) → j ≡ record i { round = j.round } → k ≡ j → i.history.slots ≡ 6 → IsSound (core_of j) → AreLed 6 (opening_of j) j.notes (core_of j) → j.queue ≡ [] → j.round ≡ Closed → GrowsBy i k [] × MayRest (point_of i)
+pub rests : (i j k : JournalView) → j ≡ record i { round = j.round } → k ≡ j → i.history.slots ≡ object_slots → IsSound (core_of j) → AreLed object_slots (opening_of j) j.notes (core_of j) → j.queue ≡ [] → j.round ≡ Closed → GrowsBy i k [] × MayRest (point_of i)
 rests i j k same none size sound led empty closed =
-    let slots : j.history.slots ≡ 6 = ap (λ (x : JournalView). x.history.slots) same ∙ size in
-    (nothing i j k same none, subst MayRest (Grows-point i j [] (looked i j same)) (may_rest 6 j slots sound led empty closed))
+    let slots : j.history.slots ≡ object_slots = ap (λ (x : JournalView). x.history.slots) same ∙ size in
+    (nothing i j k same none, subst MayRest (Grows-point i j [] (looked i j same)) (may_rest object_slots j slots sound led empty closed))
 
 -- nothing, since the history is full
 pub full : (i j k : JournalView) → j ≡ record i { round = j.round } → k ≡ record j { marks = record j.marks { trace = true } } → BecomesFull i k

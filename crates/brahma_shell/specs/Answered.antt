@@ -3,11 +3,12 @@ use Rattle.std.specs.Prelude.{◌≡◌, ◌⊎◌, ◌*◌, ℕ, List, [], Opti
 use Rattle.disk_model.specs.declared.area.Area.{Area}
 use Rattle.disk_model.specs.Areas.{Bytes}
 use Rattle.disk_model.specs.Causes.{Rose}
-use Rattle.opened_store.specs.Unopened.{OnlyLooksUnlessOpen, DoesNotOpen}
+use Rattle.opened_store.specs.Unopened.{DoesNotOpen}
+use Rattle.store_opening.specs.Looks.{IsLookedAt}
 use Rattle.store_opening.specs.Store.{Reads}
 use Rattle.logged_journal.specs.View.{LoggedView}
 use Rattle.brahma_shell.specs.declared.commands.Command.{Command}
-use Rattle.brahma_shell.specs.declared.commands.Command.TheVariants.{Init, Replay, Run, Gen, Audit}
+use Rattle.brahma_shell.specs.declared.commands.Command.TheVariants.{Init, Replay, Run, Gen, Audit, ParAudit, Migrate}
 use Rattle.brahma_shell.specs.declared.ended.Ended.{Ended}
 use Rattle.brahma_shell.specs.declared.ended.Ended.TheVariants.{Shut, Kept}
 use Rattle.gen_options.specs.declared.reading.Asked.{Asked}
@@ -16,20 +17,29 @@ use Rattle.brahma_shell.specs.Ended.{disk_in}
 use Rattle.brahma_shell.specs.Top.{Tell, IsStatus, GoesLater, IsDoneOrFull, HasOnlyLines, Outside, Ends, Unopened, Replayed, Audited, Made, Generated, AlwaysOpens}
 use Rattle.brahma_shell.specs.ClientLines.{HasOnlyClients}
 use Rattle.brahma_shell.specs.Ran.{Ran}
+use Rattle.brahma_shell.specs.Migrated.{AlwaysOpensAtEither, Migrated, Unmigrated}
+use Rattle.brahma_shell.specs.ParAudited.{ParAudited}
+use Rattle.script_lines.specs.Numbers.{object_slots}
 
 -- words that open the store
 abbrev pub AskStore : List (List ℕ) → Type 0
-AskStore words = (command_of words ≡ Some Replay) ⊎ ((command_of words ≡ Some Run) ⊎ ((command_of words ≡ Some Audit) ⊎ ((asked : Asked) × (command_of words ≡ Some (Gen asked)))))
+AskStore words = (command_of words ≡ Some Replay) ⊎ ((command_of words ≡ Some Run) ⊎ ((command_of words ≡ Some Audit) ⊎ (((pieces : ℕ) × (command_of words ≡ Some (ParAudit pieces))) ⊎ ((asked : Asked) × (command_of words ≡ Some (Gen asked))))))
+
+-- the image opens to no store for what the words ask: not at fourteen slots, nor, where they ask for a migration, at six
+abbrev pub DoesNotOpenFor : List (List ℕ) → Bytes → Type 0
+DoesNotOpenFor words image = DoesNotOpen object_slots image × (command_of words ≡ Some Migrate → DoesNotOpen 6 image)
 
 -- a command can be done with what it finds: it makes a store; or it finds one that opens, whatever a power loss leaves, and a
 -- replay's lines are in the grammar, within the limits, and name no page but one of that store, or those of a run are a script of
--- clients
+-- clients; for a migration the store may open at six slots
 abbrev pub CanBeDone : {D : Type 0} → (D → Area → List ℕ → Type 0) → D → Option (List ℕ) → Command → Type 0
 CanBeDone may_leave disk left (Init pages) = ⊤
 CanBeDone may_leave disk left Replay = (ids : ℕ) × AlwaysOpens may_leave ids disk × HasOnlyLines ids left
 CanBeDone may_leave disk left Run = (ids : ℕ) × AlwaysOpens may_leave ids disk × HasOnlyClients ids left
 CanBeDone may_leave disk left (Gen asked) = (ids : ℕ) × AlwaysOpens may_leave ids disk
 CanBeDone may_leave disk left Audit = (ids : ℕ) × AlwaysOpens may_leave ids disk
+CanBeDone may_leave disk left (ParAudit pieces) = (ids : ℕ) × AlwaysOpens may_leave ids disk
+CanBeDone may_leave disk left Migrate = (ids : ℕ) × AlwaysOpensAtEither may_leave ids disk
 
 -- there was no memory to read the options of `gen`: nothing is read, and the disk is asked for nothing
 pub record Starves {S D : Type 0} (words : List (List ℕ)) (script later : S) (disk : D) (before after : Outside) (status : ℕ) (ended : Ended D) : Type 0 where
@@ -48,7 +58,8 @@ pub record Answered {S D : Type 0} (content : D → Area → Option (List ℕ)) 
   pub goes_later : GoesLater before after
   -- where the disk holds no store that opens, and none is made, the disk is only looked at: each image, at each moment and at the
   -- exit, is one from before
-  pub only_looks : ((pages : ℕ) → command_of words ≡ Some (Init pages) → ⊥) → OnlyLooksUnlessOpen content may_leave moment left_since 6 disk (disk_in ended)
+  pub only_looks : ((pages : ℕ) → command_of words ≡ Some (Init pages) → ⊥) → (image : Bytes) → Reads content disk image → DoesNotOpenFor words image
+      → IsLookedAt content may_leave moment left_since disk (disk_in ended)
   -- words without a reading: nothing is read, and the disk is asked for nothing
   pub unread : status ≡ 2 → (later ≡ script) × (ended ≡ Shut disk) × Ends before after [] (codes "usage\n")
   pub made : (pages : ℕ) → command_of words ≡ Some (Init pages) → (later ≡ script) × Made may_leave moment left_since disk pages before after status ended
@@ -58,18 +69,28 @@ pub record Answered {S D : Type 0} (content : D → Area → Option (List ℕ)) 
       ⊎ ((v : LoggedView D) × (ended ≡ Kept v) × Ran content may_leave disk before after status v)
   pub audited : command_of words ≡ Some Audit → (later ≡ script) × (Unopened content may_leave moment left_since disk before after status ended
       ⊎ Audited content may_leave disk before after status ended)
+  pub par_audited : (pieces : ℕ) → command_of words ≡ Some (ParAudit pieces) → (later ≡ script) × (Unopened content may_leave moment left_since disk before after status ended
+      ⊎ ParAudited content may_leave disk before after status ended)
   pub generated : (asked : Asked) → command_of words ≡ Some (Gen asked) → (later ≡ script) × (Unopened content may_leave moment left_since disk before after status ended
       ⊎ ((v : LoggedView D) × (ended ≡ Kept v) × Generated content may_leave asked disk before after status v))
+  pub migrated : command_of words ≡ Some Migrate → (later ≡ script) × (Unmigrated content may_leave moment left_since disk before after status ended
+      ⊎ Migrated content may_leave moment left_since disk before after status ended)
   -- a store that was made opens, whatever a power loss leaves
   pub makes_open : (pages : ℕ) → command_of words ≡ Some (Init pages) → (status ≡ 6 → ⊥) → AlwaysOpens may_leave (8 * pages) (disk_in ended)
   -- and on a disk that tells what it reads it goes on to open so, with as many ids, behind each command that makes none, at every
   -- status
   pub stays_open : Tell content → (ids : ℕ) → AlwaysOpens may_leave ids disk → ((pages : ℕ) → command_of words ≡ Some (Init pages) → ⊥) → AlwaysOpens may_leave ids (disk_in ended)
+  -- one that opens at six slots or at fourteen goes on to open at either so
+  pub stays_either : Tell content → (ids : ℕ) → AlwaysOpensAtEither may_leave ids disk → ((pages : ℕ) → command_of words ≡ Some (Init pages) → ⊥) → AlwaysOpensAtEither may_leave ids (disk_in ended)
+  -- and once a migration did all but tell it, at fourteen
+  pub migrates : Tell content → (ids : ℕ) → AlwaysOpensAtEither may_leave ids disk → command_of words ≡ Some Migrate → (status ≡ 0) ⊎ (status ≡ 5) → AlwaysOpens may_leave ids (disk_in ended)
   -- what can be done is done where no call of a stream or of the disk failed, unless memory is out, or the history or the log is
   -- full
   pub complete : Tell content → (command : Command) → command_of words ≡ Some command → CanBeDone may_leave disk before.left command
       → ¬ Rose before.read_faults after.read_faults → ¬ Rose before.write_faults after.write_faults → ¬ Rose before.disk_faults after.disk_faults → IsDoneOrFull status
   -- where what the disk reads doesn't open, the store isn't opened
-  pub refuses : (image : Bytes) → Reads content disk image → DoesNotOpen 6 image → AskStore words → Unopened content may_leave moment left_since disk before after status ended
+  pub refuses : (image : Bytes) → Reads content disk image → DoesNotOpen object_slots image → AskStore words → Unopened content may_leave moment left_since disk before after status ended
+  -- nor is it migrated where it opens at neither number of slots
+  pub refuses_to_migrate : (image : Bytes) → Reads content disk image → DoesNotOpenFor words image → command_of words ≡ Some Migrate → Unmigrated content may_leave moment left_since disk before after status ended
   -- and only there it is refused, where the disk tells what it reads
-  pub only_refused : Tell content → status ≡ 7 → (image : Bytes) → Reads content disk image → DoesNotOpen 6 image
+  pub only_refused : Tell content → status ≡ 7 → (image : Bytes) → Reads content disk image → DoesNotOpenFor words image

@@ -3,7 +3,7 @@ use Rattle.std.specs.Prelude.{◌≡◌, ℕ, if◌then◌else◌, List, [], ◌
 use Rattle.script_lines.specs.Numbers.{pages_of}
 use Rattle.gen_options.specs.Options.{asked_of}
 use Rattle.brahma_shell.specs.declared.commands.Command.{Command}
-use Rattle.brahma_shell.specs.declared.commands.Command.TheVariants.{Init, Replay, Run, Gen, Audit}
+use Rattle.brahma_shell.specs.declared.commands.Command.TheVariants.{Init, Replay, Run, Gen, Audit, ParAudit, Migrate}
 
 -- the command that one word names
 abbrev pub command_of_word : List ℕ → Option Command
@@ -11,11 +11,15 @@ command_of_word word =
     if bytes_eq word (codes "replay") then Some Replay
     else if bytes_eq word (codes "run") then Some Run
     else if bytes_eq word (codes "audit") then Some Audit
+    else if bytes_eq word (codes "migrate") then Some Migrate
     else None
 
 -- the command that one word names with a number behind it
 abbrev pub command_of_two : List ℕ → List ℕ → Option Command
-command_of_two word number = if bytes_eq word (codes "init") then option_map Init (pages_of number) else None
+command_of_two word number =
+    if bytes_eq word (codes "init") then option_map Init (pages_of number)
+    else if bytes_eq word (codes "paudit") then option_map ParAudit (pages_of number)
+    else None
 
 -- the command that one word names with more than one behind it
 abbrev pub command_of_more : List ℕ → List (List ℕ) → Option Command

@@ -15,6 +15,7 @@ use Rattle.script_lines.specs.Output.{AppendsFront, EndsWith, open_refusal_line}
 use Rattle.brahma_shell.specs.declared.ended.Ended.{Ended}
 use Rattle.brahma_shell.specs.declared.ended.Ended.TheVariants.{Shut, Kept}
 use Rattle.brahma_shell.specs.Top.{Tell, IsJustOpened, IsOfReplay, status_of_refusal}
+use Rattle.script_lines.specs.Numbers.{object_slots}
 
 -- the line of a store that is opened again
 abbrev pub reopened_line : {D : Type 0} → LoggedView D → List ℕ
@@ -37,7 +38,7 @@ pub record StaysShut {D : Type 0} (content : D → Area → Option (List ℕ)) (
   pub failed : refusal ≡ Disk → Rose (faults old.disk) (faults disk)
   pub later : faults old.disk ≤ faults disk
   pub only_untold : status ≡ 7 → Tell content → ⊥
-  pub opens : Tell content → EachImage may_leave disk (OpensAfter 6 (history_of old))
+  pub opens : Tell content → EachImage may_leave disk (OpensAfter object_slots (history_of old))
 
 -- how a loss of power stops a replay: the store isn't opened again, or the sink fails its line
 pub data StopsCrash {D : Type 0} (content : D → Area → Option (List ℕ)) (may_leave : D → Area → List ℕ → Type 0) (faults : D → ℕ) (old : LoggedView D) (before written : Option (List ℕ)) (first_faults faults_now status : ℕ) : Ended D → Type 0 where

@@ -1,13 +1,15 @@
 -- Which events follow the lines of a script, and how far a run has followed them.
-use Rattle.std.specs.Prelude.{◌≡◌, ℕ, ◌+◌, ◌≤◌, nat_lt, List, [], ◌∷◌, ◌++◌, length, replicate, count_by, Option, Some, None, IfSome, MatchBool, ⊤, ◌⊎◌}
+use Rattle.std.specs.Prelude.{◌≡◌, ◌≢◌, ℕ, ◌+◌, ◌≤◌, nat_lt, List, [], ◌∷◌, ◌++◌, length, replicate, count_by, Option, Some, None, IfSome, MatchBool, ⊤, ◌⊎◌}
 use Rattle.std.specs.List.{AllByRecursion}
 use Rattle.std.specs.Option.{option_map_or}
 use Rattle.plain_model.specs.declared.calls.Call.{Call as TransactionCall}
 use Rattle.plain_model.specs.declared.calls.Call.TheVariants as call
 use Rattle.plain_model.specs.declared.calls.Reply.{Reply}
+use Rattle.plain_model.specs.declared.calls.Reply.TheVariants.{DiskFault}
 use Rattle.plain_model.specs.declared.calls.Entry.{Entry}
 use Rattle.plain_model.specs.declared.calls.Entry.TheVariants as entry
 use Rattle.plain_model.specs.History.{Moment, left_to_undo, least_active}
+use Rattle.core_store.specs.declared.act.Act.TheVariants.{Other}
 use Rattle.core_store.specs.declared.note.Note.{Note}
 use Rattle.core_store.specs.Collecting.{is_pop}
 use Rattle.cell_model.specs.Cells.{Cell}
@@ -21,9 +23,9 @@ use Rattle.brahma_shell.specs.Runs.{Event, Reopened, noted, after_events, ids_at
 
 -- ---- the entries of a line
 
--- one entry, of this call; what is replied is for the history to say
+-- one entry, of this call; what is replied is for the history to say, but it is no fault of the disk
 abbrev pub IsCall : ℕ → TransactionCall → List Entry → Type 0
-IsCall client c es = (reply : Reply) × (es ≡ entry.Call client c reply ∷ [])
+IsCall client c es = (reply : Reply) × (es ≡ entry.Call client c reply ∷ []) × (reply ≢ DiskFault)
 
 -- an entry of the collector: something that no line tells, or a deletion
 abbrev pub IsOfCollector : Entry → Type 0
@@ -31,13 +33,18 @@ IsOfCollector entry.Hidden = Unit {0}
 IsOfCollector (entry.Delete id) = Unit {0}
 IsOfCollector _ = ⊥
 
+-- a note of the collector: it is of one of its events
+pub record IsNoteOfCollector (n : Note) : Type 0 where
+  pub entry : IsOfCollector n.entry
+  pub act : n.act ≢ Other
+
 -- notes of the collector
 abbrev pub AreOfCollector : List Note → Type 0
-AreOfCollector notes = AllByRecursion (λ n. IsOfCollector n.entry) notes
+AreOfCollector notes = AllByRecursion IsNoteOfCollector notes
 
--- one step of the collector: one entry, or none where it may rest
+-- one step of the collector: one note, or none where it may rest
 abbrev pub GivesStep : Point → List Note → Type 0
-GivesStep p notes = ((n : Note) × (notes ≡ n ∷ []) × IsOfCollector n.entry) ⊎ ((notes ≡ []) × MayRest p)
+GivesStep p notes = ((n : Note) × (notes ≡ n ∷ []) × IsNoteOfCollector n) ⊎ ((notes ≡ []) × MayRest p)
 
 -- steps of the collector until it may rest, or until no round is open and it has taken as many objects out of its queue as the
 -- store has ids
@@ -63,7 +70,7 @@ GivesUpkeep e notes = (n : Note) × (notes ≡ n ∷ []) × IsOfUpkeep e n
 abbrev pub Gives : Point → Line → List Note → Type 0
 Gives p Nothing notes = notes ≡ []
 Gives p (Ask client c) notes = IsCall client c (entries_in notes)
-Gives p (Abort client) notes = (reply : Reply) × (entries_in notes ≡ replicate (left_to_undo p.moment client) (entry.Undo client) ++ entry.Call client call.Abort reply ∷ [])
+Gives p (Abort client) notes = (reply : Reply) × (entries_in notes ≡ replicate (left_to_undo p.moment client) (entry.Undo client) ++ entry.Call client call.Abort reply ∷ []) × (reply ≢ DiskFault)
 Gives p (Undo client) notes = MatchBool (nat_lt 0 (left_to_undo p.moment client)) (entries_in notes ≡ entry.Undo client ∷ []) (IsCall client call.Abort (entries_in notes))
 Gives p CollectStep notes = GivesStep p notes
 Gives p CollectAll notes = GivesSteps p notes

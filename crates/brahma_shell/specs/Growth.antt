@@ -1,5 +1,5 @@
 -- How a journal grows.
-use Rattle.std.specs.Prelude.{◌≡◌, ℕ, ◌<◌, Bool, true, false, List, [], ◌∷◌, ◌++◌, None}
+use Rattle.std.specs.Prelude.{◌≡◌, ◌≢◌, ℕ, ◌<◌, Bool, true, false, List, [], ◌∷◌, ◌++◌, None}
 use Rattle.plain_model.specs.declared.calls.Entry.{Entry}
 use Rattle.core_store.specs.declared.act.Act.TheVariants.{Other}
 use Rattle.core_store.specs.declared.note.Note.{Note}
@@ -50,6 +50,7 @@ pub record GrowsByUpkeep (old new : JournalView) (e : Entry) : Type 0 where
 pub record GrowsByEvent (old new : JournalView) (popped : Bool) (left : ℕ) (e : Entry) : Type 0 where
   pub note : Note
   pub entry : note.entry ≡ e
+  pub act : note.act ≢ Other
   pub pop : is_pop note.act ≡ popped
   pub told : note.left ≡ left
   pub grows : Grows old new (note ∷ [])

@@ -4,7 +4,8 @@ use Rattle.disk_model.specs.Causes.{Rose}
 use Rattle.plain_model.specs.declared.calls.Call.TheVariants.{Commit}
 use Rattle.plain_model.specs.Machine.{refusal_of}
 use Rattle.plain_model.specs.History.{end_of}
-use Rattle.logged_journal.specs.View.{LoggedView}
+use Rattle.logged_journal.specs.View.{LoggedView, image_need}
+use Rattle.script_lines.specs.Numbers.{object_slots}
 
 -- the journal goes on: the disk failed no commit and no upkeep, and no call was answered that the log is full. The disk's count
 -- of faults doesn't fall
@@ -34,6 +35,6 @@ pub record LosesUpkeep {D : Type 0} (faults : D → ℕ) (old new : LoggedView D
   pub rose : Rose (faults old.disk) (faults new.disk)
   pub later : faults old.disk ≤ faults new.disk
 
--- after some call the bytes in use and owed came so near to the limit that 520 more would go past it
+-- after some call the bytes in use and owed came so near to the limit that those which a page needs to be cleaned would go past it
 abbrev pub WasLogFull : {D : Type 0} → LoggedView D → Type 0
-WasLogFull v = v.journal.limits.log < v.peak + 520
+WasLogFull v = v.journal.limits.log < v.peak + image_need object_slots

@@ -20,8 +20,9 @@ use Rattle.client_scripts.specs.Scripts.{AreScripts, AreOfLines}
 use Rattle.brahma_shell.specs.ClientLines.{ReadsAll, ReadsSome, Refuses, HasOnlyClients}
 use Rattle.brahma_shell.specs.Log.{WasLogFull}
 use Rattle.brahma_shell.specs.Points.{point_of, MayRest, IsExactAt}
-use Rattle.brahma_shell.specs.Telling.{history_text, ending_text}
+use Rattle.brahma_shell.specs.Telling.{history_text, ending_text, IsUnmarked}
 use Rattle.brahma_shell.specs.Top.{IsJustOpened, IsOfReplay, IsDoneOrFull, Outside, Ends}
+use Rattle.script_lines.specs.Numbers.{object_slots}
 
 -- ---- the clients
 
@@ -53,6 +54,12 @@ Did before after v = (asked : List Line) × ReadsAll v.journal.history.ids befor
 abbrev pub run_text : {D : Type 0} → LoggedView D → List ℕ
 run_text v = ending_text v (end_of (history_of v)).state.stored
 
+-- the sink failed: not all lines of the entries are printed; or all was done, and not all of the line of the stored ids is
+abbrev pub IsRunCutShort : {D : Type 0} → Outside → Outside → LoggedView D → Type 0
+IsRunCutShort before after v =
+    AppendsFront before.written after.written (history_text v)
+    ⊎ (Did before after v × IsUnmarked v × AppendsFront before.written after.written (run_text v))
+
 -- the history is full, or the log, and is marked so
 abbrev pub EndsFull : {D : Type 0} → Outside → Outside → LoggedView D → Type 0
 EndsFull before after v =
@@ -61,7 +68,7 @@ EndsFull before after v =
 
 -- a run of clients in the store that the disk held ended with this status, and left this journal
 pub record Ran {D : Type 0} (content : D → Area → Option (List ℕ)) (may_leave : D → Area → List ℕ → Type 0) (disk : D) (before after : Outside) (status : ℕ) (v : LoggedView D) : Type 0 where
-  pub opened : ReadsAs content 6 disk v.journal.opening
+  pub opened : ReadsAs content object_slots disk v.journal.opening
   -- there is a cell for each id, and one at 0
   pub size : v.journal.history.ids ≡ length v.journal.opening - 1
   -- the history is legal from there, and each image of the disk opens to a graph that a crash may leave
@@ -73,7 +80,7 @@ pub record Ran {D : Type 0} (content : D → Area → Option (List ℕ)) (may_le
   -- where a line is refused, or the source failed, nothing ran
   pub refused : status ≡ 3 → IsJustOpened v × (number : ℕ) × Refuses v.journal.history.ids before.left number × Ends before after [] (refused_line number)
   pub read : status ≡ 4 → IsJustOpened v × Rose before.read_faults after.read_faults × (asked : List Line) × ReadsSome v.journal.history.ids before.left after.left asked × Ends before after [] (codes "refused: read\n")
-  pub write : status ≡ 5 → Began before after v × Rose before.write_faults after.write_faults × AppendsFront before.written after.written (run_text v)
+  pub write : status ≡ 5 → Began before after v × Rose before.write_faults after.write_faults × IsRunCutShort before after v
   pub failed_disk : status ≡ 6 → Began before after v × IsSome v.failed × Rose before.disk_faults after.disk_faults × Ends before after (history_text v) (codes "refused: disk\n")
   pub memory : status ≡ 8 → (IsJustOpened v ⊎ Began before after v) × Ends before after (history_text v) (codes "refused: memory\n")
   pub limit : status ≡ 9 → Began before after v × EndsFull before after v

@@ -4,6 +4,7 @@ use Rattle.core_store.specs.JournalView.{JournalView, cells_of}
 use Rattle.core_store.specs.RoundView.{Closed}
 use Rattle.quiet_rounds.specs.Quiet.{IsQuietRound}
 use Rattle.brahma_shell.specs.Points.{point_of}
+use Rattle.script_lines.specs.Numbers.{object_slots}
 
 -- an event of the collector beside no active transaction, which took an object out of the queue or didn't
 pub record StaysQuiet (old new : JournalView) (popped : Bool) : Type 0 where
@@ -14,4 +15,4 @@ pub record StaysQuiet (old new : JournalView) (popped : Bool) : Type 0 where
   -- fewer objects wait in the queue than the store has ids
   pub few : length old.queue < old.history.ids
   -- a round that opened beside no active transaction stays so, no object joins the queue, and the one that is taken out leaves it
-  pub quiet : IsQuietRound 6 (cells_of old) old.round → IsQuietRound 6 (cells_of new) new.round × (length new.queue + (if popped then 1 else 0) ≤ length old.queue)
+  pub quiet : IsQuietRound object_slots (cells_of old) old.round → IsQuietRound object_slots (cells_of new) new.round × (length new.queue + (if popped then 1 else 0) ≤ length old.queue)

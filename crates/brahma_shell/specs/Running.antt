@@ -31,6 +31,7 @@ use Rattle.brahma_shell.specs.ClientLines.{ReadsAll}
 use Rattle.brahma_shell.specs.Log.{WasLogFull}
 use Rattle.brahma_shell.specs.Points.{entries_in}
 use Rattle.brahma_shell.specs.Telling.{IsUnmarked}
+use Rattle.script_lines.specs.Numbers.{object_slots}
 
 -- ---- why a run stopped
 
@@ -44,28 +45,28 @@ TellsStop v _ = ⊥
 -- ---- looks at cells
 
 -- the pass only looked at cells, and keeps that it did
-pub record OnlyPeeks (old new : Known 6) : Type 0 where
+pub record OnlyPeeks (old new : Known object_slots) : Type 0 where
   pub station : new.station ≡ old.station
   pub fixed : new.knowledge.fixed ≡ old.knowledge.fixed
   pub entries : new.knowledge.entries ≡ old.knowledge.entries
-  pub more : List (ℕ × ℕ × Frame 6)
+  pub more : List (ℕ × ℕ × Frame object_slots)
   pub peeks : new.knowledge.peeks ≡ old.knowledge.peeks ++ more
 
 -- the pass keeps a look at the frame in which the cell of this id stands: so the cell was, live or not, when the history had no
 -- entry that the pass doesn't keep
-pub record HasSeen (v : Known 6) (id : ℕ) (live : Bool) : Type 0 where
-  pub before : List (ℕ × ℕ × Frame 6)
-  pub behind : List (ℕ × ℕ × Frame 6)
+pub record HasSeen (v : Known object_slots) (id : ℕ) (live : Bool) : Type 0 where
+  pub before : List (ℕ × ℕ × Frame object_slots)
+  pub behind : List (ℕ × ℕ × Frame object_slots)
   pub seen : ℕ
-  pub frame : Frame 6
+  pub frame : Frame object_slots
   pub kept : v.knowledge.peeks ≡ before ++ (page_of_id id, seen, frame) ∷ behind
   pub latest : LieBelow seen v.knowledge.entries
-  pub cell : Cell 6
+  pub cell : Cell object_slots
   pub found : slice_index_or frame.page (place_of id) cell ≡ cell
   pub told : cell.live ≡ live
 
 -- so of each of the first n ids, of which these were live
-abbrev pub HasSeenLive : Known 6 → ℕ → List ℕ → Type 0
+abbrev pub HasSeenLive : Known object_slots → ℕ → List ℕ → Type 0
 HasSeenLive v zero live = live ≡ []
 HasSeenLive v (suc n) live = (before : List ℕ) × (is : Bool) × (live ≡ before ++ (if is then suc n ∷ [] else [])) × HasSeen v (suc n) is × HasSeenLive v n before
 
@@ -73,16 +74,16 @@ HasSeenLive v (suc n) live = (before : List ℕ) × (is : Bool) × (live ≡ bef
 
 -- The clients ran. Where these ids are found to be stored, all was done, the collector had nothing left to do, and behind it the
 -- pass saw the cells of all ids, of which just these were live
-pub record HasRun (D : Type 0) (old new : Known 6) (scripts : List ClientScript) (ids : ℕ) (stored : Option (List ℕ)) : Type 0 where
+pub record HasRun (D : Type 0) (old new : Known object_slots) (scripts : List ClientScript) (ids : ℕ) (stored : Option (List ℕ)) : Type 0 where
   pub end : WorkEnd
-  pub behind : Known 6
+  pub behind : Known object_slots
   pub runs : RunsScripts old behind scripts end
   pub only : OnlyPeeks behind new
-  pub finished : IfSome stored (λ live. (end ≡ Finished) × IsCollected D 6 behind × HasSeenLive new ids live)
+  pub finished : IfSome stored (λ live. (end ≡ Finished) × IsCollected D object_slots behind × HasSeenLive new ids live)
 
 -- the store of this journal was opened from what the disk read, and the whole source asks these scripts
 pub record HasAsked {D : Type 0} (content : D → Area → Option (List ℕ)) (disk : D) (left later : Option (List ℕ)) (asked : List Line) (v : LoggedView D) (scripts : List ClientScript) : Type 0 where
-  pub opened : ReadsAs content 6 disk v.journal.opening
+  pub opened : ReadsAs content object_slots disk v.journal.opening
   pub read : ReadsAll v.journal.history.ids left later asked
   pub of_lines : AreOfLines asked scripts
 
@@ -90,17 +91,17 @@ pub record HasAsked {D : Type 0} (content : D → Area → Option (List ℕ)) (d
 
 -- what every journal keeps of its history, of its cells, of its marks and of its disk
 pub record HoldsNow {D : Type 0} (may_leave : D → Area → List ℕ → Type 0) (faults : D → ℕ) (v : LoggedView D) : Type 0 where
-  pub slots : v.journal.history.slots ≡ 6
+  pub slots : v.journal.history.slots ≡ object_slots
   pub opening : graph_of v.journal.opening ≡ v.journal.history.opening
   pub running : is_stopped (end_of v.journal.history) ≡ false
   pub entries : entries_in v.journal.notes ≡ v.journal.history.entries
   pub sound : IsSound (core_of v.journal)
-  pub led : AreLed 6 (opening_of v.journal) v.journal.notes (core_of v.journal)
+  pub led : AreLed object_slots (opening_of v.journal) v.journal.notes (core_of v.journal)
   pub full : v.journal.marks.trace ≡ true → WasFull v.journal
   pub log_full : v.log_full ≡ true → WasLogFull v
   pub lasting : IsDurable v.journal (durable_notes v)
   pub images : EachImage may_leave v.disk (MayBeLeft v)
-  pub opens : EachImage may_leave v.disk (OpensAfter 6 (history_of v))
+  pub opens : EachImage may_leave v.disk (OpensAfter object_slots (history_of v))
   -- the disk's count of faults never falls, and it rose where the disk failed a call
   pub later : v.opened ≤ faults v.disk
   pub rose : IsSome v.failed → Rose v.opened (faults v.disk)

@@ -13,6 +13,7 @@ use Rattle.core_store.specs.JournalView.{JournalView}
 use Rattle.core_store.specs.Opening.{opened_history}
 use Rattle.logged_journal.specs.View.{LoggedView, failed_commit}
 use Rattle.brahma_shell.specs.Points.{Point, after_note, start_with, start_point}
+use Rattle.script_lines.specs.Numbers.{object_slots}
 
 -- an event of a run: something that a journal notes; or power was lost, and the store was opened again, with so many ids and to
 -- these cells
@@ -65,12 +66,12 @@ pub record Run : Type 0 where
 -- its history
 abbrev pub run_history : Run → History
 run_history r =
-    let h : History = record (opened_history 6 r.ids r.opening) { entries = map entry_of r.events } in
+    let h : History = record (opened_history object_slots r.ids r.opening) { entries = map entry_of r.events } in
     option_map_or (λ client. with_entry h (Call client Commit DiskFault)) r.failed h
 
 -- the whole run
 abbrev pub whole : Run → Stretch
-whole r = record { start = start_with (opened_history 6 r.ids r.opening) r.opening; number = 1; events = r.events }
+whole r = record { start = start_with (opened_history object_slots r.ids r.opening) r.opening; number = 1; events = r.events }
 
 -- what a journal has noted since its opening, behind which the next line of the script has this number
 abbrev pub since_opening : ℕ → JournalView → Stretch

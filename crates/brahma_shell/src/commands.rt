@@ -22,6 +22,12 @@ pub enum Command {
     Gen(Asked),
     /// `audit`: counts all pointers of the store again, and prints what it found.
     Audit,
+    /// `paudit N`: counts all pointers of the store again and what is garbage, by so many pieces on several threads, from 1 to
+    /// 1,024, and prints what it found.
+    ParAudit { pieces: u16 },
+    /// `migrate`: makes a store of version 1, whose objects have six slots, one of version 2, in which they have fourteen, and prints how
+    /// many pages it has.
+    Migrate,
 }
 
 /// The command that one word names.
@@ -32,6 +38,7 @@ fn command_of_word(word: &[u8]) -> Option<Command>
         b"replay" => Some(Command::Replay),
         b"run" => Some(Command::Run),
         b"audit" => Some(Command::Audit),
+        b"migrate" => Some(Command::Migrate),
         _ => None,
     }
 }
@@ -43,6 +50,9 @@ fn command_of_two(word: &[u8], number: &[u8]) -> Option<Command>
     match word {
         b"init" => Some(Command::Init {
             pages: pages_of(number)?,
+        }),
+        b"paudit" => Some(Command::ParAudit {
+            pieces: pages_of(number)?,
         }),
         _ => None,
     }

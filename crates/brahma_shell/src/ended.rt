@@ -2,9 +2,9 @@
 ghost use Rattle.std.specs.Prelude.{◌≡◌};
 ghost use Rattle.brahma_shell.specs.Ended.{disk_in};
 
-use crate::opened::SLOTS;
 use disk_model::Disk;
 use logged_journal::LoggedJournal;
+use script_lines::SLOTS;
 
 /// What the program hands back with its status.
 #[derive(Drop)]

@@ -6,12 +6,13 @@ ghost use Rattle.plain_model.specs.History.{end_of};
 ghost use Rattle.disk_model.specs.Causes.{Rose};
 ghost use Rattle.journal_opening.specs.Openings.{ReadsAs};
 ghost use Rattle.script_lines.specs.Output.{AppendsFront, EndsWith};
-ghost use Rattle.call_generator.specs.Generator.{generator};
+ghost use Rattle.call_generator.specs.Generator.{generator, drawn_slots};
 ghost use Rattle.brahma_shell.specs.Ended.{disk_in};
 ghost use Rattle.brahma_shell.specs.Log.{StaysRunning};
 ghost use Rattle.brahma_shell.specs.Replay.{Performs};
 ghost use Rattle.brahma_shell.specs.Generated.{line_of, lines_in, DoesLines, StopsLines, DoesAll, StopsAll, generated_text};
 ghost use Rattle.brahma_shell.specs.Top.{IsJustOpened, Unopened, Generated, outside};
+ghost use Rattle.script_lines.specs.Numbers.{object_slots};
 
 use crate::ended::Ended;
 use crate::gc;
@@ -47,7 +48,7 @@ fn line_of(turn: &Turn) -> Line
 
 /// Does what a turn asks.
 fn do_turn<D: Disk>(store: &mut Store<D>, turn: &Turn) -> Result<(), Stop>
-    requires turn { (1 ≤ turn.now.client) × (turn.now.client ≤ 64) × IsInRange 6 turn.now.call }
+    requires turn { (1 ≤ turn.now.client) × (turn.now.client ≤ 64) × IsInRange drawn_slots turn.now.call }
     requires running { store.old.failed ≡ None }
     ensures ok { OnOk result (DoesLines store.old.journal store.new.journal (lines_in turn.now)) }
     ensures goes_on { OnOk result (StaysRunning D.faults store.old store.new) }
@@ -110,7 +111,7 @@ fn generate_in<W: Sink, D: Disk>(
 ) -> u8
     requires opened { IsJustOpened store.old }
     requires clients { asked.clients ≤ 64 }
-    ensures generated { (disk : _) (left : _) (reads faults : ℕ) → faults ≤ D.faults store.old.disk → ReadsAs D.content 6 disk store.old.journal.opening
+    ensures generated { (disk : _) (left : _) (reads faults : ℕ) → faults ≤ D.faults store.old.disk → ReadsAs D.content object_slots disk store.old.journal.opening
         → Generated D.content D.may_leave asked disk
         (outside left reads (W.written out.old) (W.faults out.old) faults)
         (outside left reads (W.written out.new) (W.faults out.new) (D.faults store.new.disk))

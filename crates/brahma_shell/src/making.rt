@@ -4,12 +4,11 @@ ghost use Rattle.brahma_shell.specs.Ended.{disk_in};
 ghost use Rattle.brahma_shell.specs.Top.{Made, outside};
 
 use crate::ended::Ended;
-use crate::opened::SLOTS;
 use crate::status::{DISK_FAULT, DONE, WRITE_FAULT};
 use disk_model::Disk;
 use outside_io::Sink;
 use restart_store::init;
-use script_lines::{pages_line, write_all, write_last};
+use script_lines::{SLOTS, pages_line, write_all, write_last};
 
 /// Makes the disk anew as a fresh store of so many pages, tells it, and answers the status.
 pub(crate) fn make_store<W: Sink, D: Disk>(out: &mut W, disk: D, pages: u16) -> (u8, Ended<D>)

@@ -8,6 +8,7 @@ ghost use Rattle.disk_model.specs.Told.{EachImage};
 ghost use Rattle.store_model.specs.Sound.{IsSound};
 ghost use Rattle.journal_opening.specs.Openings.{OpensAs, RefusesToOpen, OpensMeanwhile, HasFault};
 ghost use Rattle.auditor.specs.Recount.{live_in, zero_in};
+ghost use Rattle.par_audit.specs.Garbage.{IsGarbage};
 ghost use Rattle.framed_journal.specs.Holding.{AreFramesOf};
 ghost use Rattle.logged_journal.specs.View.{history_of};
 ghost use Rattle.logged_journal.specs.Opens.{OpensAfter};
@@ -19,6 +20,7 @@ ghost use Rattle.core_store.specs.Safe.{IsDurable};
 ghost use Rattle.logged_journal.specs.Records.{MayBeLeft, durable_notes};
 ghost use Rattle.brahma_shell.specs.Points.{entries_in};
 ghost use Rattle.brahma_shell.specs.Log.{WasLogFull};
+ghost use Rattle.script_lines.specs.Numbers.{object_slots};
 
 use auditor::{Report, audit_journal};
 use cell_page::CELLS_OF_PAGE;
@@ -27,13 +29,13 @@ use disk_model::Disk;
 use framed_journal::FramedJournal;
 use journal_opening::open;
 use logged_journal::LoggedJournal;
+use par_audit::{Wide, par_audit_journal};
 use plain_model::Memory;
+use script_lines::SLOTS;
 use std::alloc::Global;
 use std::marker::Model;
+use std::thread::Threads;
 use store_opening::OpenRefusal;
-
-/// How many slots an object of the program's store has.
-pub const SLOTS: usize = 6;
 
 /// A store that was opened: a journal with its log and all its frames, on one thread.
 #[derive(Drop)]
@@ -53,10 +55,10 @@ impl<D: Disk> Model for OpenedStore<D> {
 impl<D: Disk> OpenedStore<D> {
     /// The store that the disk holds. Where it isn't opened the disk is handed back.
     pub(crate) fn open(alloc: Global, disk: D) -> Result<OpenedStore<D>, (OpenRefusal, D)>
-        ensures opened { IfOk result (λ s. OpensAs D.content D.faults 6 disk (record { trace = 1048576; log = 1071644672 }) s) }
-        ensures refused { IfErr result (λ e. RefusesToOpen D.content D.may_leave D.moment D.left_since 6 disk e.0 e.1) }
-        ensures meanwhile { IfErr result (λ e. OpensMeanwhile D.content D.may_leave D.moment D.left_since 6 disk e.1) }
-        ensures opens_meanwhile { IfOk result (λ s. OpensMeanwhile D.content D.may_leave D.moment D.left_since 6 disk s.disk) }
+        ensures opened { IfOk result (λ s. OpensAs D.content D.faults object_slots disk (record { trace = 1048576; log = 1071644672 }) s) }
+        ensures refused { IfErr result (λ e. RefusesToOpen D.content D.may_leave D.moment D.left_since object_slots disk e.0 e.1) }
+        ensures meanwhile { IfErr result (λ e. OpensMeanwhile D.content D.may_leave D.moment D.left_since object_slots disk e.1) }
+        ensures opens_meanwhile { IfOk result (λ s. OpensMeanwhile D.content D.may_leave D.moment D.left_since object_slots disk s.disk) }
         ensures fault { IfErr result (λ e. HasFault (D.faults disk) (D.faults e.1) e.0) }
     {
         match open(alloc, disk, Limits::GREATEST) {
@@ -74,12 +76,12 @@ impl<D: Disk> OpenedStore<D> {
         ensures opening { graph_of self.now.journal.opening ≡ self.now.journal.history.opening }
         ensures entries { entries_in self.now.journal.notes ≡ self.now.journal.history.entries }
         ensures sound { IsSound (core_of self.now.journal) }
-        ensures led { AreLed 6 (opening_of self.now.journal) self.now.journal.notes (core_of self.now.journal) }
+        ensures led { AreLed object_slots (opening_of self.now.journal) self.now.journal.notes (core_of self.now.journal) }
         ensures full { self.now.journal.marks.trace ≡ true → WasFull self.now.journal }
         ensures log_full { self.now.log_full ≡ true → WasLogFull self.now }
         ensures lasting { IsDurable self.now.journal (durable_notes self.now) }
         ensures images { EachImage D.may_leave self.now.disk (MayBeLeft self.now) }
-        ensures opens { EachImage D.may_leave self.now.disk (OpensAfter 6 (history_of self.now)) }
+        ensures opens { EachImage D.may_leave self.now.disk (OpensAfter object_slots (history_of self.now)) }
     {
         let logged = self.framed.logged();
         let journal = logged.journal();
@@ -98,6 +100,23 @@ impl<D: Disk> OpenedStore<D> {
         ensures differences { IfOk result (λ r. r.differences ≡ []) }
     {
         audit_journal(alloc, &self.framed)
+    }
+
+    /// Does so by so many pieces on several threads, and counts what is garbage.
+    pub(crate) fn par_audit(
+        &self,
+        rt: &(impl Threads + Sync),
+        alloc: Global,
+        pieces: u16,
+    ) -> Result<Wide, Memory>
+        requires some { 0 < pieces }
+        requires few { pieces ≤ 1024 }
+        ensures live { IfOk result (λ w. w.report.live ≡ live_in (cells_of self.now.journal)) }
+        ensures zero { IfOk result (λ w. w.report.zero ≡ zero_in (cells_of self.now.journal) (range_with_len 1 self.now.journal.history.ids)) }
+        ensures differences { IfOk result (λ w. w.report.differences ≡ []) }
+        ensures garbage { IfOk result (λ w. IsGarbage (cells_of self.now.journal) (range_with_len 1 self.now.journal.history.ids) w.garbage) }
+    {
+        par_audit_journal(rt, alloc, &self.framed, pieces)
     }
 
     /// How many pages the store has.

@@ -1,5 +1,5 @@
 //! What a client's line asks, done in the store.
-ghost use Rattle.std.specs.Prelude.{◌≡◌, ◌⊎◌, ◌+◌, ◌<◌, [], ◌∷◌, ◌++◌, replicate, IsSome, Some, None, IsOk, IfOk, IfErr, Option};
+ghost use Rattle.std.specs.Prelude.{◌≡◌, ◌⊎◌, ◌+◌, ◌<◌, ◌≢◌, [], ◌∷◌, ◌++◌, replicate, IsSome, Some, None, IsOk, IfOk, IfErr, Option};
 ghost use Rattle.plain_model.specs.Machine.{IsInRange, transaction_of};
 ghost use Rattle.plain_model.specs.History.{end_of, left_to_undo};
 ghost use Rattle.plain_model.specs.Text.{line_of};
@@ -7,6 +7,7 @@ ghost use Rattle.script_lines.specs.Grammar.{IsClient};
 ghost use Rattle.brahma_shell.specs.Growth.{GrowsBy};
 ghost use Rattle.brahma_shell.specs.Log.{StaysRunning};
 ghost use Rattle.brahma_shell.specs.Replay.{answer_text, Performs, StopsCall, LeavesLog, FailsCall};
+ghost use Rattle.script_lines.specs.Numbers.{object_slots};
 
 use crate::replay::Stop;
 use crate::store::Store;
@@ -27,10 +28,11 @@ pub(crate) struct Answer {
 #[inline(always)]
 fn reply_to<D: Disk>(store: &mut Store<D>, client: u8, call: &Call) -> Result<Reply, Stop>
     requires client { IsClient client }
-    requires in_range { IsInRange 6 call.now }
+    requires in_range { IsInRange object_slots call.now }
     requires no_abort { call.now ≡ Call.Abort → transaction_of (end_of store.old.journal.history).state client ≡ None }
     requires running { store.old.failed ≡ None }
     ensures ok { IfOk result (λ reply. GrowsBy store.old.journal store.new.journal (Entry.Call client call.now reply ∷ [])) }
+    ensures no_fault { IfOk result (λ reply. reply ≢ Reply.DiskFault) }
     ensures goes_on { IfOk result (λ _. StaysRunning D.faults store.old store.new) }
     ensures err { IfErr result (λ s.
         StopsCall s store.old.journal store.new.journal × LeavesLog D.faults s store.old store.new
@@ -50,11 +52,12 @@ fn reply_to<D: Disk>(store: &mut Store<D>, client: u8, call: &Call) -> Result<Re
 /// Does one call, and tells it with its reply.
 fn call<D: Disk>(store: &mut Store<D>, client: u8, call: Call) -> Result<Answer, Stop>
     requires client { IsClient client }
-    requires in_range { IsInRange 6 call }
+    requires in_range { IsInRange object_slots call }
     requires no_abort { call ≡ Call.Abort → transaction_of (end_of store.old.journal.history).state client ≡ None }
     requires running { store.old.failed ≡ None }
     ensures ok { IfOk result (λ a. (a.client ≡ client) × (a.call ≡ call)
         × GrowsBy store.old.journal store.new.journal (Entry.Call client call a.reply ∷ [])) }
+    ensures no_fault { IfOk result (λ a. a.reply ≢ Reply.DiskFault) }
     ensures goes_on { IfOk result (λ _. StaysRunning D.faults store.old store.new) }
     ensures err { IfErr result (λ s.
         StopsCall s store.old.journal store.new.journal × LeavesLog D.faults s store.old store.new
@@ -91,7 +94,7 @@ fn undo_all<D: Disk>(store: &mut Store<D>, client: u8) -> Result<(), Stop>
 
 /// Does the call that a line asks, and tells the reply.
 pub(crate) fn ask<D: Disk>(store: &mut Store<D>, client: u8, asked: &Call) -> Result<Reply, Stop>
-    requires line { IsClient client × IsInRange 6 asked.now × (asked.now ≡ Call.Abort → ⊥) }
+    requires line { IsClient client × IsInRange object_slots asked.now × (asked.now ≡ Call.Abort → ⊥) }
     requires running { store.old.failed ≡ None }
     ensures ok { IfOk result (λ reply. Performs store.old.journal store.new.journal (Line.Ask client asked.now) (line_of (Entry.Call client asked.now reply))) }
     ensures goes_on { IfOk result (λ _. StaysRunning D.faults store.old store.new) }

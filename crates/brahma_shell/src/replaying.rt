@@ -10,6 +10,7 @@ ghost use Rattle.brahma_shell.specs.Crashes.{Reopens, StopsCrash, reopened_line}
 ghost use Rattle.brahma_shell.specs.Ended.{disk_in};
 ghost use Rattle.brahma_shell.specs.Replay.{status_of, last_line};
 ghost use Rattle.brahma_shell.specs.Top.{IsJustOpened, IsStatusOfReplay, GoesLater, Unopened, Replayed, outside};
+ghost use Rattle.script_lines.specs.Numbers.{object_slots};
 
 use crate::ended::Ended;
 use crate::refusing::refuse;
@@ -163,7 +164,7 @@ fn replay_in<R: Source, W: Sink, D: Disk>(
     out: &mut W,
 ) -> (u8, Ended<D>)
     requires opened { IsJustOpened store }
-    ensures replayed { (disk : _) (faults : ℕ) → faults ≤ D.faults store.disk → ReadsAs D.content 6 disk store.journal.opening
+    ensures replayed { (disk : _) (faults : ℕ) → faults ≤ D.faults store.disk → ReadsAs D.content object_slots disk store.journal.opening
         → Replayed D.content D.may_leave source.old source.new disk
         (outside (R.left source.old) (R.faults source.old) (W.written out.old) (W.faults out.old) faults)
         (outside (R.left source.new) (R.faults source.new) (W.written out.new) (W.faults out.new) (D.faults (disk_in result.1)))

@@ -11,10 +11,11 @@ ghost use Rattle.brahma_shell.specs.Telling.{IsUnmarked, Tells, TellsStored, sho
 ghost use Rattle.brahma_shell.specs.Running.{TellsStop, OnlyPeeks, HasSeen, HasSeenLive, HasRun, HasAsked, HoldsNow};
 ghost use Rattle.brahma_shell.specs.Ran.{Ran};
 ghost use Rattle.brahma_shell.specs.Top.{GoesLater, IsJustOpened, IsStatusOfReplay, Unopened, outside};
+ghost use Rattle.script_lines.specs.Numbers.{object_slots};
 
 use crate::client_lines::read_scripts;
 use crate::ended::Ended;
-use crate::opened::{OpenedStore, SLOTS};
+use crate::opened::OpenedStore;
 use crate::refusing::refuse;
 use crate::replay::Stop;
 use crate::replaying::end_stopped;
@@ -25,6 +26,7 @@ use disk_model::Disk;
 use logged_journal::LoggedJournal;
 use outside_io::{Sink, Source};
 use plain_model::Memory;
+use script_lines::SLOTS;
 use shared_store::{Pass, Peek, Store as SharedStore};
 use std::alloc::Global;
 use std::sync::Wait;
@@ -99,7 +101,7 @@ fn run_clients<D: Disk, G: Gate, T: Threads + Wait + Sync>(
     requires of { main.old.table ≡ store.now.table }
     requires alone { IsAlone main.old.view }
     requires room { main.old.view.station.last + length scripts.now ≤ 4294967295 }
-    requires may { AllByRecursion (MayRun 6 main.old.view.station) scripts.now }
+    requires may { AllByRecursion (MayRun object_slots main.old.view.station) scripts.now }
     requires apart { AreApart scripts.now }
     requires ids { ids ≡ 8 * store.now.pages }
     ensures of { main.new.table ≡ store.now.table }
@@ -212,7 +214,7 @@ fn run_in<R: Source, W: Sink, D: Disk, G: Gate, T: Threads + Wait + Sync>(
 ) -> (u8, Ended<D>)
     requires opened { IsJustOpened store }
     requires counted { store.opened ≡ D.faults store.disk }
-    ensures ran { (disk : _) (faults : ℕ) → faults ≤ D.faults store.disk → ReadsAs D.content 6 disk store.journal.opening
+    ensures ran { (disk : _) (faults : ℕ) → faults ≤ D.faults store.disk → ReadsAs D.content object_slots disk store.journal.opening
         → (v : _) × (result.1 ≡ Ended.Kept v) × Ran D.content D.may_leave disk
         (outside (R.left source.old) (R.faults source.old) (W.written out.old) (W.faults out.old) faults)
         (outside (R.left source.new) (R.faults source.new) (W.written out.new) (W.faults out.new) (D.faults (disk_in result.1)))

@@ -23,13 +23,15 @@ ghost use Rattle.brahma_shell.specs.Growth.{GrowsBy, GrowsByEvent, GrowsByUpkeep
 ghost use Rattle.brahma_shell.specs.Upkeep.{GivesUp, HasClean, HasTurned};
 ghost use Rattle.brahma_shell.specs.Log.{StaysRunning, TellsFull, LosesCommit, WasLogFull};
 ghost use Rattle.brahma_shell.specs.Rest.{StaysQuiet};
+ghost use Rattle.script_lines.specs.Numbers.{object_slots};
 
-use crate::opened::{OpenedStore, SLOTS};
+use crate::opened::OpenedStore;
 use cell_page::CELLS_OF_PAGE;
 use core_store::{AbortStep, Collect, Notes};
 use disk_model::Disk;
 use logged_journal::{CollectRefusal, LoggedJournal, Stopped, Upkeep};
 use plain_model::{Call, Entry, Ids, Memory, Reply};
+use script_lines::SLOTS;
 use shared_store::LoneStore;
 use std::alloc::Global;
 use std::marker::Model;
@@ -55,10 +57,10 @@ impl<D: Disk> Model for Store<D> {
 impl<D: Disk> Store<D> {
     /// The store that the disk holds. Where it isn't opened the disk is handed back.
     pub(crate) fn open(alloc: Global, disk: D) -> Result<Store<D>, (OpenRefusal, D)>
-        ensures opened { IfOk result (λ s. OpensAs D.content D.faults 6 disk (record { trace = 1048576; log = 1071644672 }) s) }
-        ensures refused { IfErr result (λ e. RefusesToOpen D.content D.may_leave D.moment D.left_since 6 disk e.0 e.1) }
-        ensures meanwhile { IfErr result (λ e. OpensMeanwhile D.content D.may_leave D.moment D.left_since 6 disk e.1) }
-        ensures opens_meanwhile { IfOk result (λ s. OpensMeanwhile D.content D.may_leave D.moment D.left_since 6 disk s.disk) }
+        ensures opened { IfOk result (λ s. OpensAs D.content D.faults object_slots disk (record { trace = 1048576; log = 1071644672 }) s) }
+        ensures refused { IfErr result (λ e. RefusesToOpen D.content D.may_leave D.moment D.left_since object_slots disk e.0 e.1) }
+        ensures meanwhile { IfErr result (λ e. OpensMeanwhile D.content D.may_leave D.moment D.left_since object_slots disk e.1) }
+        ensures opens_meanwhile { IfOk result (λ s. OpensMeanwhile D.content D.may_leave D.moment D.left_since object_slots disk s.disk) }
         ensures fault { IfErr result (λ e. HasFault (D.faults disk) (D.faults e.1) e.0) }
     {
         let opened = OpenedStore::open(alloc, disk)?;
@@ -80,12 +82,12 @@ impl<D: Disk> Store<D> {
         ensures opening { graph_of self.now.journal.opening ≡ self.now.journal.history.opening }
         ensures entries { entries_in self.now.journal.notes ≡ self.now.journal.history.entries }
         ensures sound { IsSound (core_of self.now.journal) }
-        ensures led { AreLed 6 (opening_of self.now.journal) self.now.journal.notes (core_of self.now.journal) }
+        ensures led { AreLed object_slots (opening_of self.now.journal) self.now.journal.notes (core_of self.now.journal) }
         ensures full { self.now.journal.marks.trace ≡ true → WasFull self.now.journal }
         ensures log_full { self.now.log_full ≡ true → WasLogFull self.now }
         ensures lasting { IsDurable self.now.journal (durable_notes self.now) }
         ensures images { EachImage D.may_leave self.now.disk (MayBeLeft self.now) }
-        ensures opens { EachImage D.may_leave self.now.disk (OpensAfter 6 (history_of self.now)) }
+        ensures opens { EachImage D.may_leave self.now.disk (OpensAfter object_slots (history_of self.now)) }
     {
         let logged = self.lone.logged();
         let journal = logged.journal();
@@ -100,7 +102,7 @@ impl<D: Disk> Store<D> {
     /// Does the call.
     pub(crate) fn call(&mut self, client: u8, call: &Call) -> Reply
         requires client { IsClient client }
-        requires in_range { IsInRange 6 call.now }
+        requires in_range { IsInRange object_slots call.now }
         requires no_abort { call.now ≡ Call.Abort → transaction_of (end_of self.old.journal.history).state client ≡ None }
         requires running { self.old.failed ≡ None }
         ensures memory { result ≡ Reply.Memory → GrowsBy self.old.journal self.new.journal [] }

@@ -9,7 +9,6 @@ ghost use Rattle.script_lines.specs.Output.{AppendsFront, EndsWith};
 ghost use Rattle.brahma_shell.specs.Points.{entries_in};
 ghost use Rattle.brahma_shell.specs.Telling.{IsNoCrash, failed_text};
 
-use crate::opened::SLOTS;
 use crate::replay::{Stop, print};
 use crate::status::{DONE, OUT_OF_MEMORY, WRITE_FAULT};
 use core_store::Notes;
@@ -17,7 +16,9 @@ use disk_model::Disk;
 use logged_journal::{FailedCall, LoggedJournal};
 use outside_io::Sink;
 use plain_model::{Call, Entry, Reply};
-use script_lines::{call_line, delete_line, stored_line, turn_busy_line, write_all, write_last};
+use script_lines::{
+    SLOTS, call_line, delete_line, stored_line, turn_busy_line, write_all, write_last,
+};
 use std::alloc::Global;
 
 /// Writes that the collector deleted the object, as one piece. It stands apart, so that a step of the collector that deletes

@@ -14,7 +14,7 @@ use Rattle.shared_store.specs.Passes.{Known}
 use Rattle.shared_store.specs.Calls.{GoesOnAs, Keeps, MakesCollect, entered_by_collecting, found_by_collecting}
 use Rattle.client_pass.specs.declared.ends.WorkEnd.{WorkEnd}
 use Rattle.client_pass.specs.Workings.{IsEnd, EndsCollecting, WasCollecting, end_of_collecting}
-use Rattle.client_pass.specs.Runs.{Collects, IsOfCollector}
+use Rattle.client_pass.specs.Runs.{Collects, IsCollected, IsOfCollector}
 use Rattle.client_pass.proofs.Makings.{keeps-none, keeps-append, keeps-one, truth-one}
 
 each-append : (kept more : List (ℕ × Note)) → AllByRecursion (λ (k : ℕ × Note). IsOfCollector k.1.entry) kept → AllByRecursion (λ (k : ℕ × Note). IsOfCollector k.1.entry) more → AllByRecursion (λ (k : ℕ × Note). IsOfCollector k.1.entry) (kept ++ more)
@@ -72,6 +72,16 @@ module _ {slots : ℕ} where
   alone-never u v r f word seat alone is again g =
       let all : r ≡ Err (refusal.Again word seat) = is ∙ ap Err again in
       (subst (λ (x : Result Collect CollectRefusal). GoesOnAs u v (entered_by_collecting x) (found_by_collecting x)) all g).meets.1.2 alone.0 alone.1
+
+  -- where there was nothing to do nothing is left
+  pub idle-collected : (D : Type 0) (u v : Known slots) (r : Result Collect CollectRefusal) (s : Collect) → r ≡ Ok s → s ≡ Idle → GoesOnAs u v (entered_by_collecting r) (found_by_collecting r)
+      → (found_by_collecting r ≡ None → MakesCollect D slots u r) → IsCollected D slots v
+  idle-collected D u v r s is idle g made =
+      let all : r ≡ Ok Idle = is ∙ ap Ok idle in
+      let goes : GoesOnAs u v None None = subst (λ (x : Result Collect CollectRefusal). GoesOnAs u v (entered_by_collecting x) (found_by_collecting x)) all g in
+      let m : MakesCollect D slots u (Ok Idle) = subst (MakesCollect D slots u) all (made (ap found_by_collecting all)) in
+      let left = m.made.does.idle.0 refl in
+      record { before = u; station = sym goes.station; fixed = goes.fixed; kept = goes.entries; idle = m; rests = record { queue = left.1; round = left.2 } }
 
   -- the end that an answer means names it
   pub collecting-ends : (D : Type 0) (u v : Known slots) (r : Result Collect CollectRefusal) (e : WorkEnd) → end_of_collecting r ≡ Some e → IsEnd e → found_by_collecting r ≡ None

@@ -7,6 +7,8 @@ use Rattle.plain_model.specs.declared.calls.Reply.TheVariants as reply
 use Rattle.disk_model.specs.Areas.{Bytes}
 use Rattle.core_store.specs.declared.note.Note.{Note}
 use Rattle.core_store.specs.declared.collect.Collect.TheVariants.{Idle}
+use Rattle.core_store.specs.JournalView.{JournalView}
+use Rattle.core_store.specs.RoundView.{Closed}
 use Rattle.disk_model.specs.Causes.{Rose}
 use Rattle.latch_table.specs.declared.view.Station.{Station}
 use Rattle.latch_table.specs.Views.{KeepMarks, is_listed, truth_of}
@@ -52,13 +54,20 @@ pub record Collects {slots : ℕ} (old new : Known slots) : Type 0 where
   pub each : AllByRecursion (λ k. IsOfCollector k.1.entry) kept
   pub truth : new.knowledge.truth ≡ old.knowledge.truth
 
--- the collector was asked last, and had nothing to do; the pass has the same place in the store as before it asked
+-- the collector's queue is empty, and no round is open
+pub record HasNothingLeft (j : JournalView) : Type 0 where
+  pub queue : j.queue ≡ []
+  pub round : j.round ≡ Closed
+
+-- The collector was asked last, and had nothing to do: the journal that it found has nothing left. The pass has the same place in
+-- the store as before it asked
 pub record IsCollected (D : Type 0) (slots : ℕ) (new : Known slots) : Type 0 where
   pub before : Known slots
   pub station : before.station ≡ new.station
   pub fixed : new.knowledge.fixed ≡ before.knowledge.fixed
   pub kept : KeepsNone before new
   pub idle : MakesCollect D slots before (Ok Idle)
+  pub rests : HasNothingLeft idle.before.journal
 
 -- ---- the clients
 

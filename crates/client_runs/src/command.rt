@@ -3,7 +3,7 @@
 ghost use Rattle.std.specs.Prelude.{◌≤◌};
 
 use crate::gates::{HeldCalls, each_second_call};
-use brahma_shell::{Words, brahma};
+use brahma_shell::{SLOTS, Words, brahma};
 use client_pass::{Gate, OpenGate};
 use disk_model::{Disk, MemoryDisk};
 use outside_io::{MemorySink, MemorySource};
@@ -33,7 +33,7 @@ fn disk_of(alloc: Global, pages: u16) -> Result<MemoryDisk, AllocError>
     requires { (1 ≤ pages) × (pages ≤ 1024) }
 {
     let mut disk = MemoryDisk::new(alloc);
-    match init::<_, 6>(&mut disk, pages) {
+    match init::<_, SLOTS>(&mut disk, pages) {
         Ok(()) => Ok(disk),
         Err(_) => Err(AllocError),
     }

@@ -14,6 +14,7 @@ use Rattle.client_scripts.specs.Lines.{is_first, is_between, MayFollow}
 use Rattle.client_scripts.specs.Scripts.{all_calls, AreScripts, AreOfCalls, IsExtended, TellsWhether, with_call_more, begun, ExtendsAt, TellsAt, IsAt}
 use Rattle.client_scripts.proofs.Every.{every-one}
 use Rattle.client_scripts.proofs.ScriptLemmas.{joined, scripts-joined, extended, scripts-extended}
+use Rattle.script_lines.specs.Numbers.{object_slots}
 
 -- ---- a script that is changed where it stands
 
@@ -37,7 +38,7 @@ pub tells-at : {T : Type 0} (r : Result T LineRefusal) (old : List ClientScript)
 tells-at (Ok x) old place call item is tells = tt
 tells-at (Err x) old place call item is tells = λ before after s e l. subst (λ (i : ClientScript). TellsWhether x (MayFollow (all_calls i.txns) call)) (read-at old before after s place item is e l) tells
 
-pub kept-at : {T E : Type 0} (r : Result T E) (client : ℕ) (old : List ClientScript) (place : ℕ) (call : Call) (new : List ClientScript) → AreScripts old → IsInRange 6 call → IsAt client old place → OnOk r (ExtendsAt old place call new) → OnErr r (new ≡ old) → AreScripts new
+pub kept-at : {T E : Type 0} (r : Result T E) (client : ℕ) (old : List ClientScript) (place : ℕ) (call : Call) (new : List ClientScript) → AreScripts old → IsInRange object_slots call → IsAt client old place → OnOk r (ExtendsAt old place call new) → OnErr r (new ≡ old) → AreScripts new
 kept-at (Ok x) client old place call new a range at added same =
     let e = added at.0 at.2 at.1 at.3 at.4 in
     subst AreScripts (sym e.2) (scripts-extended at.0 at.1 at.2 e.1 (subst AreScripts at.3 a) e.3.transactions (λ o. e.3.in_range o range))

@@ -14,6 +14,7 @@ use Rattle.client_scripts.specs.Lines.{is_first}
 use Rattle.client_scripts.specs.Scripts.{all_calls, AreTransactions, IsScript, AreScripts, AreOfCalls, with_call_more, begun}
 use Rattle.client_scripts.proofs.Every.{every-push, every-join, every-first, every-one, every-rest}
 use Rattle.client_scripts.proofs.CallLemmas.{begins-is}
+use Rattle.script_lines.specs.Numbers.{object_slots}
 
 -- ---- the calls of clients
 
@@ -89,7 +90,7 @@ apart-same (b ∷ before) s after txns a =
     let Not = λ (x : ClientScript). x.pass ≢ b.pass in
     (every-join Not before (record { pass = s.pass; txns = txns }) after (every-first Not before s after a.0) (every-one Not before s after a.0) (every-rest Not before s after a.0), apart-same before s after txns a.1)
 
-pub scripts-extended : (before : List ClientScript) (s : ClientScript) (after : List ClientScript) (txns : List (List Call)) → AreScripts (before ++ s ∷ after) → AreTransactions txns → (AreInRange 6 s.txns → AreInRange 6 txns) → AreScripts (before ++ record { pass = s.pass; txns = txns } ∷ after)
+pub scripts-extended : (before : List ClientScript) (s : ClientScript) (after : List ClientScript) (txns : List (List Call)) → AreScripts (before ++ s ∷ after) → AreTransactions txns → (AreInRange object_slots s.txns → AreInRange object_slots txns) → AreScripts (before ++ record { pass = s.pass; txns = txns } ∷ after)
 scripts-extended before s after txns a ts range =
     let own = every-one IsScript before s after a.each in
     record {

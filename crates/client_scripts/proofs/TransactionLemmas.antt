@@ -9,6 +9,7 @@ use Rattle.client_scripts.specs.Lines.{is_first, is_last, is_between, MayFollow}
 use Rattle.client_scripts.specs.Scripts.{all_calls, IsInside, AreInside, HasEnded, AreTransactions, IsExtended}
 use Rattle.client_scripts.proofs.Every.{every-push, every-first, every-one}
 use Rattle.client_scripts.proofs.CallLemmas.{calls-more, between-last, ended-between, open-inside, not-both, begins-is}
+use Rattle.script_lines.specs.Numbers.{object_slots}
 
 -- the last transaction has ended where none is open
 last-ended : (t : List Call) → is_between (Begin ∷ t) ≡ true → HasEnded t ⊎ AreInside t → HasEnded t
@@ -37,7 +38,7 @@ begun-extended old a between =
         last_is = inr tt;
       };
       calls = calls-more old [];
-      in_range = λ o i. every-push (AllByRecursion (IsInRange 6)) old [] o tt;
+      in_range = λ o i. every-push (AllByRecursion (IsInRange object_slots)) old [] o tt;
     }
 
 -- one call more, behind those of the transaction that is open
@@ -51,10 +52,10 @@ went-on old call new a still inside adds =
       transactions = record { before = a.before; last = t ++ call ∷ []; in_order = is; ended = a.ended; last_is = more t o (is_last call) refl };
       calls = ap all_calls is ∙ calls-more a.before (t ++ call ∷ []) ∙ sym (append_assoc (all_calls a.before) (Begin ∷ t) (call ∷ [])) ∙ ap (λ (xs : List Call). xs ++ call ∷ []) (sym was);
       in_range = λ r i.
-          let s = subst (λ (xs : List (List Call)). AllByRecursion (AllByRecursion (IsInRange 6)) xs) a.in_order r in
-          subst (λ (xs : List (List Call)). AllByRecursion (AllByRecursion (IsInRange 6)) xs) (sym is)
-          (every-push (AllByRecursion (IsInRange 6)) a.before (t ++ call ∷ []) (every-first (AllByRecursion (IsInRange 6)) a.before t [] s)
-          (every-push (IsInRange 6) t call (every-one (AllByRecursion (IsInRange 6)) a.before t [] s) i));
+          let s = subst (λ (xs : List (List Call)). AllByRecursion (AllByRecursion (IsInRange object_slots)) xs) a.in_order r in
+          subst (λ (xs : List (List Call)). AllByRecursion (AllByRecursion (IsInRange object_slots)) xs) (sym is)
+          (every-push (AllByRecursion (IsInRange object_slots)) a.before (t ++ call ∷ []) (every-first (AllByRecursion (IsInRange object_slots)) a.before t [] s)
+          (every-push (IsInRange object_slots) t call (every-one (AllByRecursion (IsInRange object_slots)) a.before t [] s) i));
     }
   where
     more : (t : List Call) → AreInside t → (b : Bool) → is_last call ≡ b → HasEnded (t ++ call ∷ []) ⊎ AreInside (t ++ call ∷ [])

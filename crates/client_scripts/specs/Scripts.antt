@@ -12,6 +12,7 @@ use Rattle.client_pass.specs.Runs.{IsNobody, AreApart}
 use Rattle.client_scripts.specs.declared.refusal.LineRefusal.{LineRefusal}
 use Rattle.client_scripts.specs.declared.refusal.LineRefusal.TheVariants.{NotAllowed, Memory}
 use Rattle.client_scripts.specs.Lines.{is_first, is_last, calls_asked, MayFollow}
+use Rattle.script_lines.specs.Numbers.{object_slots}
 
 -- ---- transactions, each told by its calls behind `Begin`
 
@@ -50,7 +51,7 @@ pub record AreTransactions (transactions : List (List Call)) : Type 0 where
 pub record IsScript (s : ClientScript) : Type 0 where
   pub client : IsClient s.pass
   pub transactions : AreTransactions s.txns
-  pub in_range : AreInRange 6 s.txns
+  pub in_range : AreInRange object_slots s.txns
 
 -- scripts of clients that differ
 pub record AreScripts (scripts : List ClientScript) : Type 0 where
@@ -80,7 +81,7 @@ TellsWhether Memory may = may
 pub record IsExtended (old : List (List Call)) (call : Call) (new : List (List Call)) : Type 0 where
   pub transactions : AreTransactions new
   pub calls : all_calls new ≡ all_calls old ++ call ∷ []
-  pub in_range : AreInRange 6 old → IsInRange 6 call → AreInRange 6 new
+  pub in_range : AreInRange object_slots old → IsInRange object_slots call → AreInRange object_slots new
 
 -- the calls of each client, of which this one has a call more
 abbrev pub with_call_more : (ℕ → List Call) → ℕ → Call → ℕ → List Call

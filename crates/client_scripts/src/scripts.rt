@@ -4,6 +4,7 @@ ghost use Rattle.std.specs.List.{AllByRecursion};
 ghost use Rattle.plain_model.specs.declared.calls.Call.{Call as TransactionCall};
 ghost use Rattle.plain_model.specs.Machine.{IsInRange};
 ghost use Rattle.script_lines.specs.declared.grammar.Line.{Line as ScriptLine};
+ghost use Rattle.script_lines.specs.Numbers.{object_slots};
 ghost use Rattle.script_lines.specs.Grammar.{IsClient, IsLineInRange};
 ghost use Rattle.client_scripts.specs.Lines.{MayFollow, MayCome};
 ghost use Rattle.client_scripts.specs.Scripts.{AreScripts, AreOfCalls, AreOfLines, TellsWhether, with_call_more};
@@ -60,7 +61,7 @@ impl ClientScripts {
     /// Adds a client's call, where it may come next behind the client's calls.
     fn ask(&mut self, client: u8, call: Call) -> Result<(), LineRefusal>
         requires client { IsClient client }
-        requires in_range { IsInRange 6 call }
+        requires in_range { IsInRange object_slots call }
         ensures added { OnOk result ((calls : ℕ → List TransactionCall) → AreOfCalls calls self.old →
             MayFollow (calls client) call × AreOfCalls (with_call_more calls client call) self.new) }
         ensures refused { IfErr result (λ e. (calls : ℕ → List TransactionCall) → AreOfCalls calls self.old →

@@ -8,6 +8,7 @@ use Rattle.latch_table.specs.declared.view.Station.{Station}
 use Rattle.latch_table.specs.Views.{first_station, is_listed}
 use Rattle.shared_store.specs.Passes.{PassView}
 use Rattle.counted_calls.specs.Clients.{HasGiven}
+use Rattle.script_lines.specs.Numbers.{object_slots}
 
 pub running-same : {D : Type 0} (w v : LoggedView D) → w ≡ v → v.failed ≡ None → w.failed ≡ None
 running-same {D} w v same running = ap (λ (x : LoggedView D). x.failed) same ∙ running
@@ -15,10 +16,10 @@ running-same {D} w v same running = ap (λ (x : LoggedView D). x.failed) same �
 pub unnoted-same : {D : Type 0} (w v : LoggedView D) → w ≡ v → v.journal.notes ≡ [] → w.journal.notes ≡ []
 unnoted-same {D} w v same unnoted = ap (λ (x : LoggedView D). x.journal.notes) same ∙ unnoted
 
-pub frames-same : {D : Type 0} (w v : LoggedView D) (frames : List (Frame 6)) → w ≡ v → AreFramesOf v.journal frames → AreFramesOf w.journal frames
+pub frames-same : {D : Type 0} (w v : LoggedView D) (frames : List (Frame object_slots)) → w ≡ v → AreFramesOf v.journal frames → AreFramesOf w.journal frames
 frames-same {D} w v frames same are = subst (λ (x : LoggedView D). AreFramesOf x.journal frames) (sym same) are
 
-pub none-given : (store : TableView) (pass : PassView 6) → pass.table ≡ store.table → pass.view.station ≡ first_station → HasGiven store pass 1
+pub none-given : (store : TableView) (pass : PassView object_slots) → pass.table ≡ store.table → pass.view.station ≡ first_station → HasGiven store pass 1
 none-given store pass same first = record {
   of_store = same;
   first = (ap (λ (s : Station). s.main) first, ap (λ (s : Station). s.name) first);

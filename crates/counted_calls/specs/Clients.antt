@@ -6,17 +6,18 @@ use Rattle.plain_model.specs.Machine.{IsInRange}
 use Rattle.latch_table.specs.Holds.{TableView}
 use Rattle.latch_table.specs.Views.{is_listed}
 use Rattle.shared_store.specs.Passes.{PassView, IsClient}
+use Rattle.script_lines.specs.Numbers.{object_slots}
 
 -- a call with registers and slots that there are, and not an abort, which the shared store makes in steps
 abbrev pub IsToCall : Call → Type 0
-IsToCall call = IsInRange 6 call × (call ≢ Abort)
+IsToCall call = IsInRange object_slots call × (call ≢ Abort)
 
 -- the pass is a client's, of this store
-abbrev pub IsClientOf : TableView → PassView 6 → Type 0
+abbrev pub IsClientOf : TableView → PassView object_slots → Type 0
 IsClientOf store pass = (pass.table ≡ store.table) × IsClient pass.view.station.name
 
 -- the first pass of the store, of which passes were made for the clients below this one
-pub record HasGiven (store : TableView) (pass : PassView 6) (next : ℕ) : Type 0 where
+pub record HasGiven (store : TableView) (pass : PassView object_slots) (next : ℕ) : Type 0 where
   pub of_store : pass.table ≡ store.table
   pub first : (pass.view.station.main ≡ true) × (pass.view.station.name ≡ 0)
   pub made : pass.view.station.last ≡ next

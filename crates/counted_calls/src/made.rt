@@ -9,17 +9,18 @@ use disk_model::{Disk, MemoryDisk};
 use framed_journal::FramedJournal;
 use journal_opening::open;
 use restart_store::init;
+use script_lines::SLOTS;
 use shared_store::{Pass, Store};
 use std::alloc::Global;
 
 /// A journal with its log in memory, and its pages.
-pub(crate) type MemoryJournal = FramedJournal<6, MemoryDisk>;
+pub(crate) type MemoryJournal = FramedJournal<SLOTS, MemoryDisk>;
 
 /// A store in memory, which threads share.
-pub(crate) type MemoryStore = Store<6, MemoryDisk>;
+pub(crate) type MemoryStore = Store<SLOTS, MemoryDisk>;
 
 /// A client's part of it.
-pub(crate) type MemoryPass = Pass<6, MemoryDisk>;
+pub(crate) type MemoryPass = Pass<SLOTS, MemoryDisk>;
 
 /// The pages of a store: room for the root and for eight objects of each of four clients.
 const PAGES: u16 = 5;
@@ -33,17 +34,17 @@ const LIMITS: Limits = Limits {
 /// A disk in memory with a new store.
 fn new_disk(alloc: Global) -> Result<MemoryDisk> {
     let mut disk = MemoryDisk::new(alloc);
-    init::<_, 6>(&mut disk, PAGES)?;
+    init::<_, SLOTS>(&mut disk, PAGES)?;
     Ok(disk)
 }
 
 // What makes a store is written for any disk, which keeps its proof short.
 
 /// The journal of the store that the disk holds.
-fn journal_on<D: Disk>(alloc: Global, disk: D) -> Result<FramedJournal<6, D>>
+fn journal_on<D: Disk>(alloc: Global, disk: D) -> Result<FramedJournal<SLOTS, D>>
     ensures { IfOk result (λ j. (j.failed ≡ None) × (j.journal.notes ≡ [])) }
 {
-    match open::<D, 6>(alloc, disk, LIMITS) {
+    match open::<D, SLOTS>(alloc, disk, LIMITS) {
         Ok(journal) => Ok(journal),
         Err((refusal, _)) => Err(refusal.into()),
     }
@@ -52,8 +53,8 @@ fn journal_on<D: Disk>(alloc: Global, disk: D) -> Result<FramedJournal<6, D>>
 /// The store over this journal, with its first pass.
 fn store_over<D: Disk>(
     alloc: Global,
-    journal: FramedJournal<6, D>,
-) -> Result<(Store<6, D>, Pass<6, D>)>
+    journal: FramedJournal<SLOTS, D>,
+) -> Result<(Store<SLOTS, D>, Pass<SLOTS, D>)>
     requires { (journal.failed ≡ None) × (journal.journal.notes ≡ []) }
     ensures { IfOk result (λ r. HasGiven r.0 r.1 1) }
 {
@@ -86,10 +87,10 @@ pub(crate) fn new_store(alloc: Global) -> Result<(MemoryStore, MemoryPass)>
 
 /// A pass for the client of this number, behind those of the clients before it.
 pub(crate) fn share_next<D: Disk>(
-    store: &Store<6, D>,
-    main: &mut Pass<6, D>,
+    store: &Store<SLOTS, D>,
+    main: &mut Pass<SLOTS, D>,
     number: u8,
-) -> Pass<6, D>
+) -> Pass<SLOTS, D>
     requires given { HasGiven store.now main.old number }
     requires client { IsClient number }
     ensures given { HasGiven store.now main.new (number + 1) }

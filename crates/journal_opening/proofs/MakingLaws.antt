@@ -2,6 +2,7 @@
 use Rattle.std.proofs.Common.{◌≡◌, ◌⊎◌, ℕ, zero, suc, ◌-◌, ◌*◌, ◌≤◌, Bool, true, false, List, [], ◌∷◌, ◌++◌, length, take, Some, None, inl, inr, refl, sym, ◌∙◌, ap, subst, arith}
 use Rattle.std.specs.Prelude.{◌==◌, ◌%◌, if◌then◌else◌}
 use Rattle.cell_model.specs.Cells.{Cell}
+use Rattle.cell_page.specs.Format.{IsSlotCount}
 use Rattle.disk_model.specs.declared.area.Area.{Area}
 use Rattle.disk_model.specs.declared.area.Area.TheVariants.{Pages, LogA, LogB, Super}
 use Rattle.disk_model.specs.Areas.{Bytes, in_area, with_area}
@@ -21,26 +22,26 @@ use Rattle.journal_opening.proofs.FreshPages.{pages-whole, cells-are}
 -- ---- a fresh store
 
 -- whichever log area is named, it has the first batch alone
-log-there : (pages byte : ℕ) (b : Bool) → IsLog most_bytes (first_body_of 6 pages ∷ []) (in_area (fresh_store 6 pages byte) (if b then LogA else LogB))
-log-there pages byte true = one_batch (first_body_of 6 pages) (fresh_log_area 6 pages) (record { some = omega arith; fits = omega arith }) (omega arith) refl
-log-there pages byte false = one_batch (first_body_of 6 pages) (fresh_log_area 6 pages) (record { some = omega arith; fits = omega arith }) (omega arith) refl
+log-there : (slots pages byte : ℕ) (b : Bool) → IsLog most_bytes (first_body_of slots pages ∷ []) (in_area (fresh_store slots pages byte) (if b then LogA else LogB))
+log-there slots pages byte true = one_batch (first_body_of slots pages) (fresh_log_area slots pages) (record { some = omega arith; fits = omega arith }) (omega arith) refl
+log-there slots pages byte false = one_batch (first_body_of slots pages) (fresh_log_area slots pages) (record { some = omega arith; fits = omega arith }) (omega arith) refl
 
 pub fresh-opens : FreshStoreLaw
-fresh-opens pages byte count =
+fresh-opens slots pages byte known count =
     let size : suc (8 * pages - 1) ≡ 8 * pages = omega (arith, count.0) in
-    let consistent = (fresh-sound 6 (8 * pages - 1)).consistent in
-    let read : AreCellsRead {slots = 6} (fresh_store 6 pages byte) (if byte % 2 == 0 then LogA else LogB) pages [] (fresh_cells 6 (8 * pages - 1)) = record {
+    let consistent = (fresh-sound slots (8 * pages - 1)).consistent in
+    let read : AreCellsRead {slots = slots} (fresh_store slots pages byte) (if byte % 2 == 0 then LogA else LogB) pages [] (fresh_cells slots (8 * pages - 1)) = record {
       pages_read = record {
         read = record {
           named = refl;
-          log = record { batches_are = record { some = count.0; few = count.1; bodies = tt; spelled = tt; fit = tt }; log = log-there pages byte (byte % 2 == 0) };
+          log = record { batches_are = record { some = count.0; few = count.1; bodies = tt; spelled = tt; fit = tt }; log = log-there slots pages byte (byte % 2 == 0) };
         };
-        whole = λ page at below damaged. pages-whole 6 pages (inl refl) count.1 page at below damaged.fails;
+        whole = λ page at below damaged. pages-whole slots pages known count.1 page at below damaged.fails;
       };
       fit = tt;
-      are = cells-are 6 pages (inl refl) count.1 (8 * pages - 1) size;
+      are = cells-are slots pages known count.1 (8 * pages - 1) size;
     } in
-    opens (if byte % 2 == 0 then LogA else LogB) pages [] (fresh_cells 6 (8 * pages - 1)) read (consistent-rules 6 (suc (8 * pages - 1)) (fresh_cells 6 (8 * pages - 1)) consistent) tt
+    opens (if byte % 2 == 0 then LogA else LogB) pages [] (fresh_cells slots (8 * pages - 1)) read (consistent-rules slots (suc (8 * pages - 1)) (fresh_cells slots (8 * pages - 1)) consistent) tt
 
 -- ---- another super area
 
@@ -108,12 +109,12 @@ cut-alike slots kept image = by (cut-names kept image.super_area)
 
 -- ---- while a store is made
 
-module _ {D : Type 0} (may_leave : D → Area → List ℕ → Type 0) (disk : D) (pages : ℕ) (count : (1 ≤ pages) × (pages ≤ 1024)) where
-  pub making-opens : (image : Bytes) → IsMaking may_leave disk 6 pages image → OpensWhileMaking may_leave 6 disk pages image
+module _ {D : Type 0} (may_leave : D → Area → List ℕ → Type 0) (disk : D) (slots pages : ℕ) (known : IsSlotCount slots) (count : (1 ≤ pages) × (pages ≤ 1024)) where
+  pub making-opens : (image : Bytes) → IsMaking may_leave disk slots pages image → OpensWhileMaking may_leave slots disk pages image
   making-opens image (as_before all may is) = by (cut-names (length image.super_area) all)
     where
-      by : (named_by (take (length image.super_area) all) ≡ None) ⊎ (named_by all ≡ named_by (take (length image.super_area) all)) → OpensWhileMaking may_leave 6 disk pages image
+      by : (named_by (take (length image.super_area) all) ≡ None) ⊎ (named_by all ≡ named_by (take (length image.super_area) all)) → OpensWhileMaking may_leave slots disk pages image
       by (inl none) = opens_to_none (no_store (ap named_by is ∙ none))
-      by (inr same) = opens_as_before (with_area image Super all) may (alike 6 image all image.super_area (same ∙ ap named_by (sym is)))
+      by (inr same) = opens_as_before (with_area image Super all) may (alike slots image all image.super_area (same ∙ ap named_by (sym is)))
   making-opens image (is_no_store none) = opens_to_none (no_store (ap named_by none))
-  making-opens image (fresh byte is) = opens_to_root (subst (OpensToRoot 6 pages) (sym is) (fresh-opens pages byte count))
+  making-opens image (fresh byte is) = opens_to_root (subst (OpensToRoot slots pages) (sym is) (fresh-opens slots pages byte known count))

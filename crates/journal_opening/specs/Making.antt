@@ -4,6 +4,7 @@ use Rattle.disk_model.specs.declared.area.Area.{Area}
 use Rattle.disk_model.specs.declared.area.Area.TheVariants.{Super}
 use Rattle.disk_model.specs.Areas.{Bytes, with_area}
 use Rattle.disk_model.specs.Told.{IsImage}
+use Rattle.cell_page.specs.Format.{IsSlotCount}
 use Rattle.store_model.specs.Fresh.{fresh_cells}
 use Rattle.opened_images.specs.Opened.{Outcome, NoStore, OpensTo, Opened}
 use Rattle.restart_store.specs.Fresh.{fresh_store}
@@ -25,9 +26,9 @@ pub data OpensWhileMaking {D : Type 0} (may_leave : D → Area → List ℕ → 
 
 -- ---- laws
 
--- a fresh store opens to the root alone, whatever the byte of its super area is
+-- a fresh store opens to the root alone, with as many slots as it was made with and whatever the byte of its super area is
 abbrev pub FreshStoreLaw : Type 0
-FreshStoreLaw = (pages byte : ℕ) → (1 ≤ pages) × (pages ≤ 1024) → OpensToRoot 6 pages (fresh_store 6 pages byte)
+FreshStoreLaw = (slots pages byte : ℕ) → IsSlotCount slots → (1 ≤ pages) × (pages ≤ 1024) → OpensToRoot slots pages (fresh_store slots pages byte)
 
 -- an image whose super area lost bytes at its end opens to what it opened to before, or to no store
 abbrev pub CutSuperLaw : Type 0

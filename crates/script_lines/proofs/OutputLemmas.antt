@@ -1,5 +1,5 @@
 -- A piece that is written in parts.
-use Rattle.std.proofs.Common.{◌≡◌, ℕ, List, [], ◌++◌, Option, Some, None, take, drop, append_assoc, refl, sym, ap, ◌∙◌}
+use Rattle.std.proofs.Common.{◌≡◌, ◌≢◌, ℕ, List, [], ◌∷◌, ◌++◌, Option, Some, None, take, drop, append_assoc, refl, sym, ap, ◌∙◌}
 use Rattle.std.proofs.lemmas.List.{take-append-drop, append-nil}
 use Rattle.std.specs.Io.KnownBytes.{Appends, Keeps}
 use Rattle.script_lines.specs.Output.{AppendsUpTo, AppendsFront}
@@ -35,12 +35,17 @@ AppendsUpTo-keeps old mid new piece rest h k = (h.0, h.1, Appends-keeps old mid 
 pub AppendsUpTo-all : (old new : Option (List ℕ)) (piece rest : List ℕ) → AppendsUpTo old new piece rest → rest ≡ [] → Appends old new piece
 AppendsUpTo-all old new piece rest h e = let p : piece ≡ h.0 = h.1 ∙ ap (λ (l : List ℕ). h.0 ++ l) e ∙ append-nil h.0 in rw p h.2
 
+-- what has something in front is not empty
+longer-some : (rest more : List ℕ) → rest ≢ [] → rest ++ more ≢ []
+longer-some [] more some e = some refl
+longer-some (x ∷ rest) more some e = cc (e)
+
 -- a front of the text is a front of a longer one
 pub AppendsFront-longer : (old new : Option (List ℕ)) (text more : List ℕ) → AppendsFront old new text → AppendsFront old new (text ++ more)
 AppendsFront-longer old new text more h =
-    (h.0 ++ more, (h.1.0, ap (λ (xs : List ℕ). xs ++ more) h.1.1 ∙ append_assoc h.1.0 h.0 more, h.1.2))
+    (h.0 ++ more, (h.1.0, ap (λ (xs : List ℕ). xs ++ more) h.1.1 ∙ append_assoc h.1.0 h.0 more, h.1.2), longer-some h.0 more h.2)
 
 -- a front of what comes behind the text
 pub AppendsFront-after : (old mid new : Option (List ℕ)) (text more : List ℕ) → Appends old mid text → AppendsFront mid new more → AppendsFront old new (text ++ more)
 AppendsFront-after old mid new text more a h =
-    (h.0, (text ++ h.1.0, ap (λ (xs : List ℕ). text ++ xs) h.1.1 ∙ sym (append_assoc text h.1.0 h.0), Appends-trans old mid new text h.1.0 a h.1.2))
+    (h.0, (text ++ h.1.0, ap (λ (xs : List ℕ). text ++ xs) h.1.1 ∙ sym (append_assoc text h.1.0 h.0), Appends-trans old mid new text h.1.0 a h.1.2), h.2)

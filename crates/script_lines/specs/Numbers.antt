@@ -25,7 +25,7 @@ register_of field = number_within 0 8 field
 
 -- so many slots an object of the program's store has
 abbrev pub object_slots : ℕ
-object_slots = 6
+object_slots = 14
 
 -- a slot of such an object
 abbrev pub slot_of : List ℕ → Option ℕ

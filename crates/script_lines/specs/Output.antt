@@ -1,5 +1,5 @@
 -- What is written.
-use Rattle.std.specs.Prelude.{◌≡◌, ◌⊎◌, ℕ, List, [], ◌∷◌, ◌++◌, Option, codes, decimal}
+use Rattle.std.specs.Prelude.{◌≡◌, ◌≢◌, ◌⊎◌, ℕ, List, [], ◌∷◌, ◌++◌, Option, codes, decimal}
 use Rattle.std.specs.Io.KnownBytes.{Appends}
 use Rattle.plain_model.specs.Text.{newline, numbers}
 use Rattle.store_opening.specs.declared.open_refusal.OpenRefusal.{OpenRefusal}
@@ -12,9 +12,9 @@ use Rattle.disk_model.specs.Causes.{Rose}
 abbrev pub AppendsUpTo : Option (List ℕ) → Option (List ℕ) → List ℕ → List ℕ → Type 0
 AppendsUpTo old new piece rest = («front» : List ℕ) × (piece ≡ «front» ++ rest) × Appends old new «front»
 
--- known bytes grow by a front of the piece
+-- known bytes grow by a front of the piece, but not by all of it
 abbrev pub AppendsFront : Option (List ℕ) → Option (List ℕ) → List ℕ → Type 0
-AppendsFront old new piece = (rest : List ℕ) × AppendsUpTo old new piece rest
+AppendsFront old new piece = (rest : List ℕ) × AppendsUpTo old new piece rest × (rest ≢ [])
 
 -- the last line where the line of this number is refused
 abbrev pub refused_line : ℕ → List ℕ
@@ -29,6 +29,12 @@ abbrev pub audit_line : (pages live zeros differences : ℕ) → List ℕ
 audit_line pages live zeros differences =
     codes "audit: pages " ++ decimal pages ++ codes " live " ++ decimal live ++ codes " zero " ++ decimal zeros
     ++ codes " differences " ++ decimal differences ++ newline ∷ []
+
+-- the line of a parallel audit
+abbrev pub par_audit_line : (pages live zeros differences garbage : ℕ) → List ℕ
+par_audit_line pages live zeros differences garbage =
+    codes "paudit: pages " ++ decimal pages ++ codes " live " ++ decimal live ++ codes " zero " ++ decimal zeros
+    ++ codes " differences " ++ decimal differences ++ codes " garbage " ++ decimal garbage ++ newline ∷ []
 
 -- the line of generated calls: commits and aborts that were done, replies `busy`, deletions, and stored objects
 abbrev pub generated_line : (commits aborts busy deleted stored : ℕ) → List ℕ

@@ -16,5 +16,6 @@ pub use lines::{Found, LineReader};
 pub use numbers::{SLOTS, clients_of, pages_of, seed_of, transactions_of};
 pub use output::{
     LINE_ROOM, audit_line, call_line, crash_line, delete_line, generated_line, open_refusal_line,
-    pages_line, refused_line, stored_line, turn_busy_line, write_all, write_call, write_last,
+    pages_line, par_audit_line, refused_line, stored_line, turn_busy_line, write_all, write_call,
+    write_last,
 };

@@ -5,7 +5,7 @@ ghost use Rattle.script_lines.specs.Numbers.{object_slots, number_within, client
 ghost use Rattle.script_lines.specs.Grammar.{IsClient};
 
 /// How many slots an object of the program's store has: a slot is a number below this.
-pub const SLOTS: usize = 6;
+pub const SLOTS: usize = 14;
 
 /// The most digits that a number may have.
 const MAX_DIGITS: usize = 20;

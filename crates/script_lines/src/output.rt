@@ -1,10 +1,10 @@
 //! Printed lines.
-ghost use Rattle.std.specs.Prelude.{◌≡◌, ◌+◌, ◌<◌, ◌≤◌, ◌++◌, [], ◌∷◌, IfOk, OnOk, string_bytes, codes, length, decimal};
+ghost use Rattle.std.specs.Prelude.{◌≡◌, ◌+◌, ◌<◌, ◌≤◌, ◌++◌, [], ◌∷◌, IfOk, OnOk, OnErr, string_bytes, codes, length, decimal};
 ghost use Rattle.std.specs.Io.KnownBytes.{Appends};
 ghost use Rattle.arrayvec.specs.ArrayString.{array_string_len};
 ghost use Rattle.plain_model.specs.Text.{line_of, stored_line, numbers, newline, verb, reply_text};
 ghost use Rattle.disk_model.specs.Causes.{HasCause};
-ghost use Rattle.script_lines.specs.Output.{AppendsFront, EndsWith, refused_line, pages_line, audit_line, generated_line, damage_text, open_refusal_text, open_refusal_line, crash_line};
+ghost use Rattle.script_lines.specs.Output.{AppendsFront, EndsWith, refused_line, pages_line, audit_line, par_audit_line, generated_line, damage_text, open_refusal_text, open_refusal_line, crash_line};
 
 use arrayvec::ArrayString;
 use itoa::Buffer;
@@ -100,7 +100,7 @@ pub fn call_line(client: u8, call: &Call, reply: &Reply) -> ArrayString<LINE_ROO
     line
 }
 
-/// Writes the line of a call, or a front of it where the sink fails. It takes no memory.
+/// Writes the line of a call, or a front of it where the sink fails, and then not all of it. It takes no memory.
 pub fn write_call<W: Sink>(
     out: &mut W,
     client: u8,
@@ -108,7 +108,7 @@ pub fn write_call<W: Sink>(
     reply: &Reply,
 ) -> Result<(), WriteFailed>
     ensures ok { OnOk result (Appends (W.written out.old) (W.written out.new) (line_of (Entry.Call client call.now reply.now))) }
-    ensures front { AppendsFront (W.written out.old) (W.written out.new) (line_of (Entry.Call client call.now reply.now)) }
+    ensures front { OnErr result (AppendsFront (W.written out.old) (W.written out.new) (line_of (Entry.Call client call.now reply.now))) }
     ensures cause { HasCause (W.faults out.old) (W.faults out.new) result }
 {
     let mut line: ArrayString<CALL_ROOM> = ArrayString::new();
@@ -173,6 +173,31 @@ pub fn audit_line(pages: u64, live: u64, zero: u64, differences: u64) -> ArraySt
     push_number(&mut line, zero);
     line.push_str(" differences ");
     push_number(&mut line, differences);
+    line.push_str("\n");
+    line
+}
+
+/// The line of a parallel audit. It takes no memory.
+pub fn par_audit_line(
+    pages: u64,
+    live: u64,
+    zero: u64,
+    differences: u64,
+    garbage: u64,
+) -> ArrayString<LINE_ROOM>
+    ensures { result.bytes ≡ par_audit_line pages live zero differences garbage }
+{
+    let mut line = ArrayString::new();
+    line.push_str("paudit: pages ");
+    push_number(&mut line, pages);
+    line.push_str(" live ");
+    push_number(&mut line, live);
+    line.push_str(" zero ");
+    push_number(&mut line, zero);
+    line.push_str(" differences ");
+    push_number(&mut line, differences);
+    line.push_str(" garbage ");
+    push_number(&mut line, garbage);
     line.push_str("\n");
     line
 }
@@ -285,11 +310,11 @@ pub fn crash_line(alloc: Global, ids: &[u32]) -> Result<String, Memory>
     ids_line(alloc, "crash: stored", ids)
 }
 
-/// Writes the whole piece, or a front of it where the sink fails.
+/// Writes the whole piece, or a front of it where the sink fails, and then not all of it.
 #[inline(always)]
 pub fn write_all<W: Sink>(out: &mut W, piece: &[u8]) -> Result<(), WriteFailed>
     ensures ok { OnOk result (Appends (W.written out.old) (W.written out.new) piece.now) }
-    ensures front { AppendsFront (W.written out.old) (W.written out.new) piece.now }
+    ensures front { OnErr result (AppendsFront (W.written out.old) (W.written out.new) piece.now) }
     ensures cause { HasCause (W.faults out.old) (W.faults out.new) result }
 {
     let mut rest = piece;

@@ -5,15 +5,16 @@ use Rattle.plain_model.specs.declared.calls.Call.TheVariants.{Abort}
 use Rattle.plain_model.specs.Machine.{IsInRange}
 use Rattle.latch_table.specs.Holds.{TableView}
 use Rattle.shared_store.specs.Passes.{PassView, IsClient}
+use Rattle.script_lines.specs.Numbers.{object_slots}
 
 -- the pass is a client's, of this store
-abbrev pub IsClientOf : TableView → PassView 6 → Type 0
+abbrev pub IsClientOf : TableView → PassView object_slots → Type 0
 IsClientOf store pass = (pass.table ≡ store.table) × IsClient pass.view.station.name
 
 -- it is still that pass of this store
-abbrev pub StaysOf : TableView → PassView 6 → PassView 6 → Type 0
+abbrev pub StaysOf : TableView → PassView object_slots → PassView object_slots → Type 0
 StaysOf store old new = (new.table ≡ store.table) × (new.view.station ≡ old.view.station)
 
 -- a call with registers and slots that there are, and not an abort, which is made in steps
 abbrev pub IsToCall : Call → Type 0
-IsToCall call = IsInRange 6 call × (call ≢ Abort)
+IsToCall call = IsInRange object_slots call × (call ≢ Abort)

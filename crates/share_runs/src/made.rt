@@ -11,6 +11,7 @@ use journal_opening::open;
 use logged_journal::LoggedJournal;
 use plain_model::Entry;
 use restart_store::init;
+use script_lines::SLOTS;
 use shared_store::{Pass, Store};
 use std::alloc::{AllocError, Global};
 
@@ -21,17 +22,17 @@ pub(crate) fn disk_on(alloc: Global, pages: u16) -> Result<MemoryDisk, AllocErro
     requires { (1 ≤ pages) × (pages ≤ 1024) }
 {
     let mut disk = MemoryDisk::new(alloc);
-    match init::<_, 6>(&mut disk, pages) {
+    match init::<_, SLOTS>(&mut disk, pages) {
         Ok(()) => Ok(disk),
         Err(_) => Err(AllocError),
     }
 }
 
 /// The journal of the store that the disk holds.
-fn journal_on<D: Disk>(alloc: Global, disk: D) -> Result<FramedJournal<6, D>, AllocError>
+fn journal_on<D: Disk>(alloc: Global, disk: D) -> Result<FramedJournal<SLOTS, D>, AllocError>
     ensures { IfOk result (λ j. (j.failed ≡ None) × (j.journal.notes ≡ [])) }
 {
-    match open::<D, 6>(alloc, disk, Limits::GREATEST) {
+    match open::<D, SLOTS>(alloc, disk, Limits::GREATEST) {
         Ok(journal) => Ok(journal),
         Err(_) => Err(AllocError),
     }
@@ -40,8 +41,8 @@ fn journal_on<D: Disk>(alloc: Global, disk: D) -> Result<FramedJournal<6, D>, Al
 /// The store over this journal, with its first pass.
 fn store_over<D: Disk>(
     alloc: Global,
-    journal: FramedJournal<6, D>,
-) -> Result<(Store<6, D>, Pass<6, D>), AllocError>
+    journal: FramedJournal<SLOTS, D>,
+) -> Result<(Store<SLOTS, D>, Pass<SLOTS, D>), AllocError>
     requires { (journal.failed ≡ None) × (journal.journal.notes ≡ []) }
     ensures pages { IfOk result (λ r. 1 ≤ r.0.pages) }
     ensures of { IfOk result (λ r. r.1.table ≡ r.0.table) }
@@ -58,7 +59,7 @@ fn store_over<D: Disk>(
 pub(crate) fn store_on<D: Disk>(
     alloc: Global,
     disk: D,
-) -> Result<(Store<6, D>, Pass<6, D>), AllocError>
+) -> Result<(Store<SLOTS, D>, Pass<SLOTS, D>), AllocError>
     ensures pages { IfOk result (λ r. 1 ≤ r.0.pages) }
     ensures of { IfOk result (λ r. r.1.table ≡ r.0.table) }
     ensures first { IfOk result (λ r. r.1.view.station ≡ first_station) }
@@ -69,9 +70,9 @@ pub(crate) fn store_on<D: Disk>(
 
 /// Closes the store.
 pub(crate) fn close<D: Disk>(
-    store: Store<6, D>,
-    pass: Pass<6, D>,
-) -> (LoggedJournal<6, D>, Vec<Frame<6>>)
+    store: Store<SLOTS, D>,
+    pass: Pass<SLOTS, D>,
+) -> (LoggedJournal<SLOTS, D>, Vec<Frame<SLOTS>>)
     requires of { pass.table ≡ store.table }
     requires alone { IsAlone pass.view }
 {
@@ -79,12 +80,12 @@ pub(crate) fn close<D: Disk>(
 }
 
 /// The notes of the journal.
-fn notes_of<D: Disk>(logged: &LoggedJournal<6, D>) -> &Notes {
+fn notes_of<D: Disk>(logged: &LoggedJournal<SLOTS, D>) -> &Notes {
     logged.journal().history()
 }
 
 /// How many entries the history has.
-pub(crate) fn entries_in<D: Disk>(logged: &LoggedJournal<6, D>) -> usize {
+pub(crate) fn entries_in<D: Disk>(logged: &LoggedJournal<SLOTS, D>) -> usize {
     notes_of(logged).len()
 }
 
@@ -97,7 +98,7 @@ fn is_of(note: &Note, client: u8) -> bool {
 }
 
 /// How many entries are calls of this client.
-pub(crate) fn calls_of<D: Disk>(logged: &LoggedJournal<6, D>, client: u8) -> usize {
+pub(crate) fn calls_of<D: Disk>(logged: &LoggedJournal<SLOTS, D>, client: u8) -> usize {
     let notes = notes_of(logged);
     // No more are counted than there are.
     let _ = notes.len();
@@ -105,7 +106,7 @@ pub(crate) fn calls_of<D: Disk>(logged: &LoggedJournal<6, D>, client: u8) -> usi
 }
 
 /// How many objects are stored.
-pub(crate) fn objects_in<D: Disk>(logged: &LoggedJournal<6, D>) -> Result<usize, AllocError> {
+pub(crate) fn objects_in<D: Disk>(logged: &LoggedJournal<SLOTS, D>) -> Result<usize, AllocError> {
     let stored = logged.journal().stored()?;
     Ok(stored.items().len())
 }

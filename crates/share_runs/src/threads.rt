@@ -9,6 +9,7 @@ use crate::untold::UntoldDisk;
 use disk_model::Disk;
 use logged_journal::LoggedJournal;
 use plain_model::Call;
+use script_lines::SLOTS;
 use std::alloc::{AllocError, Global};
 use std::sync::Wait;
 use std::test::Fail;
@@ -40,7 +41,7 @@ fn two_threads<R: Threads + Wait + Sync>(
     rt: &R,
     store: TestStore,
     mut main: TestPass,
-) -> LoggedJournal<6, UntoldDisk>
+) -> LoggedJournal<SLOTS, UntoldDisk>
     requires { (main.table ≡ store.table) × (main.view.station ≡ first_station) }
 {
     let mut one = store.share(&mut main, 1);
@@ -61,14 +62,14 @@ fn shared_run<R: Threads + Wait + Sync>(
     rt: &R,
     alloc: Global,
     disk: UntoldDisk,
-) -> Result<LoggedJournal<6, UntoldDisk>, AllocError> {
+) -> Result<LoggedJournal<SLOTS, UntoldDisk>, AllocError> {
     let (store, main) = store_on(alloc, disk)?;
     Ok(two_threads(rt, store, main))
 }
 
 /// How many entries the history has, how many of them are calls of the first client and of the second, and how many objects are
 /// stored.
-fn counts<D: Disk>(logged: &LoggedJournal<6, D>) -> Result<[usize; 4], AllocError> {
+fn counts<D: Disk>(logged: &LoggedJournal<SLOTS, D>) -> Result<[usize; 4], AllocError> {
     Ok([
         entries_in(logged),
         calls_of(logged, 1),

@@ -9,6 +9,7 @@ use Rattle.brahma_shell.proofs.AuditLemmas.{opening-cells, images-as}
 use Rattle.brahma_shell.proofs.CrashLemmas.{just-opened}
 use Rattle.brahma_shell.proofs.LogLemmas.{history-running}
 use Rattle.brahma_shell.proofs.auditing.audit_store.Goals as goal
+use Rattle.script_lines.specs.Numbers.{object_slots}
 
 pub returns-in-Ok-clause-audited : goal.returns-in-Ok-clause-audited
 returns-in-Ok-clause-audited g c =
@@ -22,14 +23,14 @@ returns-in-Ok-clause-audited g c =
     let size : length v.journal.opening ≡ 8 * pages + 1 = omega (arith, ids, some, c.ids.ensures.value, count) in
     let less : length v.journal.opening - 1 ≡ 8 * pages = omega (arith, size) in
     let cells = opening-cells v.journal opened.notes.0 in
-    let history = history-running v opened.running ∙ opened.history ∙ ap (λ (n : ℕ). opened_history 6 n v.journal.opening) less in
+    let history = history-running v opened.running ∙ opened.history ∙ ap (λ (n : ℕ). opened_history object_slots n v.journal.opening) less in
     λ left reads. inr (record {
       pages = pages;
       cells = v.journal.opening;
       opened = opened.opens;
       size = size;
       journal = (c.into_logged.result, refl, subst IsJustOpened (sym c.into_logged.ensures) (just-opened g.D.Disk.content g.D.Disk.faults _ v opened), ap (λ x. x.journal.opening) c.into_logged.ensures);
-      exit = images-as g.D.Disk.may_leave v c.into_logged.result (opened_history 6 (8 * pages) v.journal.opening) c.into_logged.ensures history c.history.ensures.opens;
+      exit = images-as g.D.Disk.may_leave v c.into_logged.result (opened_history object_slots (8 * pages) v.journal.opening) c.into_logged.ensures history c.history.ensures.opens;
       statuses = told.statuses;
       done = λ s. subst (λ (cs : List Cell). Appends (g.W.Sink.written c.args.out.now) (g.W.Sink.written c.tell_audit-status.new.out) (audit_text cs pages)) cells (told.done pages ids s);
       write = λ s.

@@ -6,3 +6,8 @@ pub returns-in-replay : goal.returns-in-replay
 returns-in-replay c =
     let e : c.args.word.now ≡ codes "replay" = search (rules, text_from_reads) in
     rw e
+
+pub returns-in-migrate : goal.returns-in-migrate
+returns-in-migrate c =
+    let e : c.args.word.now ≡ codes "migrate" = search (rules, text_from_reads) in
+    rw e

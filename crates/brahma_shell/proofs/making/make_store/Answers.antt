@@ -3,6 +3,7 @@ use Rattle.disk_model.specs.Told.{EachImage}
 use Rattle.restart_store.specs.Fresh.{fresh_store}
 use Rattle.brahma_shell.proofs.MakingLemmas.{made-opens, meanwhile-opens}
 use Rattle.brahma_shell.proofs.making.make_store.Goals as goal
+use Rattle.script_lines.specs.Numbers.{object_slots}
 
 pub returns-then-is_err-clause-made : goal.returns-then-is_err-clause-made
 returns-then-is_err-clause-made g c = λ left reads. record {
@@ -19,7 +20,7 @@ returns-then-is_err-clause-made g c = λ left reads. record {
 
 pub returns-in-Ok-clause-made : goal.returns-in-Ok-clause-made
 returns-in-Ok-clause-made g c =
-    let are : EachImage g.D.Disk.may_leave c.init.new.disk (λ image. image ≡ fresh_store 6 c.args.pages 0) = search rules in
+    let are : EachImage g.D.Disk.may_leave c.init.new.disk (λ image. image ≡ fresh_store object_slots c.args.pages 0) = search rules in
     λ left reads. record {
       shut = search rules;
       statuses = inl refl;
@@ -34,7 +35,7 @@ returns-in-Ok-clause-made g c =
 
 pub returns-in-Err-clause-made : goal.returns-in-Err-clause-made
 returns-in-Err-clause-made g c =
-    let are : EachImage g.D.Disk.may_leave c.init.new.disk (λ image. image ≡ fresh_store 6 c.args.pages 0) = search rules in
+    let are : EachImage g.D.Disk.may_leave c.init.new.disk (λ image. image ≡ fresh_store object_slots c.args.pages 0) = search rules in
     λ left reads. record {
       shut = search rules;
       statuses = inr (inl refl);

@@ -4,7 +4,7 @@ use Rattle.brahma_shell.proofs.perform.undo.Goals as goal
 pub returns-then-not-active-clause-ok : goal.returns-then-not-active-clause-ok
 returns-then-not-active-clause-ok g c =
     let called = c.in_ok-call.ensures.ok in
-    performs-no_undo c.args.store.now.journal c.call.new.store.journal c.args.client c.in_ok-call.field-0 c.active.ensures.entries c.if-not-active.ensures.value called.0 called.1 called.2
+    performs-no_undo c.args.store.now.journal c.call.new.store.journal c.args.client c.in_ok-call.field-0 c.in_ok-call.ensures.no_fault c.active.ensures.entries c.if-not-active.ensures.value called.0 called.1 called.2
 
 pub returns-in-Ok-Undone-clause-ok : goal.returns-in-Ok-Undone-clause-ok
 returns-in-Ok-Undone-clause-ok g c =

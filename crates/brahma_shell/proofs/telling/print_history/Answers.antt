@@ -10,9 +10,10 @@ use Rattle.brahma_shell.specs.Points.{entries_in}
 use Rattle.brahma_shell.specs.Telling.{IsNoCrash, failed_text}
 use Rattle.brahma_shell.proofs.TellLemmas.{no-crash, history-parts, err-of_text, err-behind, ok-behind, StopsWriting, front-all}
 use Rattle.brahma_shell.proofs.telling.print_history.Goals as goal
+use Rattle.script_lines.specs.Numbers.{object_slots}
 
 pub print_notes-requires : goal.print_notes-requires
-print_notes-requires g c = subst (λ (ns : List Note). AllByRecursion IsNoCrash (entries_in ns)) (sym c.history.ensures.notes) (no-crash 6 _ _ c.journal.result.now.notes c.history.ensures.led)
+print_notes-requires g c = subst (λ (ns : List Note). AllByRecursion IsNoCrash (entries_in ns)) (sym c.history.ensures.notes) (no-crash object_slots _ _ c.journal.result.now.notes c.history.ensures.led)
 
 pub returns-in-Ok-clause-ok : goal.returns-in-Ok-clause-ok
 returns-in-Ok-clause-ok g c =

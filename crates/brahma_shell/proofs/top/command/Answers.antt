@@ -1,8 +1,8 @@
 use Rattle.std.proofs.Common.{refl, sym, ◌∙◌, arith}
 use mir.Syntax.{of_param}
-use Rattle.brahma_shell.specs.declared.commands.Command.TheVariants.{Init, Replay, Gen, Audit}
+use Rattle.brahma_shell.specs.declared.commands.Command.TheVariants.{Init, Replay, Gen, Audit, Migrate}
 use Rattle.brahma_shell.specs.Commands.{command_of}
-use Rattle.brahma_shell.proofs.AnswerLemmas.{asks-nothing, asks-starved, asks-init, asks-replay, asks-gen, asks-audit, pages-within, named}
+use Rattle.brahma_shell.proofs.AnswerLemmas.{asks-nothing, asks-starved, asks-init, asks-replay, asks-gen, asks-audit, asks-migrate, pages-within, named}
 use Rattle.brahma_shell.proofs.FewLemmas.{gen-few}
 use Rattle.brahma_shell.proofs.top.command.Goals as goal
 
@@ -48,6 +48,14 @@ returns-in-Ok-Some-Audit g c =
     let a = c.audit_store.ensures in
     asks-audit g.D.Disk.content g.D.Disk.may_leave g.D.Disk.moment g.D.Disk.left_since _ _ _ _ _ _ _ _ (record { reads = omega arith; writes = a.out_later; disk = a.disk_later }) g.D.Disk.reads_may_stay g.D.Disk.counts_now asked a.statuses refl
     (a.audited (g.R.Source.left c.args.script.now) (g.R.Source.faults c.args.script.now))
+
+pub returns-in-Ok-Some-Migrate : goal.returns-in-Ok-Some-Migrate
+returns-in-Ok-Some-Migrate g c =
+    let at = c.in-Ok-Some-Migrate in
+    let asked = named at.field-0 (command_of c.args.words.now) at.field-0-0 Migrate at.ensures.value at.field-0-is at.field-0-0-is in
+    let m = c.migrate_store.ensures in
+    asks-migrate g.D.Disk.content g.D.Disk.may_leave g.D.Disk.moment g.D.Disk.left_since _ _ _ _ _ _ _ _ (record { reads = omega arith; writes = m.out_later; disk = m.disk_later }) g.D.Disk.reads_may_stay g.D.Disk.counts_now asked m.statuses refl
+    (m.migrated (g.R.Source.left c.args.script.now) (g.R.Source.faults c.args.script.now))
 
 pub returns-in-Ok-None : goal.returns-in-Ok-None
 returns-in-Ok-None g c =

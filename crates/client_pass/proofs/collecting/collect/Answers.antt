@@ -1,7 +1,7 @@
 use Rattle.std.proofs.Common.{Result, Ok, Err, refl, ap, ◌∙◌}
 use Rattle.shared_store.specs.Calls.{found_by_collecting}
 use Rattle.client_pass.specs.Workings.{end_of_collecting}
-use Rattle.client_pass.proofs.Events.{collects-step, did-longer, deleted-longer, alone-never, collecting-ends}
+use Rattle.client_pass.proofs.Events.{collects-step, did-longer, deleted-longer, alone-never, idle-collected, collecting-ends}
 use Rattle.client_pass.proofs.collecting.collect.Goals as goal
 
 pub returns-in-Ok-Did-clause-collects : goal.returns-in-Ok-Did-clause-collects
@@ -55,3 +55,7 @@ returns-in-Ok-Deleted-clause-longer g c told =
 
 pub returns-in-Err-Again-clause-never_again : goal.returns-in-Err-Again-clause-never_again
 returns-in-Err-Again-clause-never_again g c alone told = alone-never c.args.main.now.view c.collect_step.new.pass.view c.collect_step.result _ _ _ alone c.in-Err-Again.is c.in-Err-Again.field-0-is c.collect_step.ensures.knows
+
+pub returns-in-Ok-Idle-clause-idle : goal.returns-in-Ok-Idle-clause-idle
+returns-in-Ok-Idle-clause-idle g c told =
+    idle-collected g.row.D.Denot c.args.main.now.view c.collect_step.new.pass.view c.collect_step.result c.in-Ok-Idle.field-0 c.in-Ok-Idle.is c.in-Ok-Idle.field-0-is c.collect_step.ensures.knows c.collect_step.ensures.made

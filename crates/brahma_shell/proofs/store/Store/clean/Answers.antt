@@ -6,6 +6,7 @@ use Rattle.brahma_shell.specs.Log.{StaysRunning}
 use Rattle.brahma_shell.specs.Upkeep.{GivesUp, HasClean}
 use Rattle.brahma_shell.proofs.UpkeepLemmas.{upkeep-done, gives-up}
 use Rattle.brahma_shell.proofs.store.Store.clean.Goals as goal
+use Rattle.script_lines.specs.Numbers.{object_slots}
 
 pub returns-clause-done : goal.returns-clause-done
 returns-clause-done g c = λ e.
@@ -13,7 +14,7 @@ returns-clause-done g c = λ e.
     let k = c.clean.new.self in
     let running = subst (λ (x : LoggedView g.row.D.Denot). x.failed ≡ None) (sym c.self.view_is) c.requires.running in
     let done = c.clean.ensures.does.done e in
-    subst (λ (x : LoggedView g.row.D.Denot). GrowsByUpkeep x.journal k.journal Hidden × StaysRunning g.D.Disk.faults x k) c.self.view_is (upkeep-done g.D.Disk.faults i k running c.clean.ensures.does.later 6 done.cleans.does)
+    subst (λ (x : LoggedView g.row.D.Denot). GrowsByUpkeep x.journal k.journal Hidden × StaysRunning g.D.Disk.faults x k) c.self.view_is (upkeep-done g.D.Disk.faults i k running c.clean.ensures.does.later object_slots done.cleans.does)
 
 pub returns-clause-clean : goal.returns-clause-clean
 returns-clause-clean g c = λ e.

@@ -4,6 +4,7 @@ use Rattle.framed_journal.specs.Holding.{AreFramesOf}
 use Rattle.journal_opening.specs.Openings.{OpensMeanwhile}
 use Rattle.brahma_shell.proofs.LoneLemmas.{refuses-memory, memory-fault}
 use Rattle.brahma_shell.proofs.store.Store.open.Goals as goal
+use Rattle.script_lines.specs.Numbers.{object_slots}
 
 pub new-requires-after_bounds : goal.new-requires-after_bounds
 new-requires-after_bounds g c κs within =
@@ -21,7 +22,7 @@ returns-clause-refused g c =
 pub returns-clause-meanwhile : goal.returns-clause-meanwhile
 returns-clause-meanwhile g c =
     let same : c.into_disk.result ≡ c.in_ok-opened.opened.disk = c.into_disk.ensures.disk ∙ ap (λ (v : LoggedView g.row.D.Denot). v.disk) (c.in-Err.ensures.back.0 ∙ c.into_parts-logged.ensures.logged) in
-    subst (λ (d : g.row.D.Denot). OpensMeanwhile g.D.Disk.content g.D.Disk.may_leave g.D.Disk.moment g.D.Disk.left_since 6 c.args.disk d) (sym same) c.in_ok-opened.ensures.opens_meanwhile
+    subst (λ (d : g.row.D.Denot). OpensMeanwhile g.D.Disk.content g.D.Disk.may_leave g.D.Disk.moment g.D.Disk.left_since object_slots c.args.disk d) (sym same) c.in_ok-opened.ensures.opens_meanwhile
 
 pub returns-clause-fault : goal.returns-clause-fault
 returns-clause-fault g c =
@@ -31,4 +32,4 @@ returns-clause-fault g c =
 pub returns-in-Ok-clause-opens_meanwhile : goal.returns-in-Ok-clause-opens_meanwhile
 returns-in-Ok-clause-opens_meanwhile g c =
     let same = c.in-Ok.ensures.ok ∙ c.into_parts-logged.ensures.logged in
-    subst (λ (v : LoggedView g.row.D.Denot). OpensMeanwhile g.D.Disk.content g.D.Disk.may_leave g.D.Disk.moment g.D.Disk.left_since 6 c.args.disk v.disk) (sym same) c.in_ok-opened.ensures.opens_meanwhile
+    subst (λ (v : LoggedView g.row.D.Denot). OpensMeanwhile g.D.Disk.content g.D.Disk.may_leave g.D.Disk.moment g.D.Disk.left_since object_slots c.args.disk v.disk) (sym same) c.in_ok-opened.ensures.opens_meanwhile

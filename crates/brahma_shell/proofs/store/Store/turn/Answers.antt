@@ -8,6 +8,7 @@ use Rattle.brahma_shell.specs.Log.{StaysRunning}
 use Rattle.brahma_shell.specs.Upkeep.{GivesUp, HasTurned}
 use Rattle.brahma_shell.proofs.UpkeepLemmas.{upkeep-done, upkeep-busy, gives-up, none-active}
 use Rattle.brahma_shell.proofs.store.Store.turn.Goals as goal
+use Rattle.script_lines.specs.Numbers.{object_slots}
 
 pub returns-clause-done : goal.returns-clause-done
 returns-clause-done g c = λ e.
@@ -16,7 +17,7 @@ returns-clause-done g c = λ e.
     let running = subst (λ (x : LoggedView g.row.D.Denot). x.failed ≡ None) (sym c.self.view_is) c.requires.running in
     let told = c.turn.ensures.does in
     let done = told.done e in
-    let grows = upkeep-done g.D.Disk.faults i k running told.later 6 done.does in
+    let grows = upkeep-done g.D.Disk.faults i k running told.later object_slots done.does in
     let none = none-active c.turn.result i.failed (is_past_limit i.journal 1) (least_active (end_of i.journal.history).state) running told.full told.busy e in
     subst (λ (x : LoggedView g.row.D.Denot). (least_active (end_of x.journal.history).state ≡ None) × GrowsByUpkeep x.journal k.journal Hidden × StaysRunning g.D.Disk.faults x k) c.self.view_is (none, grows.0, grows.1)
 
@@ -30,7 +31,7 @@ returns-clause-busy g c = λ pass e.
     let k = c.turn.new.self in
     let running = subst (λ (x : LoggedView g.row.D.Denot). x.failed ≡ None) (sym c.self.view_is) c.requires.running in
     let told = c.turn.ensures.does in
-    let grows = upkeep-busy g.D.Disk.faults i k running told.later 6 pass (told.told pass e) in
+    let grows = upkeep-busy g.D.Disk.faults i k running told.later object_slots pass (told.told pass e) in
     subst (λ (x : LoggedView g.row.D.Denot). (least_active (end_of x.journal.history).state ≡ Some pass) × GrowsByUpkeep x.journal k.journal (TurnBusy pass) × StaysRunning g.D.Disk.faults x k) c.self.view_is (told.only_busy pass e, grows.0, grows.1)
 
 pub returns-clause-gives_up : goal.returns-clause-gives_up
