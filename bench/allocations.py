@@ -5,7 +5,7 @@
 
 A library that is loaded before the C library's own lets the program's Nth allocation fail, for N from 1 on until none
 fails any more: while a store is made, while a script is replayed that has every line, while generated calls are done,
-while a store is opened whose last transaction had not ended, and while an audit is made. Each such run has to answer as
+while a store is opened whose last transaction had not ended, while an audit is made, and while a store of version 1 is migrated. Each such run has to answer as
 without a failure, or with status 8, the same lines up to some place, and `refused: memory`. The store then has to open,
 to just what was acknowledged: the objects that are reachable have what they have where only the script's first lines
 are replayed. (Behind generated calls it has to open with counts that are right.)
@@ -15,6 +15,7 @@ What else comes is printed with its N, and the status is then 1.
 import re
 
 import stores
+from versions import of_version_1
 
 REFUSED = b"refused: memory\n"
 
@@ -51,6 +52,8 @@ class Refusals:
 
     def behind(self, areas, words, script, output):
         """What may be reachable behind what was written: behind some first lines, which have as many commits that were done."""
+        if words == ["migrate"]:
+            return [self.migrated(areas)]
         if words != ["replay"]:
             return [self.runs.seen_behind(areas, b"")]
         lines = script.splitlines(keepends=True)
@@ -61,6 +64,14 @@ class Refusals:
             if self.commits_of(areas, front) == commits:
                 found.append(self.runs.seen_behind(areas, front))
         return found
+
+    def migrated(self, areas):
+        """What is reachable where nothing fails. The folder of the disk stays as it is."""
+        held = self.runs.held()
+        self.runs.lay(areas)
+        seen = self.runs.seen(True)
+        self.runs.lay(held)
+        return seen
 
     def commits_of(self, areas, front):
         """How many commits these lines do."""
@@ -80,7 +91,7 @@ class Refusals:
             return "status %d with %r" % (status, output), True
         if words[0] == "gen":
             return self.runs.fault_of_audit(), True
-        now = self.runs.seen()
+        now = self.runs.seen(words[0] == "migrate")
         if now not in self.behind(areas, words, script, output):
             return "opens to %r" % (now,), True
         return None, True
@@ -113,6 +124,7 @@ def refuse_all(words, runs):
         refusals.refuse_each(fresh, stores.GENERATED, b""),
         refusals.refuse_each(unended, ["replay"], b"gc all\n"),
         refusals.refuse_each(unended, ["audit"], b""),
+        refusals.refuse_each(of_version_1(unended), ["migrate"], b""),
     ])
 
 

@@ -15,6 +15,8 @@ import sys
 import tempfile
 import time
 
+from stores import SLOTS
+
 PROGRAM = os.path.join(os.path.dirname(os.path.abspath(__file__)), "..", "brahma")
 RUNS = 5
 
@@ -28,14 +30,14 @@ def many_clients(clients, lines):
     while len(script) < lines:
         call = draw.choices(calls, weights)[0]
         if "%d" in call:
-            call = call % draw.randrange(6)
+            call = call % draw.randrange(SLOTS)
         script.append("%d %s" % (draw.randrange(clients) + 1, call))
     return script
 
 
 def one_transaction(lines, end):
     """One long transaction of one client, which writes and reads the root, and its end."""
-    body = ["1 set 0 %d" % n if n % 3 else "1 store 0 %d 0" % (n % 6) for n in range(lines - 2)]
+    body = ["1 set 0 %d" % n if n % 3 else "1 store 0 %d 0" % (n % SLOTS) for n in range(lines - 2)]
     return ["1 begin"] + body + [end]
 
 

@@ -16,6 +16,11 @@ import subprocess
 import sys
 import tempfile
 
+from stores import SLOTS
+
+# How many leaves a node has beside the next one.
+LEAVES = SLOTS - 1
+
 
 def transaction(calls):
     """One transaction of client 1."""
@@ -38,18 +43,18 @@ def live_ring(objects):
 
 
 def live_fan(objects):
-    """A list dies, each of its nodes with five leaves, to which another list points too."""
+    """A list dies, each of its nodes with leaves in all its other slots, to which another list points too."""
     calls = ["make 1", "store 0 0 1", "make 2", "store 0 1 2"]
     dying, living, free = 1, 2, 3
     made = 2
-    while made + 7 <= objects:
-        for slot in range(1, 6):
+    while made + LEAVES + 2 <= objects:
+        for slot in range(1, SLOTS):
             calls += ["make 5", "store %d %d 5" % (dying, slot), "store %d %d 5" % (living, slot)]
         calls += ["make %d" % free, "store %d 0 %d" % (dying, free)]
         dying, free = free, dying
         calls += ["make %d" % free, "store %d 0 %d" % (living, free)]
         living, free = free, living
-        made += 7
+        made += LEAVES + 2
     return transaction(calls + ["store 0 0 -"])
 
 

@@ -7,14 +7,15 @@ A library that is loaded before the C library's own keeps a trace of the calls t
 is to take the place of one of them, and on their folder: reads, writes, cuts, syncs, new names and removals. It ends the program at the Kth
 of them, for K from 1 on until the program ends by itself: while a store is made from nothing and over another one, while a script is
 replayed that has every line, while a store is opened whose last transactions had not ended, while one is opened on which another run did
-not end well, while an audit is made, while a client works on a thread, while generated calls are done, and while M (five, without it)
+not end well, while an audit is made, while a store of version 1 is migrated, and one of version 2, while a client works on a thread, while generated calls are done, and while M (five, without it)
 scripts are replayed that are drawn as those of damage.py are.
 
 From the trace N (ten, without it) contents of the four files are drawn as a power loss at that call may leave them. What the last sync of a
 file made last is there. Of the writes and cuts behind it, and of the call at which power was lost, each is done, not done or done in part,
 or anything is in its range. Each such store has to open to the effect of the commits that were answered, or of these and the one that was
 under way, with counts that are right; behind `init` there may be what was there before, no store, or a fresh one. (A client on a thread has
-its lines printed at the end, so some first ones of its commits have to be there; behind generated calls only the counts are looked at.)
+its lines printed at the end, so some first ones of its commits have to be there; behind generated calls only the counts are looked at.
+Behind a migration that lost power another one is made first.)
 
 Then the Kth call fails once in place of a loss of power, and the program goes on: it has to end with status 6, with the lines that it had
 written until then, `fault` for a commit that failed, and `refused: disk`. What it leaves, and what a power loss may leave behind it, has to
@@ -36,6 +37,7 @@ import re
 import damage
 import stores
 from folders import FOLDER, MARK, SPARE_NAME, SYNC, Folder
+from versions import of_version_1
 
 SHIM = r"""
 #define _GNU_SOURCE
@@ -264,6 +266,10 @@ class Losses:
             return lambda _: [*seen, NO_STORE]
         if words[0] == "gen":
             return None
+        if words[0] == "migrate":
+            self.runs.lay(areas)
+            seen = self.runs.seen(True)
+            return lambda _: [seen]
         if words[0] == "audit":
             script = b""
         fronts = self.fronts(areas, script)
@@ -272,20 +278,20 @@ class Losses:
             return lambda _: seen
         return lambda output: [it for at, (text, _) in enumerate(fronts) if text == output for it in seen[at: at + 2]]
 
-    def fault_of(self, areas, may_be):
-        """What is wrong with a store, if anything."""
+    def fault_of(self, areas, words, may_be):
+        """What is wrong with a store behind such a run, if anything."""
         self.runs.lay(areas)
-        now = self.runs.seen()
+        now = self.runs.seen(words[0] == "migrate")
         if may_be is not None and now not in may_be:
             return "opens to %r" % (now,)
         return None if now == NO_STORE and may_be else self.runs.fault_of_audit()
 
-    def faults_of(self, found, what, may_be, losses=None):
+    def faults_of(self, found, what, words, may_be, losses=None):
         """What is wrong with stores that a power loss may leave."""
         faults = []
         for loss in range(losses or self.losses):
             draw = random.Random("%d %s %d" % (self.seed, what, loss))
-            fault = self.fault_of(found.drawn(draw), may_be)
+            fault = self.fault_of(found.drawn(draw), words, may_be)
             if fault:
                 faults.append("%s, loss %d: %s" % (what, loss, fault))
         return faults
@@ -298,7 +304,7 @@ class Losses:
             what = "%s, power lost at call %d" % (" ".join(words), at)
             if ended[0] != LOST:
                 return faults if ended == wanted and at > 1 else [*faults, "%s: ends with %r" % (what, ended)]
-            faults += self.faults_of(found, what, allowed and allowed(ended[1]))
+            faults += self.faults_of(found, what, words, allowed and allowed(ended[1]))
             at += self.step
 
     def fail_each(self, areas, words, script, allowed, calls):
@@ -313,9 +319,9 @@ class Losses:
                 continue
             may_be = allowed and allowed(written)
             left = self.runs.held()
-            fault = self.fault_of(left, may_be)
+            fault = self.fault_of(left, words, may_be)
             faults += ["%s: %s" % (what, fault)] if fault else []
-            faults += self.faults_of(found, what, may_be)
+            faults += self.faults_of(found, what, words, may_be)
         return faults
 
     def try_each(self, areas, words, script):
@@ -347,7 +353,7 @@ class Losses:
         ended, _ = self.run_on(folder, ["replay"], LATER)
         may_be = [self.runs.seen_behind(held, LATER)]
         ends = [] if ended[0] == 0 else ["%s: ends with %r" % (what, ended)]
-        return ends + self.faults_of(folder, what, may_be, None if keeps_mark else 12)
+        return ends + self.faults_of(folder, what, ["replay"], may_be, None if keeps_mark else 12)
 
     def lie_each(self, areas, script):
         """Lets each sync of a file fail so. How many runs were wrong."""
@@ -382,6 +388,9 @@ def lose_all(words, runs):
         losses.try_each({**unended, MARK: b"", SPARE_NAME: b"left"}, ["replay"], UNDER_A_MARK),
         losses.lie_each(unended, stores.SCRIPT),
         losses.try_each(unended, ["audit"], b""),
+        # At each call in the short form too.
+        Losses(runs, words.losses, words.seed, 1).try_each(of_version_1(unended), ["migrate"], b""),
+        0 if words.short else losses.try_each(unended, ["migrate"], b""),
         losses.try_each(fresh, ["run"], CLIENT),
         losses.try_each(fresh, stores.GENERATED, b""),
         *(losses.try_each(fresh, ["replay"], script) for script in drawn_scripts),

@@ -11,6 +11,9 @@ import sys
 import tempfile
 
 HERE = os.path.dirname(os.path.abspath(__file__))
+sys.path.insert(0, os.path.join(HERE, "..", "tools"))
+sys.dont_write_bytecode = True
+from stored import SLOTS
 FILES = ("brahma.pages", "brahma.loga", "brahma.logb", "brahma.super")
 
 # Each verb, a reply of each kind, every line of the collector and of upkeep, and losses of power.
@@ -74,7 +77,7 @@ SOUND = re.compile(rb"audit: pages [0-9]+ live [0-9]+ zero [0-9]+ differences 0\
 UNENDED = b"1 begin\n1 set 0 4\n1 make 1\n1 store 0 2 1\n2 begin\n2 commit\n"
 
 # Reads the root and the objects that it names.
-LOOK = b"64 begin\n64 get 0\n" + b"".join(b"64 read 0 %d %d\n64 get %d\n" % (at, at + 1, at + 1) for at in range(6)) + b"64 abort\ncrash 0\ngc all\n"
+LOOK = b"64 begin\n64 get 0\n" + b"".join(b"64 read 0 %d 1\n64 get 1\n" % slot for slot in range(SLOTS)) + b"64 abort\ncrash 0\ngc all\n"
 
 
 class Stores:
@@ -122,8 +125,12 @@ class Stores:
             self.run(words, text)
         return self.held()
 
-    def seen(self):
-        """What is reachable in the store of the folder, or how it is refused."""
+    def seen(self, migrates=False):
+        """What is reachable in the store of the folder, or how it is refused. It may be migrated first, or how that is refused."""
+        if migrates:
+            ended = self.run(["migrate"], b"")
+            if ended[0] != 0:
+                return ended
         return self.run(["replay"], LOOK)
 
     def seen_behind(self, areas, lines):

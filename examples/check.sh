@@ -6,6 +6,7 @@
 #   NAME.pages   how many pages the store has that `init` makes before (1); 0: none is made
 #   NAME.first   a script that is replayed before
 #   NAME.loga    bytes that stand in place of those of log area A then; NAME.area those of the pages area
+#   NAME.before  words with which the program is run then, and ends well
 # A first word names another program in place of ../brahma.
 set -eu
 
@@ -29,6 +30,9 @@ prepare() {
     if [ -f "$1.first" ]; then "$program" replay <"$1.first" >"$folder/made"; fi
     if [ -f "$1.loga" ]; then cp "$1.loga" brahma.loga; fi
     if [ -f "$1.area" ]; then cp "$1.area" brahma.pages; fi
+    # The words are separate arguments.
+    # shellcheck disable=SC2046
+    if [ -f "$1.before" ]; then "$program" $(cat "$1.before") </dev/null >"$folder/made"; fi
 }
 
 count=0

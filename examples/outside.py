@@ -21,11 +21,12 @@ import tempfile
 import time
 
 from attacked import DISK, FILES, INPUT, MARK, OUTPUT, USAGE, Attacks, expect_limited, one, run_of
+from places import PAGE, places
 
 HERE = os.path.dirname(os.path.abspath(__file__))
 BENCH = os.path.join(HERE, "..", "bench")
 GENERATED = ["gen", "--seed", "1", "--clients", "1", "--txns", "1"]
-COMMANDS = (["init", "2"], ["replay"], ["run"], ["audit"], GENERATED, ["nothing"])
+COMMANDS = (["init", "2"], ["replay"], ["run"], ["audit"], ["migrate"], GENERATED, ["nothing"])
 
 # A copy of the process is made before its first data sync, and holds what it holds until it is ended.
 FORKS = r"""
@@ -156,7 +157,7 @@ def locks(attacks):
     attacks.fresh()
     first = attacks.hold()
     before = attacks.held()
-    for words in (["init", "2"], ["replay"], ["run"], ["audit"], GENERATED):
+    for words in (["init", "2"], ["replay"], ["run"], ["audit"], ["migrate"], GENERATED):
         attacks.expect_refused("%s beside a run" % words[0], attacks.run(words))
     attacks.expect("files beside a run", before, attacks.held())
     attacks.tell(first, one(3), 3)
@@ -376,7 +377,7 @@ def file_sizes(attacks):
     """A limit on the size of a file, which is answered as an error, or kills by a signal."""
     numbers = run_of(range(3, 12))
     for ignores in (True, False):
-        for size in (0, 1, 9, 10, 300, 511, 512, 1000, 2000, 2700, 4096, 6000):
+        for size in (0, 1, 9, 10, 300, PAGE - 1, PAGE, 2000, 2700, 4 * PAGE, 6000):
             attacks.fresh()
 
             def limit(size=size, ignores=ignores):
@@ -464,7 +465,7 @@ def benches(attacks):
             print("%s:\n%s" % (name, done.stdout.decode(errors="replace")))
 
 
-ALL = (streams, descriptors, asked, locks, killed, many_at_once, copies, few_descriptors, odd_files, rights, moved_files, file_sizes, stacks, full_disks, broken_pipes, benches)
+ALL = (streams, descriptors, places, asked, locks, killed, many_at_once, copies, few_descriptors, odd_files, rights, moved_files, file_sizes, stacks, full_disks, broken_pipes, benches)
 
 
 def in_memory():

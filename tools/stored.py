@@ -6,8 +6,15 @@ import fcntl
 import struct
 
 CELLS = 8
-SIZES = {1: (6, 64), 2: (14, 128)}
 ROOT = 1
+
+# For each version of the format how many slots an object has, and how many bytes a cell.
+SIZES = {1: (6, 64), 2: (14, 128)}
+
+# The program's stores.
+VERSION = 2
+SLOTS, CELL = SIZES[VERSION]
+PAGE = CELLS * CELL
 
 # The fields behind the kind of each record: b one byte, i four, q eight.
 FIELDS = {
