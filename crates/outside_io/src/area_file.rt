@@ -219,7 +219,7 @@ impl AreaFile {
                 open.require_place(files, self.path.as_path())?;
                 open.write_at(at, bytes)
             }
-            None => Ok(()),
+            None => Err(ErrorKind::NotFound.into()),
         }
     }
 
@@ -248,7 +248,7 @@ impl AreaFile {
                 open.require_place(files, self.path.as_path())?;
                 open.cut(len)
             }
-            None => Ok(()),
+            None => Err(ErrorKind::NotFound.into()),
         }
     }
 
@@ -261,7 +261,7 @@ impl AreaFile {
         self.opened(files, folder)?;
         match &mut self.open {
             Some(open) => open.sync(files, self.path.as_path()),
-            None => Ok(()),
+            None => Err(ErrorKind::NotFound.into()),
         }
     }
 
@@ -274,7 +274,7 @@ impl AreaFile {
         self.opened(files, folder).map_err(TryLockError::Error)?;
         match &self.open {
             Some(open) => open.try_lock(files, self.path.as_path()),
-            None => Ok(()),
+            None => Err(TryLockError::WouldBlock),
         }
     }
 
