@@ -1,5 +1,7 @@
 //! The file of one area. No contract says which bytes it has.
 use crate::high_file::open_high;
+use crate::reason::Reason;
+use disk_model::DiskFailed;
 use std::alloc::{AllocError, Global};
 use std::fs::{File, Files, Metadata, OpenOptions, TryLockError};
 use std::io::ErrorKind;
@@ -86,15 +88,20 @@ impl OpenFile {
 
     /// Fails where the file doesn't lie under this name any more, or has another number of bytes than it is to have: what lies elsewhere,
     /// or was cut off by somebody else, nobody finds again.
-    fn require_place<R: Files<File = File>>(&self, files: &R, path: Path<'_>) -> io::Result<()> {
-        let told = fs::symlink_metadata(files, path)?;
+    fn require_place<R: Files<File = File>>(
+        &self,
+        files: &R,
+        path: Path<'_>,
+        reason: &mut Reason,
+    ) -> Result<(), DiskFailed> {
+        let told = reason.hear(fs::symlink_metadata(files, path))?;
         if !self.is_told_by(&told) {
-            return Err(ErrorKind::NotFound.into());
+            return Err(reason.keep_kind(ErrorKind::NotFound));
         }
         if self.len.is_none_or(|len| len == told.len()) {
             Ok(())
         } else {
-            Err(ErrorKind::InvalidData.into())
+            Err(reason.keep_kind(ErrorKind::InvalidData))
         }
     }
 
@@ -120,11 +127,16 @@ impl OpenFile {
 
     /// Makes the bytes last. Where nothing was written since that was done last, the file has to lie under this name; else the write
     /// asked.
-    fn sync<R: Files<File = File>>(&mut self, files: &R, path: Path<'_>) -> io::Result<()> {
+    fn sync<R: Files<File = File>>(
+        &mut self,
+        files: &R,
+        path: Path<'_>,
+        reason: &mut Reason,
+    ) -> Result<(), DiskFailed> {
         if !self.is_changed {
-            self.require_place(files, path)?;
+            self.require_place(files, path, reason)?;
         }
-        self.file.sync_data()?;
+        reason.hear(self.file.sync_data())?;
         self.is_changed = false;
         Ok(())
     }
@@ -204,64 +216,91 @@ impl AreaFile {
         Ok(self.open.as_mut().unwrap())
     }
 
-    /// Writes the bytes at this offset, which can't be past the end. The file has to lie under its name, with as many bytes as it is to
-    /// have. The first call opens it.
+    /// Opens the file, where no call did yet.
+    #[inline(always)]
+    pub(crate) fn require_open<R: Files<File = File>>(
+        &mut self,
+        files: &R,
+        folder: Path<'_>,
+        reason: &mut Reason,
+    ) -> Result<(), DiskFailed> {
+        if self.open.is_some() {
+            return Ok(());
+        }
+        self.open_first(files, folder, reason)
+    }
+
+    /// Opens the file, at the first call on it.
+    #[inline(never)]
+    fn open_first<R: Files<File = File>>(
+        &mut self,
+        files: &R,
+        folder: Path<'_>,
+        reason: &mut Reason,
+    ) -> Result<(), DiskFailed> {
+        match self.opened(files, folder) {
+            Ok(_) => Ok(()),
+            Err(error) => Err(reason.keep(error)),
+        }
+    }
+
+    /// Writes the bytes at this offset, which can't be past the end. The file has to be open, and to lie under its name, with as many
+    /// bytes as it is to have.
     pub(crate) fn write_at<R: Files<File = File>>(
         &mut self,
         files: &R,
-        folder: Path<'_>,
         at: u64,
         bytes: &[u8],
-    ) -> io::Result<()> {
-        self.opened(files, folder)?;
+        reason: &mut Reason,
+    ) -> Result<(), DiskFailed> {
         match &mut self.open {
             Some(open) => {
-                open.require_place(files, self.path.as_path())?;
-                open.write_at(at, bytes)
+                open.require_place(files, self.path.as_path(), reason)?;
+                reason.hear(open.write_at(at, bytes))
             }
-            None => Err(ErrorKind::NotFound.into()),
+            None => Err(reason.keep_kind(ErrorKind::NotFound)),
         }
     }
 
-    /// Writes the byte that commits what was written before it. That write asked where the file lies.
-    pub(crate) fn commit_at<R: Files<File = File>>(
+    /// Writes the byte that commits what was written before it. That write asked where the file lies. The file has to be open.
+    pub(crate) fn commit_at(
         &mut self,
-        files: &R,
-        folder: Path<'_>,
         at: u64,
         byte: &[u8],
-    ) -> io::Result<()> {
-        self.opened(files, folder)?.write_at(at, byte)
+        reason: &mut Reason,
+    ) -> Result<(), DiskFailed> {
+        match &mut self.open {
+            Some(open) => reason.hear(open.write_at(at, byte)),
+            None => Err(reason.keep_kind(ErrorKind::NotFound)),
+        }
     }
 
-    /// Takes the bytes from this length on away. The file can't be shorter, and has to lie under its name, with as many bytes as it is to
-    /// have. The first call opens it.
+    /// Takes the bytes from this length on away. The file has to be open and can't be shorter, and has to lie under its name, with as
+    /// many bytes as it is to have.
     pub(crate) fn cut<R: Files<File = File>>(
         &mut self,
         files: &R,
-        folder: Path<'_>,
         len: u64,
-    ) -> io::Result<()> {
-        self.opened(files, folder)?;
+        reason: &mut Reason,
+    ) -> Result<(), DiskFailed> {
         match &mut self.open {
             Some(open) => {
-                open.require_place(files, self.path.as_path())?;
-                open.cut(len)
+                open.require_place(files, self.path.as_path(), reason)?;
+                reason.hear(open.cut(len))
             }
-            None => Err(ErrorKind::NotFound.into()),
+            None => Err(reason.keep_kind(ErrorKind::NotFound)),
         }
     }
 
-    /// Makes what the file reads last. The first call opens it.
+    /// Makes what the file reads last. The file has to be open.
     pub(crate) fn sync<R: Files<File = File>>(
         &mut self,
         files: &R,
-        folder: Path<'_>,
-    ) -> io::Result<()> {
-        self.opened(files, folder)?;
+        reason: &mut Reason,
+    ) -> Result<(), DiskFailed> {
         match &mut self.open {
-            Some(open) => open.sync(files, self.path.as_path()),
-            None => Err(ErrorKind::NotFound.into()),
+            Some(open) => open.sync(files, self.path.as_path(), reason),
+            None => Err(reason.keep_kind(ErrorKind::NotFound)),
         }
     }
 

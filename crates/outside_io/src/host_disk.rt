@@ -9,7 +9,6 @@ use disk_model::{Area, Disk, DiskFailed};
 use std::alloc::{AllocError, Global};
 use std::fs::{File, Files, TryLockError};
 use std::io;
-use std::io::ErrorKind;
 use std::marker::Model;
 use thiserror::Error;
 
@@ -58,7 +57,6 @@ pub struct HostDisk<R: Files<File = File>> {
     files: HostFiles<R>,
     faults: u64,
     sync_failed: bool,
-    reason: Option<io::Error>,
 }
 
 impl<R: Files<File = File>> Model for HostDisk<R> {
@@ -79,7 +77,6 @@ impl<R: Files<File = File> + Drop> HostDisk<R> {
             files: HostFiles::new(alloc, files, folder)?,
             faults: 0,
             sync_failed: false,
-            reason: None,
         })
     }
 
@@ -113,31 +110,29 @@ impl<R: Files<File = File> + Drop> HostDisk<R> {
     /// or is shorter than what was asked, `InvalidData` where somebody else changed its length, and `NotFound` where it no longer
     /// lies under its name. It is for a message alone.
     pub fn reason(&self) -> Option<io::Error> {
-        self.reason
+        self.files.reason()
     }
 
-    /// What the operating system answered, with its failure counted.
-    fn counted<T: Drop>(&mut self, answer: io::Result<T>) -> Result<T, DiskFailed>
+    /// What was answered, with a failure counted.
+    #[inline(always)]
+    fn counted<T: Drop>(&mut self, answer: Result<T, DiskFailed>) -> Result<T, DiskFailed>
         ensures told { is_ok result ≡ is_ok answer }
         ensures cause { HasCause self.old.faults self.new.faults result }
         ensures counted { self.new ≡ (if is_ok result then self.old else after_fault self.old) }
     {
         match answer {
             Ok(value) => Ok(value),
-            Err(error) => Err(self.failed(error)),
+            Err(failed) => Err(self.counting(failed)),
         }
     }
 
-    /// One failure more, for this reason.
-    fn failed(&mut self, error: io::Error) -> DiskFailed
+    /// One failure more.
+    fn counting(&mut self, failed: DiskFailed) -> DiskFailed
         ensures cause { Rose self.old.faults self.new.faults × (self.old.faults ≤ self.new.faults) }
         ensures counted { self.new ≡ after_fault self.old }
     {
-        if self.reason.is_none() {
-            self.reason = Some(error);
-        }
         self.faults = self.faults.saturating_add(1);
-        DiskFailed
+        failed
     }
 }
 
@@ -209,13 +204,14 @@ impl<R: Files<File = File> + Drop + Send> Disk for HostDisk<R> {
         ensures none_after_failure { IsTrue self.old.sync_failed → IsErr result }
     {
         if self.sync_failed {
-            return Err(self.failed(ErrorKind::Other.into()));
+            let failed = self.files.fail();
+            return Err(self.counting(failed));
         }
         match self.files.sync(area) {
             Ok(()) => Ok(()),
-            Err(error) => {
+            Err(failed) => {
                 self.sync_failed = true;
-                Err(self.failed(error))
+                Err(self.counting(failed))
             }
         }
     }

@@ -1,7 +1,8 @@
 //! The files under a disk of the operating system. No contract says which bytes they have.
-use crate::area_file::{AreaFile, OpenFile, sync_folder};
+use crate::area_file::{AreaFile, sync_folder};
 use crate::high_file::open_high;
-use disk_model::Area;
+use crate::reason::Reason;
+use disk_model::{Area, DiskFailed};
 use std::alloc::{AllocError, Global};
 use std::fs::{File, Files, OpenOptions, TryLockError};
 use std::io::ErrorKind;
@@ -61,6 +62,7 @@ pub(crate) struct HostFiles<R: Files<File = File>> {
     mark: PathBuf,
     has_mark: bool,
     spare: PathBuf,
+    reason: Reason,
 }
 
 impl<R: Files<File = File> + Drop> HostFiles<R> {
@@ -74,6 +76,7 @@ impl<R: Files<File = File> + Drop> HostFiles<R> {
             mark: path.join(alloc, "brahma.open")?,
             has_mark: false,
             spare: path.join(alloc, "brahma.new")?,
+            reason: Reason::none(),
         })
     }
 
@@ -121,45 +124,67 @@ impl<R: Files<File = File> + Drop> HostFiles<R> {
         }
     }
 
-    /// The open file of the area. The first call on the area opens it.
-    fn opened(&mut self, area: Area) -> io::Result<&mut OpenFile> {
-        let folder = self.folder.as_path();
-        self.areas.of(area).opened(&self.files, folder)
+    /// Why the first call failed, where one did.
+    pub(crate) fn reason(&self) -> Option<io::Error> {
+        self.reason.first()
+    }
+
+    /// Fails as after a sync that failed.
+    pub(crate) fn fail(&mut self) -> DiskFailed {
+        self.reason.keep_kind(ErrorKind::Other)
     }
 
     /// How many bytes the area has.
-    pub(crate) fn len(&mut self, area: Area) -> io::Result<u64> {
-        self.opened(area)?.len()
+    pub(crate) fn len(&mut self, area: Area) -> Result<u64, DiskFailed> {
+        let folder = self.folder.as_path();
+        match self.areas.of(area).opened(&self.files, folder) {
+            Ok(file) => self.reason.hear(file.len()),
+            Err(error) => Err(self.reason.keep(error)),
+        }
     }
 
     /// Fills the buffer with the bytes of the area from this offset on. All of them have to be there.
-    pub(crate) fn read_at(&mut self, area: Area, at: u64, into: &mut [u8]) -> io::Result<()> {
-        self.opened(area)?.read_at(at, into)
+    pub(crate) fn read_at(
+        &mut self,
+        area: Area,
+        at: u64,
+        into: &mut [u8],
+    ) -> Result<(), DiskFailed> {
+        let folder = self.folder.as_path();
+        match self.areas.of(area).opened(&self.files, folder) {
+            Ok(file) => self.reason.hear(file.read_at(at, into)),
+            Err(error) => Err(self.reason.keep(error)),
+        }
     }
 
     /// Writes the bytes at this offset of the area, which can't be past the end.
     ///
     /// A single byte that goes into a log area commits the batch that was written before it. Each other write asks first whether the file
     /// still lies under its name, with as many bytes as it is to have.
-    pub(crate) fn write_at(&mut self, area: Area, at: u64, bytes: &[u8]) -> io::Result<()> {
+    pub(crate) fn write_at(&mut self, area: Area, at: u64, bytes: &[u8]) -> Result<(), DiskFailed> {
         let folder = self.folder.as_path();
         let file = self.areas.of(area);
+        file.require_open(&self.files, folder, &mut self.reason)?;
         if matches!(area, Area::LogA | Area::LogB) && bytes.len() == 1 {
-            file.commit_at(&self.files, folder, at, bytes)
+            file.commit_at(at, bytes, &mut self.reason)
         } else {
-            file.write_at(&self.files, folder, at, bytes)
+            file.write_at(&self.files, at, bytes, &mut self.reason)
         }
     }
 
     /// Takes the bytes of the area from this length on away. The area can't be shorter.
-    pub(crate) fn cut(&mut self, area: Area, len: u64) -> io::Result<()> {
+    pub(crate) fn cut(&mut self, area: Area, len: u64) -> Result<(), DiskFailed> {
         let folder = self.folder.as_path();
-        self.areas.of(area).cut(&self.files, folder, len)
+        let file = self.areas.of(area);
+        file.require_open(&self.files, folder, &mut self.reason)?;
+        file.cut(&self.files, len, &mut self.reason)
     }
 
     /// Makes what the area reads last.
-    pub(crate) fn sync(&mut self, area: Area) -> io::Result<()> {
+    pub(crate) fn sync(&mut self, area: Area) -> Result<(), DiskFailed> {
         let folder = self.folder.as_path();
-        self.areas.of(area).sync(&self.files, folder)
+        let file = self.areas.of(area);
+        file.require_open(&self.files, folder, &mut self.reason)?;
+        file.sync(&self.files, &mut self.reason)
     }
 }
