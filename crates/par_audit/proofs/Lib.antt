@@ -1,5 +1,6 @@
 mod FollowLaws
 mod LevelLaws
+mod PairLaws
 mod PieceLaws
 mod TableLaws
 mod SameLaws

@@ -7,6 +7,7 @@ use cell_page::Cell;
 use plain_model::Memory;
 
 /// Whether the id has an object that isn't marked.
+#[inline(always)]
 fn is_new<const SLOTS: usize>(cells: &[Cell<SLOTS>], marks: &[bool], id: u32) -> bool
     requires { length marks.now ≡ length cells.now }
     ensures object { result ≡ true → is_object (map cell_of cells.now) id ≡ true }
@@ -25,6 +26,7 @@ fn is_new<const SLOTS: usize>(cells: &[Cell<SLOTS>], marks: &[bool], id: u32) ->
 }
 
 /// Marks and lists the object of this id, where there is one that isn't marked yet.
+#[inline(always)]
 pub(crate) fn visit<const SLOTS: usize>(
     cells: &[Cell<SLOTS>],
     marks: &mut [bool],
@@ -42,6 +44,7 @@ pub(crate) fn visit<const SLOTS: usize>(
 }
 
 /// Marks and lists the objects that these slots name and that aren't marked yet.
+#[inline(always)]
 fn follow_slots<const SLOTS: usize>(
     cells: &[Cell<SLOTS>],
     marks: &mut [bool],
@@ -58,6 +61,7 @@ fn follow_slots<const SLOTS: usize>(
 }
 
 /// Marks and lists the objects that the id's cell names and that aren't marked yet.
+#[inline(always)]
 fn follow<const SLOTS: usize>(
     cells: &[Cell<SLOTS>],
     marks: &mut [bool],

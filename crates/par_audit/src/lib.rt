@@ -2,14 +2,17 @@
 #![tactic(auto)]
 
 mod following;
+mod found;
 mod garbage;
 mod journal;
 mod marking;
 mod names;
+mod pairs;
 mod pieces;
 mod tables;
 mod wide;
 
+pub use found::{Found, find};
 pub use garbage::garbage_in;
 pub use journal::par_audit_journal;
 pub use marking::mark;

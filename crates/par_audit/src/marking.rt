@@ -12,8 +12,15 @@ use plain_model::Memory;
 use std::alloc::Global;
 use std::thread::Threads;
 
-/// How few objects of a level are worth a piece of their own.
-const LEAST_PIECE: usize = 512;
+/// How few objects of a level are worth a thread of their own.
+const LEAST_PIECE: usize = 8192;
+
+/// How few objects of a level are worth a table of all ids. A level is to have a share of the cells besides, so that all such
+/// tables of a marking together are read in a time that goes with the number of cells.
+const LEAST_LEVEL: usize = 512;
+
+/// One in so many cells is to be of a level that is worth a table.
+const LEAST_SHARE: usize = 16;
 
 /// Follows the objects that are listed from this place on by so many pieces of them.
 fn follow_by_pieces<const SLOTS: usize>(
@@ -56,11 +63,12 @@ fn follow_level<const SLOTS: usize>(
     requires fits { workers ≤ 1024 }
     ensures { IfOk result (λ _. Follows (map cell_of cells.now) (is_named cells.now (drop from found.old.items)) marks.old marks.new found.old.items found.new.items) }
 {
-    let pieces = workers.min((found.len() - from) / LEAST_PIECE);
-    if pieces > 0 && found.len() <= 16_777_216 {
-        return follow_by_pieces(rt, alloc, cells, marks, found, from, pieces);
+    let objects = found.len() - from;
+    if objects < LEAST_LEVEL || objects < cells.len() / LEAST_SHARE || found.len() > 16_777_216 {
+        return follow_in_turn(cells, marks, found, from);
     }
-    follow_in_turn(cells, marks, found, from)
+    let pieces = workers.min(objects / LEAST_PIECE).max(1);
+    follow_by_pieces(rt, alloc, cells, marks, found, from, pieces)
 }
 
 /// Marks what is reached from the objects that are listed, level by level.

@@ -9,9 +9,8 @@ ghost use Rattle.core_store.specs.Opening.{store_of};
 ghost use Rattle.auditor.specs.Recount.{ArePages, live_in, zero_in, differences_of, ids_of};
 ghost use Rattle.par_audit.specs.Garbage.{IsGarbage};
 
+use crate::found::find;
 use crate::garbage::garbage_in;
-use crate::marking::mark;
-use crate::tables::count_by_pieces;
 use auditor::{Report, replayed, report_on};
 use cell_page::{CELLS_OF_PAGE, Cell};
 use core_store::{Frame, Notes};
@@ -66,18 +65,17 @@ pub fn recount_by_pieces<const SLOTS: usize>(
     ensures differences { IfOk result (λ w. w.report.differences ≡ differences_of (map cell_of cells.now) frames.now) }
     ensures garbage { IfOk result (λ w. IsGarbage (map cell_of cells.now) (ids_of (length frames.now)) w.garbage) }
 {
-    let tables = count_by_pieces(rt, alloc, cells, workers)?;
-    let marks = mark(rt, alloc, cells, workers)?;
+    let found = find(rt, alloc, cells, workers)?;
     let garbage = garbage_in(
         cells,
-        marks.as_slice(),
+        found.marks.as_slice(),
         (CELLS_OF_PAGE * frames.len()) as u32,
     );
     let report = report_on(
         alloc,
         cells,
-        tables.zeros.as_slice(),
-        tables.ones.as_slice(),
+        found.tables.zeros.as_slice(),
+        found.tables.ones.as_slice(),
         frames,
     )?;
     Ok(Wide { report, garbage })

@@ -7,7 +7,7 @@ use Rattle.par_audit.proofs.TableLaws.{tables-wide, tables-sum_whole, tables-few
 use Rattle.par_audit.proofs.tables.sums_of_pieces.Goals as goal
 
 pub sums_of-requires-clause-wide : goal.sums_of-requires-clause-wide
-sums_of-requires-clause-wide g c = tables-wide c.args.cells.now c.args.size (length c.args.cells.now) c.args.bit (nat_range 0 c.args.pieces) c.args.tables.now c.requires.tables
+sums_of-requires-clause-wide g c = tables-wide c.args.cells.now c.args.size (length c.args.cells.now) (nat_range 0 c.args.pieces) c.args.tables.now c.requires.tables
 
 pub sums_of-requires-clause-room : goal.sums_of-requires-clause-room
 sums_of-requires-clause-room g c = λ id within.

@@ -1,4 +1,4 @@
-use Rattle.std.proofs.Common.{◌≡◌, ◌*◌, ◌<◌, ◌≤◌, ℕ, length, ◌∙◌, arith, subst, List, map}
+use Rattle.std.proofs.Common.{◌≡◌, ◌*◌, ◌<◌, ◌≤◌, ℕ, length, ◌∙◌, arith, subst, List, map, Vec, Global}
 use Rattle.std.proofs.Math.Nat.{mul-le-mul_right}
 use Rattle.std.specs.declared.alloc.AllocError.{AllocError}
 use Rattle.std.specs.Prelude.{IfOk, Result}
@@ -7,8 +7,7 @@ use Rattle.rayon.specs.Numbers.{nat_range}
 use Rattle.rayon.proofs.ToStd.{nat_range-All}
 use Rattle.par_audit.specs.Pieces.{piece_at}
 use Rattle.cell_page.specs.Stored.{cell_of}
-use Rattle.par_audit.specs.declared.tables.Tables.{Tables}
-use Rattle.par_audit.specs.Tables.{AreTablesOf}
+use Rattle.par_audit.specs.Tables.{IsPairTable}
 use Rattle.par_audit.proofs.PieceLaws.{collected, all-ok}
 use Rattle.par_audit.proofs.tables.tables_of_pieces.Goals as goal
 
@@ -26,9 +25,9 @@ returns g c =
     let ends = c.into_par_iter.ensures in
     let h = c.in_ok-collect.ensures in
     collected c.in_ok-collect.field-0 _ _ _ h.2 (λ tables ok.
-    let P = λ (number : ℕ) (t : Tables). AreTablesOf (map cell_of (piece_at c.args.size c.args.cells.now number)) (length c.args.cells.now) t in
+    let P = λ (number : ℕ) (t : Vec ℕ Global). IsPairTable (map cell_of (piece_at c.args.size c.args.cells.now number)) (length c.args.cells.now) t.items in
     let chain = rw (c.map.ensures.base, c.map.ensures.f, c.with_min_len.ensures.base) at h.1 in
     let places : chain.0 ≡ nat_range 0 c.args.pieces = chain.1 ∙ (λ i. nat_range (ends.0 i) (ends.1 i)) in
     let step = subst (λ (l : List ℕ). AllZip (λ (number : ℕ) r. IfOk r (P number)) l h.0) places chain.2 in
-    let okay = subst (λ (l : List (Result (Tables) AllocError)). AllZip (λ (number : ℕ) r. IfOk r (P number)) (nat_range 0 c.args.pieces) l) ok.1 step in
+    let okay = subst (λ (l : List (Result (Vec ℕ Global) AllocError)). AllZip (λ (number : ℕ) r. IfOk r (P number)) (nat_range 0 c.args.pieces) l) ok.1 step in
     rw ok.2 (all-ok AllocError P (nat_range 0 c.args.pieces) ok.0 okay))

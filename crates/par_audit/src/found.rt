@@ -1,0 +1,83 @@
+//! The count of all pointers and the marking, side by side.
+ghost use Rattle.std.specs.Prelude.{◌≡◌, ◌<◌, ◌≤◌, length, map, IfOk};
+ghost use Rattle.cell_page.specs.Format.{IsSlotCount};
+ghost use Rattle.cell_page.specs.Stored.{cell_of};
+ghost use Rattle.par_audit.specs.Marks.{is_marked};
+ghost use Rattle.par_audit.specs.Garbage.{IsReach};
+ghost use Rattle.par_audit.specs.Tables.{AreTablesOf};
+
+use crate::marking::mark;
+use crate::tables::{Tables, count_by_pieces};
+use cell_page::Cell;
+use plain_model::Memory;
+use std::alloc::Global;
+use std::thread::{Threads, join};
+
+/// How few cells are worth a thread of their own.
+const LEAST_PIECE: usize = 8192;
+
+/// What was counted, and what was marked.
+#[derive(Drop)]
+pub struct Found {
+    /// How many pointers lead to each id.
+    pub tables: Tables,
+    /// Whether the root reaches each id.
+    pub marks: Vec<bool>,
+}
+
+/// Counts in one thread and marks in another one, with so many workers each.
+fn find_beside<const SLOTS: usize>(
+    rt: &(impl Threads + Sync),
+    alloc: Global,
+    cells: &[Cell<SLOTS>],
+    counters: usize,
+    markers: usize,
+) -> Result<Found, Memory>
+    requires slots { IsSlotCount SLOTS }
+    requires few { length cells.now ≤ 16777216 }
+    requires counters { (0 < counters) × (counters ≤ 1024) }
+    requires markers { (0 < markers) × (markers ≤ 1024) }
+    ensures tables { IfOk result (λ f. AreTablesOf (map cell_of cells.now) (length cells.now) f.tables) }
+    ensures len { IfOk result (λ f. length f.marks.items ≡ length cells.now) }
+    ensures reach { IfOk result (λ f. IsReach (map cell_of cells.now) (is_marked f.marks.items)) }
+{
+    let counting = move || -> Result<Tables, Memory>
+        requires { IsSlotCount SLOTS × (length cells.now ≤ 16777216) × (0 < counters) × (counters ≤ 1024) }
+        ensures { IfOk result (AreTablesOf (map cell_of cells.entry.now) (length cells.entry.now)) }
+    { count_by_pieces(rt, alloc, cells, counters) };
+    let marking = move || -> Result<Vec<bool>, Memory>
+        requires { IsSlotCount SLOTS × (length cells.now ≤ 16777216) × (0 < markers) × (markers ≤ 1024) }
+        ensures { IfOk result (λ marks. (length marks.items ≡ length cells.entry.now) × IsReach (map cell_of cells.entry.now) (is_marked marks.items)) }
+    { mark(rt, alloc, cells, markers) };
+    let (tables, marks) = join(rt, counting, marking);
+    Ok(Found {
+        tables: tables?,
+        marks: marks?,
+    })
+}
+
+/// Counts all pointers by their targets, and marks the ids that the root reaches, with so many workers. `Memory` is its only
+/// error.
+pub fn find<const SLOTS: usize>(
+    rt: &(impl Threads + Sync),
+    alloc: Global,
+    cells: &[Cell<SLOTS>],
+    workers: usize,
+) -> Result<Found, Memory>
+    requires slots { IsSlotCount SLOTS }
+    requires few { length cells.now ≤ 16777216 }
+    requires some { 0 < workers }
+    requires fits { workers ≤ 1024 }
+    ensures tables { IfOk result (λ f. AreTablesOf (map cell_of cells.now) (length cells.now) f.tables) }
+    ensures len { IfOk result (λ f. length f.marks.items ≡ length cells.now) }
+    ensures reach { IfOk result (λ f. IsReach (map cell_of cells.now) (is_marked f.marks.items)) }
+{
+    let markers = workers / 2;
+    if markers > 0 {
+        let counters = (workers - markers).min(cells.len() / LEAST_PIECE).max(1);
+        return find_beside(rt, alloc, cells, counters, markers);
+    }
+    let tables = count_by_pieces(rt, alloc, cells, workers)?;
+    let marks = mark(rt, alloc, cells, workers)?;
+    Ok(Found { tables, marks })
+}
