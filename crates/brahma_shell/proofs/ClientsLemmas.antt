@@ -27,7 +27,7 @@ use Rattle.client_pass.specs.declared.ends.WorkEnd.TheVariants.{Finished}
 use Rattle.client_pass.specs.declared.script.ClientScript.{ClientScript}
 use Rattle.client_pass.specs.Attempts.{calls_in, Attempts}
 use Rattle.client_pass.specs.Workings.{calls_of}
-use Rattle.client_pass.specs.Runs.{IsNobody, IsOfCollector, DoesScript, RunsScripts}
+use Rattle.client_pass.specs.Runs.{IsNobody, IsNoteOfCollector, DoesScript, RunsScripts}
 use Rattle.client_pass.proofs.EndLemmas.{attempts-no_transaction, nobody-no_transaction}
 use Rattle.client_pass.proofs.KeptLemmas.{calls-of_log, nobody-calls, log-holds}
 use Rattle.client_scripts.specs.Scripts.{AreScripts, AreOfLines}
@@ -52,11 +52,6 @@ each-such : (P Q : ClientScript → Type 0) (scripts : List ClientScript) → ((
 each-such P Q [] more all = tt
 each-such P Q (s ∷ scripts) more all = (more s all.0, each-such P Q scripts more all.1)
 
--- what holds of the notes' entries
-of-notes : (P : Entry → Type 0) (notes : List Note) → AllByRecursion (λ (n : Note). P n.entry) notes → AllByRecursion P (map (λ n. n.entry) notes)
-of-notes P [] all = tt
-of-notes P (n ∷ notes) all = (all.0, of-notes P notes all.1)
-
 module _ {D : Type 0} (w : LoggedView D) (old behind new : Known object_slots) (scripts : List ClientScript) (end : WorkEnd) (frames : List (Frame object_slots)) (fresh : old.knowledge.entries ≡ []) (runs : RunsScripts old behind scripts end) (only : OnlyPeeks behind new)
     (whole : IsWhole (account D object_slots) new w frames) (history : history_after object_slots (origin_of w) (notes_of w) ≡ history_of w) where
   kept-all : new.knowledge.entries ≡ runs.kept
@@ -77,28 +72,29 @@ module _ {D : Type 0} (w : LoggedView D) (old behind new : Known object_slots) (
   none-told : (client : ℕ) → IsNobody client scripts → calls_in client (history_of w).entries ≡ []
   none-told client none = sym (ap (calls_in client) entries-told) ∙ nobody-calls client (notes_of w) runs.kept at-places each-once (runs.nobody client none)
 
-  others-told : AllByRecursion (λ e. speaker_of e ≡ None → IsOfCollector e) (history_of w).entries
-  others-told = subst (AllByRecursion (λ (e : Entry). speaker_of e ≡ None → IsOfCollector e)) entries-told
-      (of-notes (λ (e : Entry). speaker_of e ≡ None → IsOfCollector e) (notes_of w) (log-holds (λ (n : Note). speaker_of n.entry ≡ None → IsOfCollector n.entry) (notes_of w) runs.kept at-places each-once runs.collected))
+  others-told : AllByRecursion (λ n. speaker_of n.entry ≡ None → IsNoteOfCollector n) (notes_of w)
+  others-told = log-holds (λ (n : Note). speaker_of n.entry ≡ None → IsNoteOfCollector n) (notes_of w) runs.kept at-places each-once runs.collected
 
   module _ (asked : List Line) (each : AreScripts scripts) (of : AreOfLines asked scripts) where
-    pub clients-began : ClientsDo BeginAttempts asked (history_of w).entries
+    pub clients-began : ClientsDo BeginAttempts asked (history_of w).entries (notes_of w)
     clients-began = record {
       scripts = scripts;
       each = each;
       of_lines = of;
       made = each-such (DoesScript behind runs.kept end) (λ s. BeginAttempts s.txns (calls_in s.pass (history_of w).entries)) scripts (λ s d. subst (BeginAttempts s.txns) (calls-told s.pass) d.begun) runs.scripts_done;
       nobody = none-told;
+      noted = entries-told;
       collected = others-told;
     }
 
-    pub clients-did : end ≡ Finished → ClientsDo Attempts asked (history_of w).entries
+    pub clients-did : end ≡ Finished → ClientsDo Attempts asked (history_of w).entries (notes_of w)
     clients-did done = record {
       scripts = scripts;
       each = each;
       of_lines = of;
       made = each-such (DoesScript behind runs.kept end) (λ s. Attempts s.txns (calls_in s.pass (history_of w).entries)) scripts (λ s d. subst (Attempts s.txns) (calls-told s.pass) (d.finished done).0) runs.scripts_done;
       nobody = none-told;
+      noted = entries-told;
       collected = others-told;
     }
 

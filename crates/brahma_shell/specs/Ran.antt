@@ -1,5 +1,5 @@
 -- How a run of clients on threads ends.
-use Rattle.std.specs.Prelude.{◌≡◌, ◌⊎◌, ℕ, ◌+◌, ◌-◌, List, [], ◌∷◌, ◌++◌, length, true, Option, Some, None, IsSome, codes, ⊤}
+use Rattle.std.specs.Prelude.{◌≡◌, ◌⊎◌, ℕ, ◌+◌, ◌-◌, List, [], ◌∷◌, ◌++◌, map, length, true, Option, Some, None, IsSome, codes, ⊤}
 use Rattle.std.specs.Io.KnownBytes.{Appends}
 use Rattle.std.specs.List.{AllByRecursion}
 use Rattle.plain_model.specs.declared.calls.Call.{Call as TransactionCall}
@@ -7,6 +7,7 @@ use Rattle.plain_model.specs.declared.calls.Entry.{Entry}
 use Rattle.plain_model.specs.History.{end_of}
 use Rattle.disk_model.specs.declared.area.Area.{Area}
 use Rattle.disk_model.specs.Causes.{Rose}
+use Rattle.core_store.specs.declared.note.Note.{Note}
 use Rattle.core_store.specs.Limited.{WasFull}
 use Rattle.journal_opening.specs.Openings.{ReadsAs}
 use Rattle.logged_journal.specs.View.{LoggedView, history_of}
@@ -15,7 +16,8 @@ use Rattle.script_lines.specs.Output.{AppendsFront, refused_line}
 use Rattle.client_pass.specs.declared.script.ClientScript.{ClientScript}
 use Rattle.client_pass.specs.Attempts.{Deed, Attempts, Begun, calls_in}
 use Rattle.journal_chronicle.specs.Clients.{speaker_of}
-use Rattle.client_pass.specs.Runs.{IsNobody, IsOfCollector}
+use Rattle.journal_chronicle.specs.View.{notes_of}
+use Rattle.client_pass.specs.Runs.{IsNobody, IsNoteOfCollector}
 use Rattle.client_scripts.specs.Scripts.{AreScripts, AreOfLines}
 use Rattle.brahma_shell.specs.ClientLines.{ReadsAll, ReadsSome, Refuses, HasOnlyClients}
 use Rattle.brahma_shell.specs.Log.{WasLogFull}
@@ -26,15 +28,17 @@ use Rattle.script_lines.specs.Numbers.{object_slots}
 
 -- ---- the clients
 
--- each client of the lines made its calls and undos so, in their order, and nobody else made any
-pub record ClientsDo (Does : List (List TransactionCall) → List Deed → Type 0) (asked : List Line) (entries : List Entry) : Type 0 where
+-- Each client of the lines made its calls and undos so, in their order, and nobody else made any. These are the notes of the
+-- entries.
+pub record ClientsDo (Does : List (List TransactionCall) → List Deed → Type 0) (asked : List Line) (entries : List Entry) (notes : List Note) : Type 0 where
   pub scripts : List ClientScript
   pub each : AreScripts scripts
   pub of_lines : AreOfLines asked scripts
   pub made : AllByRecursion (λ s. Does s.txns (calls_in s.pass entries)) scripts
   pub nobody : (client : ℕ) → IsNobody client scripts → calls_in client entries ≡ []
-  -- and all else was the collector's
-  pub collected : AllByRecursion (λ e. speaker_of e ≡ None → IsOfCollector e) entries
+  pub noted : map (λ n. n.entry) notes ≡ entries
+  -- and all else was of an event of the collector
+  pub collected : AllByRecursion (λ n. speaker_of n.entry ≡ None → IsNoteOfCollector n) notes
 
 -- these are the attempts at the client's transactions, or the beginning of such
 abbrev pub BeginAttempts : List (List TransactionCall) → List Deed → Type 0
@@ -42,11 +46,11 @@ BeginAttempts transactions made = Begun (Attempts transactions) made
 
 -- the whole script was read, and each client began what its lines ask
 abbrev pub Began : {D : Type 0} → Outside → Outside → LoggedView D → Type 0
-Began before after v = (asked : List Line) × ReadsAll v.journal.history.ids before.left after.left asked × ClientsDo BeginAttempts asked (history_of v).entries
+Began before after v = (asked : List Line) × ReadsAll v.journal.history.ids before.left after.left asked × ClientsDo BeginAttempts asked (history_of v).entries (notes_of v)
 
 -- the whole script was read, and each client did what its lines ask
 abbrev pub Did : {D : Type 0} → Outside → Outside → LoggedView D → Type 0
-Did before after v = (asked : List Line) × ReadsAll v.journal.history.ids before.left after.left asked × ClientsDo Attempts asked (history_of v).entries
+Did before after v = (asked : List Line) × ReadsAll v.journal.history.ids before.left after.left asked × ClientsDo Attempts asked (history_of v).entries (notes_of v)
 
 -- ---- how it ends
 

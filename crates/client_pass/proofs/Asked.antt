@@ -6,6 +6,7 @@ use Rattle.plain_model.specs.declared.calls.Reply.{Reply}
 use Rattle.plain_model.specs.declared.calls.Reply.TheVariants as reply
 use Rattle.plain_model.specs.declared.calls.Entry.{Entry}
 use Rattle.plain_model.specs.declared.calls.Entry.TheVariants as entry
+use Rattle.disk_model.specs.declared.area.Area.{Area}
 use Rattle.disk_model.specs.Areas.{Bytes}
 use Rattle.core_store.specs.declared.abort_step.AbortStep.{AbortStep}
 use Rattle.core_store.specs.declared.abort_step.AbortStep.TheVariants.{Undone, Ended}
@@ -134,11 +135,11 @@ module _ {slots : ℕ} where
       cut-off (inr is) = makes-map u v (IsOne c r) (IsCutOff c) (λ made m. inr (inl (m ∙ ap (λ y. Made c y ∷ []) is.1))) (makes-one u v c r (found_by_call r) (subst (λ (o : Option Entry). GoesOnAs u v o (found_by_call r)) is.0 g))
 
   -- the end of the work names the answer
-  pub told-ends : (D : Type 0) (faults : D → ℕ) (moment : D → ℕ) (left_since : D → ℕ → Bytes → Type 0) (w u v : Known slots) (c : TransactionCall) (r : Reply) (t : Result Reply WorkEnd) → IfErr t (λ e. end_of r ≡ Some e)
-      → GoesOnAs u v (entered_by_call u.station.name c r) (found_by_call r) → MakesCall D slots faults moment left_since u v c r
-      → IfErr t (λ e. Makes w v (IsCutOff c) × IsEnd e) → IfErr t (λ e. Makes w v (IsCutOff c) × EndsWork D slots faults moment left_since v e)
-  told-ends D faults moment left_since w u v c r (Ok x) is g made cut = tt
-  told-ends D faults moment left_since w u v c r (Err e) is g made cut = (cut.0, (cut.1, inl (r, is, record { before = u; call = c; knows = g; made = made })))
+  pub told-ends : (D : Type 0) (content : D → Area → Option (List ℕ)) (may_leave : D → Area → List ℕ → Type 0) (faults : D → ℕ) (moment : D → ℕ) (left_since : D → ℕ → Bytes → Type 0) (w u v : Known slots) (c : TransactionCall) (r : Reply) (t : Result Reply WorkEnd) → IfErr t (λ e. end_of r ≡ Some e)
+      → GoesOnAs u v (entered_by_call u.station.name c r) (found_by_call r) → MakesCall D slots content may_leave faults moment left_since u v c r
+      → IfErr t (λ e. Makes w v (IsCutOff c) × IsEnd e) → IfErr t (λ e. Makes w v (IsCutOff c) × EndsWork D slots content may_leave faults moment left_since v e)
+  told-ends D content may_leave faults moment left_since w u v c r (Ok x) is g made cut = tt
+  told-ends D content may_leave faults moment left_since w u v c r (Err e) is g made cut = (cut.0, (cut.1, inl (r, is, record { before = u; call = c; knows = g; made = made })))
 
   -- ---- steps of an abort
 
@@ -161,11 +162,11 @@ module _ {slots : ℕ} where
   step-stopped u v s f faults is stopped g = none-undos u v (makes-refused u v None (subst (Steps u v) (is ∙ ap Err stopped) g))
 
   -- the end of the work names the answer
-  pub stopped-ends : (D : Type 0) (faults : D → ℕ) (moment : D → ℕ) (left_since : D → ℕ → Bytes → Type 0) (u v : Known slots) (s : Result AbortStep StepRefusal) (f : StepRefusal) (n : ℕ) → s ≡ Err f → f ≡ step.Stopped n
-      → GoesOnAs u v (entered_by_step u.station.name s) (found_by_step s) → (found_by_step s ≡ None → MakesStep D slots u s) → EndsWork D slots faults moment left_since v (end.Disk (reply.Stopped n))
-  stopped-ends D faults moment left_since u v s f n is stopped g made =
+  pub stopped-ends : (D : Type 0) (content : D → Area → Option (List ℕ)) (may_leave : D → Area → List ℕ → Type 0) (faults : D → ℕ) (moment : D → ℕ) (left_since : D → ℕ → Bytes → Type 0) (u v : Known slots) (s : Result AbortStep StepRefusal) (f : StepRefusal) (n : ℕ) → s ≡ Err f → f ≡ step.Stopped n
+      → GoesOnAs u v (entered_by_step u.station.name s) (found_by_step s) → (found_by_step s ≡ None → MakesStep D slots u v s) → EndsWork D slots content may_leave faults moment left_since v (end.Disk (reply.Stopped n))
+  stopped-ends D content may_leave faults moment left_since u v s f n is stopped g made =
       let all : s ≡ Err (step.Stopped n) = is ∙ ap Err stopped in
-      (refl, inr (n, refl, record { before = u; knows = subst (Steps u v) all g; made = subst (MakesStep D slots u) all (made (ap found_by_step all)) }))
+      (refl, inr (n, refl, record { before = u; knows = subst (Steps u v) all g; made = subst (MakesStep D slots u v) all (made (ap found_by_step all)) }))
 
   -- ---- behind no call
 

@@ -10,7 +10,7 @@ use Rattle.core_store.specs.declared.note.Note.{Note}
 use Rattle.journal_chronicle.specs.Clients.{speaker_of}
 use Rattle.client_pass.specs.Attempts.{Deed, Made, Undid, call_in}
 use Rattle.client_pass.specs.Workings.{Ascend, AreOfClient, calls_of}
-use Rattle.client_pass.specs.Runs.{IsOfCollector, speaks_for, entries_of}
+use Rattle.client_pass.specs.Runs.{IsOfCollector, IsNoteOfCollector, speaks_for, entries_of}
 
 -- ---- those of a client
 
@@ -37,19 +37,19 @@ speaks-none (Undo c) is = absurd is
 speaks-none (TurnBusy c) is = absurd is
 speaks-none (Crash cells) is = absurd is
 
-pub none-of_collector : (client : ℕ) (kept : List (ℕ × Note)) → AllByRecursion (λ (k : ℕ × Note). IsOfCollector k.1.entry) kept → entries_of client kept ≡ []
+pub none-of_collector : (client : ℕ) (kept : List (ℕ × Note)) → AllByRecursion (λ (k : ℕ × Note). IsNoteOfCollector k.1) kept → entries_of client kept ≡ []
 none-of_collector client [] all = refl
-none-of_collector client (k ∷ kept) all = passed-over client k kept (ap (speaks_for client) (speaks-none k.1.entry all.0)) ∙ none-of_collector client kept all.1
+none-of_collector client (k ∷ kept) all = passed-over client k kept (ap (speaks_for client) (speaks-none k.1.entry (let n = all.0 in n.entry))) ∙ none-of_collector client kept all.1
 
 -- the entries among these that speak for nobody are the collector's
 abbrev pub OthersAreCollected : List (ℕ × Note) → Type 0
-OthersAreCollected kept = AllByRecursion (λ (k : ℕ × Note). speaker_of k.1.entry ≡ None → IsOfCollector k.1.entry) kept
+OthersAreCollected kept = AllByRecursion (λ (k : ℕ × Note). speaker_of k.1.entry ≡ None → IsNoteOfCollector k.1) kept
 
 pub collected-append : (kept more : List (ℕ × Note)) → OthersAreCollected kept → OthersAreCollected more → OthersAreCollected (kept ++ more)
 collected-append [] more a b = b
 collected-append (k ∷ kept) more a b = (a.0, collected-append kept more a.1 b)
 
-pub collected-all : (kept : List (ℕ × Note)) → AllByRecursion (λ (k : ℕ × Note). IsOfCollector k.1.entry) kept → OthersAreCollected kept
+pub collected-all : (kept : List (ℕ × Note)) → AllByRecursion (λ (k : ℕ × Note). IsNoteOfCollector k.1) kept → OthersAreCollected kept
 collected-all [] all = tt
 collected-all (k ∷ kept) all = (λ _. all.0, collected-all kept all.1)
 

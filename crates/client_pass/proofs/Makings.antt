@@ -35,10 +35,10 @@ calls_of-append client kept more =
     ∙ calls_in-append client (map (λ (k : ℕ × Note). k.1.entry) kept) (map (λ (k : ℕ × Note). k.1.entry) more)
 
 within-refl : (m : Marks) → KeepMarks m m
-within-refl m = (λ e. e, λ e. e, λ e. e)
+within-refl m = (λ n e. e, λ e. e, λ e. e)
 
 within-trans : (l m n : Marks) → KeepMarks l m → KeepMarks m n → KeepMarks l n
-within-trans l m n a b = (λ e. b.0 (a.0 e), λ e. b.1 (a.1 e), λ e. b.2 (a.2 e))
+within-trans l m n a b = (λ k e. b.0 k (a.0 k e), λ e. b.1 (a.1 e), λ e. b.2 (a.2 e))
 
 -- ---- one entry
 

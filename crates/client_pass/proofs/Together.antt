@@ -1,8 +1,11 @@
 -- The work of several clients, put together: what the main pass keeps of it.
 use Rattle.std.proofs.Common.{◌≡◌, ◌≢◌, ◌⊎◌, inl, inr, ℕ, ◌+◌, ◌-◌, ◌≤◌, ◌==◌, Bool, true, false, List, [], ◌∷◌, ◌++◌, length, refl, sym, ap, subst, ◌∙◌, arith}
+use Rattle.std.specs.Prelude.{Option, Some, None}
+use Rattle.std.specs.Option.{option_or}
 use Rattle.std.specs.List.{AllByRecursion}
 use Rattle.std.proofs.lemmas.Bool.{cases_eq, ne_eqb, cond-true, or_from, or_left}
 use Rattle.std.proofs.lemmas.List.{append_assoc, append-nil}
+use Rattle.disk_model.specs.declared.area.Area.{Area}
 use Rattle.disk_model.specs.Areas.{Bytes}
 use Rattle.core_store.specs.declared.note.Note.{Note}
 use Rattle.latch_table.specs.declared.view.Station.{Station}
@@ -20,11 +23,15 @@ use Rattle.client_pass.proofs.Makings.{calls_of-append}
 use Rattle.client_pass.proofs.Names.{back-out, truth-own, truth-other}
 use Rattle.client_pass.proofs.Kept.{entries-append, none-of_collector, collected-append, collected-all, collected-own, all-own, none-other, no-calls, ascend-le}
 
+or-first : (a b : Option ℕ) (n : ℕ) → a ≡ Some n → option_or a b ≡ Some n
+or-first (Some k) b n e = e
+or-first None b n e = absurd (cc)
+
 keep-either : (l m n : Marks) → KeepMarks l m → KeepMarks l (joined_marks m n)
-keep-either l m n a = (λ e. or_left m.0 n.0 (a.0 e), λ e. or_left m.1 n.1 (a.1 e), λ e. or_left m.2 n.2 (a.2 e))
+keep-either l m n a = (λ k e. or-first m.0 n.0 k (a.0 k e), λ e. or_left m.1 n.1 (a.1 e), λ e. or_left m.2 n.2 (a.2 e))
 
 keep-trans : (l m n : Marks) → KeepMarks l m → KeepMarks m n → KeepMarks l n
-keep-trans l m n a b = (λ e. b.0 (a.0 e), λ e. b.1 (a.1 e), λ e. b.2 (a.2 e))
+keep-trans l m n a b = (λ k e. b.0 k (a.0 k e), λ e. b.1 (a.1 e), λ e. b.2 (a.2 e))
 
 -- calls behind which nobody of these clients made any
 calls-behind : (client : ℕ) (kept more : List (ℕ × Note)) → entries_of client more ≡ [] → calls_of client (kept ++ more) ≡ calls_of client kept
@@ -181,20 +188,20 @@ module _ {slots : ℕ} where
   -- ---- how a run ends
 
   -- the collector's end is one of the run
-  pub ends-collecting : (D : Type 0) (faults : D → ℕ) (moment : D → ℕ) (left_since : D → ℕ → Bytes → Type 0) (v w : Known slots) (e : WorkEnd) → w.knowledge.fixed ≡ v.knowledge.fixed → EndsCollecting D slots w e → EndsRun D slots faults moment left_since v e
-  ends-collecting D faults moment left_since v w e same c = (c.0, (w, same, inr c.1))
+  pub ends-collecting : (D : Type 0) (content : D → Area → Option (List ℕ)) (may_leave : D → Area → List ℕ → Type 0) (faults : D → ℕ) (moment : D → ℕ) (left_since : D → ℕ → Bytes → Type 0) (v w : Known slots) (e : WorkEnd) → w.knowledge.fixed ≡ v.knowledge.fixed → EndsCollecting D slots w e → EndsRun D slots content may_leave faults moment left_since v e
+  ends-collecting D content may_leave faults moment left_since v w e same c = (c.0, (w, same, inr c.1))
 
   -- so is that of one of the clients, or of the others
-  pub ends-joined : (D : Type 0) (faults : D → ℕ) (moment : D → ℕ) (left_since : D → ℕ → Bytes → Type 0) (v u p q : Known slots) (client : ℕ) (own rest e : WorkEnd)
+  pub ends-joined : (D : Type 0) (content : D → Area → Option (List ℕ)) (may_leave : D → Area → List ℕ → Type 0) (faults : D → ℕ) (moment : D → ℕ) (left_since : D → ℕ → Bytes → Type 0) (v u p q : Known slots) (client : ℕ) (own rest e : WorkEnd)
       → u ≡ split_left v client → p ≡ split_right v client → q.knowledge.fixed ≡ p.knowledge.fixed
-      → ((own ≡ Finished → ⊥) → EndsWork D slots faults moment left_since q own) → ((rest ≡ Finished → ⊥) → EndsRun D slots faults moment left_since u rest)
-      → (e ≡ own) ⊎ (e ≡ rest) → (e ≡ Finished → ⊥) → EndsRun D slots faults moment left_since v e
-  ends-joined D faults moment left_since v u p q client own rest e left right same is-own is-rest (inl is) unfinished =
+      → ((own ≡ Finished → ⊥) → EndsWork D slots content may_leave faults moment left_since q own) → ((rest ≡ Finished → ⊥) → EndsRun D slots content may_leave faults moment left_since u rest)
+      → (e ≡ own) ⊎ (e ≡ rest) → (e ≡ Finished → ⊥) → EndsRun D slots content may_leave faults moment left_since v e
+  ends-joined D content may_leave faults moment left_since v u p q client own rest e left right same is-own is-rest (inl is) unfinished =
       let w = is-own (λ f. unfinished (is ∙ f)) in
-      subst (EndsRun D slots faults moment left_since v) (sym is) (w.0, (q, same ∙ ap (λ (y : Known slots). y.knowledge.fixed) right, inl w.1))
-  ends-joined D faults moment left_since v u p q client own rest e left right same is-own is-rest (inr is) unfinished =
+      subst (EndsRun D slots content may_leave faults moment left_since v) (sym is) (w.0, (q, same ∙ ap (λ (y : Known slots). y.knowledge.fixed) right, inl w.1))
+  ends-joined D content may_leave faults moment left_since v u p q client own rest e left right same is-own is-rest (inr is) unfinished =
       let w = is-rest (λ f. unfinished (is ∙ f)) in
-      subst (EndsRun D slots faults moment left_since v) (sym is) (w.0, (w.1.0, w.1.1 ∙ ap (λ (y : Known slots). y.knowledge.fixed) left, w.1.2))
+      subst (EndsRun D slots content may_leave faults moment left_since v) (sym is) (w.0, (w.1.0, w.1.1 ∙ ap (λ (y : Known slots). y.knowledge.fixed) left, w.1.2))
 
   -- what the first of these scripts and the others may do behind the split
   pub record MayBegin (u p : Known slots) (s : ClientScript) (others : List ClientScript) : Type 0 where

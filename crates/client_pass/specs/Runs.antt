@@ -4,7 +4,9 @@ use Rattle.std.specs.List.{AllByRecursion}
 use Rattle.plain_model.specs.declared.calls.Entry.{Entry}
 use Rattle.plain_model.specs.declared.calls.Entry.TheVariants.{Hidden, Delete}
 use Rattle.plain_model.specs.declared.calls.Reply.TheVariants as reply
+use Rattle.disk_model.specs.declared.area.Area.{Area}
 use Rattle.disk_model.specs.Areas.{Bytes}
+use Rattle.core_store.specs.declared.act.Act.TheVariants.{Other}
 use Rattle.core_store.specs.declared.note.Note.{Note}
 use Rattle.core_store.specs.declared.collect.Collect.TheVariants.{Idle}
 use Rattle.core_store.specs.JournalView.{JournalView}
@@ -47,11 +49,16 @@ IsOfCollector Hidden = Unit {0}
 IsOfCollector (Delete id) = Unit {0}
 IsOfCollector _ = ⊥
 
+-- a note of the collector: it is of one of its events
+pub record IsNoteOfCollector (n : Note) : Type 0 where
+  pub entry : IsOfCollector n.entry
+  pub act : n.act ≢ Other
+
 -- the pass keeps what the collector did, and nothing else
 pub record Collects {slots : ℕ} (old new : Known slots) : Type 0 where
   pub kept : List (ℕ × Note)
   pub keeps : KeepsAll old new kept
-  pub each : AllByRecursion (λ k. IsOfCollector k.1.entry) kept
+  pub each : AllByRecursion (λ k. IsNoteOfCollector k.1) kept
   pub truth : new.knowledge.truth ≡ old.knowledge.truth
 
 -- the collector's queue is empty, and no round is open
@@ -66,7 +73,7 @@ pub record IsCollected (D : Type 0) (slots : ℕ) (new : Known slots) : Type 0 w
   pub station : before.station ≡ new.station
   pub fixed : new.knowledge.fixed ≡ before.knowledge.fixed
   pub kept : KeepsNone before new
-  pub idle : MakesCollect D slots before (Ok Idle)
+  pub idle : MakesCollect D slots before new (Ok Idle)
   pub rests : HasNothingLeft idle.before.journal
 
 -- ---- the clients
@@ -116,17 +123,17 @@ pub record RunsScripts {slots : ℕ} (old new : Known slots) (scripts : List Cli
   pub scripts_done : AllByRecursion (DoesScript new kept end) scripts
   pub in_order : (client : ℕ) → AreInOrder old.knowledge.seen new.knowledge.seen (entries_of client kept)
   pub nobody : (client : ℕ) → IsNobody client scripts → entries_of client kept ≡ []
-  -- what speaks for nobody is the collector's
-  pub collected : AllByRecursion (λ k. speaker_of k.1.entry ≡ None → IsOfCollector k.1.entry) kept
+  -- what speaks for nobody is of an event of the collector
+  pub collected : AllByRecursion (λ k. speaker_of k.1.entry ≡ None → IsNoteOfCollector k.1) kept
   -- the truths of other clients stay
   pub others : (client : ℕ) → IsNobody client scripts → truth_of new.station.truths client ≡ truth_of old.station.truths client
 
 -- ---- how it ends
 
 -- a client of the run came to this end, or the collector, and it names the store's last answer to that one's pass
-abbrev pub EndsRun : (D : Type 0) → (slots : ℕ) → (D → ℕ) → (D → ℕ) → (D → ℕ → Bytes → Type 0) → Known slots → WorkEnd → Type 0
-EndsRun D slots faults moment left_since main end =
-    IsEnd end × ((own : Known slots) × (own.knowledge.fixed ≡ main.knowledge.fixed) × (IsToldToClient D slots faults moment left_since own end ⊎ IsToldToCollector D slots own end))
+abbrev pub EndsRun : (D : Type 0) → (slots : ℕ) → (D → Area → Option (List ℕ)) → (D → Area → List ℕ → Type 0) → (D → ℕ) → (D → ℕ) → (D → ℕ → Bytes → Type 0) → Known slots → WorkEnd → Type 0
+EndsRun D slots content may_leave faults moment left_since main end =
+    IsEnd end × ((own : Known slots) × (own.knowledge.fixed ≡ main.knowledge.fixed) × (IsToldToClient D slots content may_leave faults moment left_since own end ⊎ IsToldToCollector D slots own end))
 
 -- ---- refusals
 

@@ -5,6 +5,7 @@ use Rattle.plain_model.specs.declared.calls.Call.{Call}
 use Rattle.plain_model.specs.declared.calls.Call.TheVariants.{Abort}
 use Rattle.plain_model.specs.declared.calls.Reply.{Reply}
 use Rattle.plain_model.specs.declared.calls.Reply.TheVariants as reply
+use Rattle.disk_model.specs.declared.area.Area.{Area}
 use Rattle.disk_model.specs.Areas.{Bytes}
 use Rattle.core_store.specs.declared.collect.Collect.{Collect}
 use Rattle.core_store.specs.declared.collect.Collect.TheVariants as collected
@@ -91,23 +92,23 @@ IsEnd Finished = ⊥
 -- ---- what the store answered last
 
 -- The pass's last call was answered so: the store made it or refused it as its clause says, and left the pass as it is now
-pub record WasAnswered (D : Type 0) (slots : ℕ) (faults : D → ℕ) (moment : D → ℕ) (left_since : D → ℕ → Bytes → Type 0) (now : Known slots) (r : Reply) : Type 0 where
+pub record WasAnswered (D : Type 0) (slots : ℕ) (content : D → Area → Option (List ℕ)) (may_leave : D → Area → List ℕ → Type 0) (faults : D → ℕ) (moment : D → ℕ) (left_since : D → ℕ → Bytes → Type 0) (now : Known slots) (r : Reply) : Type 0 where
   pub before : Known slots
   pub call : Call
   pub knows : GoesOnAs before now (entered_by_call before.station.name call r) (found_by_call r)
-  pub made : MakesCall D slots faults moment left_since before now call r
+  pub made : MakesCall D slots content may_leave faults moment left_since before now call r
 
 -- the last step of the client's abort was refused, since the disk had failed a call, with this count of faults
 pub record WasStopped (D : Type 0) (slots : ℕ) (now : Known slots) (count : ℕ) : Type 0 where
   pub before : Known slots
   pub knows : GoesOnAs before now None None
-  pub made : MakesStep D slots before (Err (step.Stopped count))
+  pub made : MakesStep D slots before now (Err (step.Stopped count))
 
 -- the pass asked the collector last, which answered so
 pub record WasCollecting (D : Type 0) (slots : ℕ) (now : Known slots) (answer : Result Collect CollectRefusal) : Type 0 where
   pub before : Known slots
   pub knows : GoesOnAs before now (entered_by_collecting answer) (found_by_collecting answer)
-  pub made : MakesCollect D slots before answer
+  pub made : MakesCollect D slots before now answer
 
 -- the end that an answer of the collector means, if it means one
 abbrev pub end_of_collecting : Result Collect CollectRefusal → Option WorkEnd
@@ -118,9 +119,9 @@ end_of_collecting (Err refusal.LogFull) = Some (Limit reply.LogFull)
 end_of_collecting _ = None
 
 -- the store's last answer to the client's pass means this end
-abbrev pub IsToldToClient : (D : Type 0) → (slots : ℕ) → (D → ℕ) → (D → ℕ) → (D → ℕ → Bytes → Type 0) → Known slots → WorkEnd → Type 0
-IsToldToClient D slots faults moment left_since now end =
-    ((r : Reply) × (end_of r ≡ Some end) × WasAnswered D slots faults moment left_since now r)
+abbrev pub IsToldToClient : (D : Type 0) → (slots : ℕ) → (D → Area → Option (List ℕ)) → (D → Area → List ℕ → Type 0) → (D → ℕ) → (D → ℕ) → (D → ℕ → Bytes → Type 0) → Known slots → WorkEnd → Type 0
+IsToldToClient D slots content may_leave faults moment left_since now end =
+    ((r : Reply) × (end_of r ≡ Some end) × WasAnswered D slots content may_leave faults moment left_since now r)
     ⊎ ((count : ℕ) × (end ≡ Disk (reply.Stopped count)) × WasStopped D slots now count)
 
 -- the collector's last answer to the pass means this end
@@ -128,8 +129,8 @@ abbrev pub IsToldToCollector : (D : Type 0) → (slots : ℕ) → Known slots �
 IsToldToCollector D slots now end = (answer : Result Collect CollectRefusal) × (end_of_collecting answer ≡ Some end) × WasCollecting D slots now answer
 
 -- a client's work came to this end, which names the store's last answer to its pass
-abbrev pub EndsWork : (D : Type 0) → (slots : ℕ) → (D → ℕ) → (D → ℕ) → (D → ℕ → Bytes → Type 0) → Known slots → WorkEnd → Type 0
-EndsWork D slots faults moment left_since now end = IsEnd end × IsToldToClient D slots faults moment left_since now end
+abbrev pub EndsWork : (D : Type 0) → (slots : ℕ) → (D → Area → Option (List ℕ)) → (D → Area → List ℕ → Type 0) → (D → ℕ) → (D → ℕ) → (D → ℕ → Bytes → Type 0) → Known slots → WorkEnd → Type 0
+EndsWork D slots content may_leave faults moment left_since now end = IsEnd end × IsToldToClient D slots content may_leave faults moment left_since now end
 
 -- the collector came to this end, which names its last answer
 abbrev pub EndsCollecting : (D : Type 0) → (slots : ℕ) → Known slots → WorkEnd → Type 0

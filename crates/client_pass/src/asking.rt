@@ -42,7 +42,7 @@ fn ask<const SLOTS: usize, D: Disk, R: Wait>(
     requires no_abort { call.now ≡ Call.Abort → pass.old.view.knowledge.truth ≡ false }
     ensures of { pass.new.table ≡ store.now.table }
     ensures ok { IfOk result (λ r. Makes pass.old.view pass.new.view (IsMade call.now r)) }
-    ensures err { IfErr result (λ end. Makes pass.old.view pass.new.view (IsCutOff call.now) × EndsWork D SLOTS D.faults D.moment D.left_since pass.new.view end) }
+    ensures err { IfErr result (λ end. Makes pass.old.view pass.new.view (IsCutOff call.now) × EndsWork D SLOTS D.content D.may_leave D.faults D.moment D.left_since pass.new.view end) }
     ensures refused { pass.new.refused ≡ refused_after result pass.old.refused }
 {
     'tries: for _ in rt.forever() {
@@ -64,7 +64,7 @@ fn abort<const SLOTS: usize, D: Disk, R: Wait>(
     requires active { pass.old.view.knowledge.truth ≡ true }
     ensures of { pass.new.table ≡ store.now.table }
     ensures ok { IfOk result (λ r. (r ≡ Reply.Done) × Makes pass.old.view pass.new.view (IsMade Call.Abort r)) }
-    ensures err { IfErr result (λ end. Makes pass.old.view pass.new.view AreUndos × EndsWork D SLOTS D.faults D.moment D.left_since pass.new.view end) }
+    ensures err { IfErr result (λ end. Makes pass.old.view pass.new.view AreUndos × EndsWork D SLOTS D.content D.may_leave D.faults D.moment D.left_since pass.new.view end) }
     ensures refused { pass.new.refused ≡ refused_after result pass.old.refused }
 {
     'steps: for _ in rt.forever() {
@@ -95,7 +95,7 @@ fn make<const SLOTS: usize, D: Disk, R: Wait>(
     ensures of { pass.new.table ≡ store.now.table }
     ensures ok { IfOk result (λ r. Makes pass.old.view pass.new.view (IsMade call.now r)) }
     ensures aborts { call.now ≡ Call.Abort → pass.old.view.knowledge.truth ≡ true → Aborts pass.old.view pass.new.view result }
-    ensures err { IfErr result (λ end. Makes pass.old.view pass.new.view (IsCutOff call.now) × EndsWork D SLOTS D.faults D.moment D.left_since pass.new.view end) }
+    ensures err { IfErr result (λ end. Makes pass.old.view pass.new.view (IsCutOff call.now) × EndsWork D SLOTS D.content D.may_leave D.faults D.moment D.left_since pass.new.view end) }
     ensures refused { pass.new.refused ≡ refused_after result pass.old.refused }
 {
     if *call == Call::Abort && pass.has_txn() {
@@ -119,7 +119,7 @@ pub(crate) fn make_at<const SLOTS: usize, D: Disk, G: Gate, R: Wait>(
     ensures of { pass.new.table ≡ store.now.table }
     ensures ok { IfOk result (λ r. Makes pass.old.view pass.new.view (IsMade call.now r)) }
     ensures aborts { call.now ≡ Call.Abort → pass.old.view.knowledge.truth ≡ true → Aborts pass.old.view pass.new.view result }
-    ensures err { IfErr result (λ end. Makes pass.old.view pass.new.view (IsCutOff call.now) × EndsWork D SLOTS D.faults D.moment D.left_since pass.new.view end) }
+    ensures err { IfErr result (λ end. Makes pass.old.view pass.new.view (IsCutOff call.now) × EndsWork D SLOTS D.content D.may_leave D.faults D.moment D.left_since pass.new.view end) }
     ensures refused { pass.new.refused ≡ refused_after result pass.old.refused }
 {
     *count = count.saturating_add(1);

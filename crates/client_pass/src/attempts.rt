@@ -43,7 +43,7 @@ fn try_call<const SLOTS: usize, D: Disk, G: Gate, R: Wait>(
     ensures of { pass.new.table ≡ store.now.table }
     ensures answered { result ≡ Ok true → Makes pass.old.view pass.new.view (IsAnswered call.now) }
     ensures stuck { result ≡ Ok false → Makes pass.old.view pass.new.view (AreBusy 8 call.now) }
-    ensures err { IfErr result (λ end. Makes pass.old.view pass.new.view (Begun (IsAnswered call.now)) × EndsWork D SLOTS D.faults D.moment D.left_since pass.new.view end) }
+    ensures err { IfErr result (λ end. Makes pass.old.view pass.new.view (Begun (IsAnswered call.now)) × EndsWork D SLOTS D.content D.may_leave D.faults D.moment D.left_since pass.new.view end) }
     ensures refused { pass.new.refused ≡ refused_after result pass.old.refused }
 {
     'tries: for _ in 0..MOST_BUSY {
@@ -75,7 +75,7 @@ fn try_calls<const SLOTS: usize, D: Disk, G: Gate, R: Wait>(
     ensures of { pass.new.table ≡ store.now.table }
     ensures answered { result ≡ Ok true → Makes pass.old.view pass.new.view (AreAnswered (Call.Begin ∷ calls.now)) }
     ensures stuck { result ≡ Ok false → Makes pass.old.view pass.new.view (AreStuck (Call.Begin ∷ calls.now)) }
-    ensures err { IfErr result (λ end. Makes pass.old.view pass.new.view (Begun (AreAnswered (Call.Begin ∷ calls.now))) × EndsWork D SLOTS D.faults D.moment D.left_since pass.new.view end) }
+    ensures err { IfErr result (λ end. Makes pass.old.view pass.new.view (Begun (AreAnswered (Call.Begin ∷ calls.now))) × EndsWork D SLOTS D.content D.may_leave D.faults D.moment D.left_since pass.new.view end) }
     ensures refused { pass.new.refused ≡ refused_after result pass.old.refused }
 {
     match try_call(rt, store, pass, &Call::Begin, gate, count) {
@@ -109,7 +109,7 @@ fn attempt<const SLOTS: usize, D: Disk, G: Gate, R: Wait>(
     ensures of { pass.new.table ≡ store.now.table }
     ensures completed { result ≡ Ok true → Makes pass.old.view pass.new.view (IsCompleted calls.now) × (pass.new.view.knowledge.truth ≡ false) }
     ensures given_up { result ≡ Ok false → Makes pass.old.view pass.new.view (IsGivenUp calls.now) × (pass.new.view.knowledge.truth ≡ false) }
-    ensures err { IfErr result (λ end. Makes pass.old.view pass.new.view (Begun (IsAttempt calls.now)) × EndsWork D SLOTS D.faults D.moment D.left_since pass.new.view end) }
+    ensures err { IfErr result (λ end. Makes pass.old.view pass.new.view (Begun (IsAttempt calls.now)) × EndsWork D SLOTS D.content D.may_leave D.faults D.moment D.left_since pass.new.view end) }
     ensures refused { pass.new.refused ≡ refused_after result pass.old.refused }
 {
     let completed = match try_calls(rt, store, pass, calls, gate, count) {
@@ -139,7 +139,7 @@ pub(crate) fn transact<const SLOTS: usize, D: Disk, G: Gate, R: Wait>(
     requires none { pass.old.view.knowledge.truth ≡ false }
     ensures of { pass.new.table ≡ store.now.table }
     ensures ok { IfOk result (λ _. Makes pass.old.view pass.new.view (IsTried 4 calls.now) × (pass.new.view.knowledge.truth ≡ false)) }
-    ensures err { IfErr result (λ end. Makes pass.old.view pass.new.view (Begun (IsTried 4 calls.now)) × EndsWork D SLOTS D.faults D.moment D.left_since pass.new.view end) }
+    ensures err { IfErr result (λ end. Makes pass.old.view pass.new.view (Begun (IsTried 4 calls.now)) × EndsWork D SLOTS D.content D.may_leave D.faults D.moment D.left_since pass.new.view end) }
     ensures refused { pass.new.refused ≡ refused_after result pass.old.refused }
 {
     'attempts: for _ in 0..MOST_ATTEMPTS {

@@ -60,7 +60,7 @@ fn work_beside<const SLOTS: usize, D: Disk, G: Gate, R: Wait>(
     requires in_range { AreInRange SLOTS script.now.txns }
     ensures of { pass.new.table ≡ store.now.table }
     ensures does { DoesTransactions pass.old.view pass.new.view script.now.txns result }
-    ensures end { (result ≡ WorkEnd.Finished → ⊥) → EndsWork D SLOTS D.faults D.moment D.left_since pass.new.view result }
+    ensures end { (result ≡ WorkEnd.Finished → ⊥) → EndsWork D SLOTS D.content D.may_leave D.faults D.moment D.left_since pass.new.view result }
     ensures refused { pass.new.refused ≡ refused_by_work result pass.old.refused }
 {
     let end = work(rt, store, pass, script, gate);
@@ -100,7 +100,7 @@ fn run_first<'s, const SLOTS: usize, D: Disk, G: Gate, R: Threads + Wait + Sync>
     ensures of { (main.new.table ≡ store.now.table) × (pass.new.table ≡ store.now.table) }
     ensures runs { RunsScripts main.old.view main.new.view others.now result.0 }
     ensures does { DoesTransactions pass.old.view pass.new.view script.now.txns result.1 }
-    ensures ends { ((result.0 ≡ WorkEnd.Finished → ⊥) → EndsRun D SLOTS D.faults D.moment D.left_since main.old.view result.0) × ((result.1 ≡ WorkEnd.Finished → ⊥) → EndsWork D SLOTS D.faults D.moment D.left_since pass.new.view result.1) }
+    ensures ends { ((result.0 ≡ WorkEnd.Finished → ⊥) → EndsRun D SLOTS D.content D.may_leave D.faults D.moment D.left_since main.old.view result.0) × ((result.1 ≡ WorkEnd.Finished → ⊥) → EndsWork D SLOTS D.content D.may_leave D.faults D.moment D.left_since pass.new.view result.1) }
     ensures refused { CountsRefusals result.0 main.old.refused main.new.refused × (pass.new.refused ≡ refused_by_work result.1 pass.old.refused) }
 {
     join_mut(
@@ -114,7 +114,7 @@ fn run_first<'s, const SLOTS: usize, D: Disk, G: Gate, R: Threads + Wait + Sync>
             requires apart { AreApart others.now }
             ensures of { main.exit.now.table ≡ store.entry.now.table }
             ensures runs { RunsScripts main.entry.now.view main.exit.now.view others.entry.now result }
-            ensures end { (result ≡ WorkEnd.Finished → ⊥) → EndsRun D SLOTS D.faults D.moment D.left_since main.entry.now.view result }
+            ensures end { (result ≡ WorkEnd.Finished → ⊥) → EndsRun D SLOTS D.content D.may_leave D.faults D.moment D.left_since main.entry.now.view result }
             ensures refused { CountsRefusals result main.entry.now.refused main.exit.now.refused }
         { run_beside(rt, store, main, others, gate, turns, left) },
         &mut || -> WorkEnd
@@ -124,7 +124,7 @@ fn run_first<'s, const SLOTS: usize, D: Disk, G: Gate, R: Threads + Wait + Sync>
             requires in_range { AreInRange SLOTS script.now.txns }
             ensures of { pass.exit.now.table ≡ store.entry.now.table }
             ensures does { DoesTransactions pass.entry.now.view pass.exit.now.view script.entry.now.txns result }
-            ensures end { (result ≡ WorkEnd.Finished → ⊥) → EndsWork D SLOTS D.faults D.moment D.left_since pass.exit.now.view result }
+            ensures end { (result ≡ WorkEnd.Finished → ⊥) → EndsWork D SLOTS D.content D.may_leave D.faults D.moment D.left_since pass.exit.now.view result }
             ensures refused { pass.exit.now.refused ≡ refused_by_work result pass.entry.now.refused }
         { work_beside(rt, store, pass, script, gate, left) },
     )
@@ -148,7 +148,7 @@ fn run_beside<'s, const SLOTS: usize, D: Disk, G: Gate, R: Threads + Wait + Sync
     requires apart { AreApart scripts.now }
     ensures of { main.new.table ≡ store.now.table }
     ensures runs { RunsScripts main.old.view main.new.view scripts.now result }
-    ensures end { (result ≡ WorkEnd.Finished → ⊥) → EndsRun D SLOTS D.faults D.moment D.left_since main.old.view result }
+    ensures end { (result ≡ WorkEnd.Finished → ⊥) → EndsRun D SLOTS D.content D.may_leave D.faults D.moment D.left_since main.old.view result }
     ensures refused { CountsRefusals result main.old.refused main.new.refused }
 {
     know_counts(main);
@@ -181,7 +181,7 @@ pub fn run_all<const SLOTS: usize, D: Disk, G: Gate, R: Threads + Wait + Sync>(
     ensures alone { IsAlone main.new.view }
     ensures runs { RunsScripts main.old.view main.new.view scripts.now result }
     ensures idle { result ≡ WorkEnd.Finished → IsCollected D SLOTS main.new.view }
-    ensures end { (result ≡ WorkEnd.Finished → ⊥) → EndsRun D SLOTS D.faults D.moment D.left_since main.old.view result }
+    ensures end { (result ≡ WorkEnd.Finished → ⊥) → EndsRun D SLOTS D.content D.may_leave D.faults D.moment D.left_since main.old.view result }
     ensures grown { HaveGrown main.old.refused main.new.refused }
     ensures refused { RoseBy result main.old.refused main.new.refused }
     ensures worst { TellsWorst result main.old.refused main.new.refused }

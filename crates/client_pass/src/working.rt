@@ -30,7 +30,7 @@ pub fn work<const SLOTS: usize, D: Disk, G: Gate, R: Wait>(
     requires in_range { AreInRange SLOTS script.now.txns }
     ensures of { pass.new.table ≡ store.now.table }
     ensures does { DoesTransactions pass.old.view pass.new.view script.now.txns result }
-    ensures end { (result ≡ WorkEnd.Finished → ⊥) → EndsWork D SLOTS D.faults D.moment D.left_since pass.new.view result }
+    ensures end { (result ≡ WorkEnd.Finished → ⊥) → EndsWork D SLOTS D.content D.may_leave D.faults D.moment D.left_since pass.new.view result }
     ensures refused { pass.new.refused ≡ refused_by_work result pass.old.refused }
 {
     let mut count = 0;

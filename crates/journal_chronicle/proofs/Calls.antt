@@ -1,6 +1,6 @@
 -- What a call of a client makes of a chronicle.
 use Rattle.std.proofs.Common.{◌≡◌, ◌≢◌, ◌⊎◌, ℕ, List, true, false, Option, Some, None, refl, sym, ap, subst, ◌∙◌, inl, inr}
-use Rattle.std.specs.Prelude.{is_some, IfSome, IsSome}
+use Rattle.std.specs.Prelude.{IfSome, IsSome}
 use Rattle.plain_model.specs.declared.calls.Call.{Call as TransactionCall}
 use Rattle.plain_model.specs.declared.calls.Call.TheVariants as call
 use Rattle.plain_model.specs.declared.calls.Reply.{Reply}
@@ -22,8 +22,7 @@ use Rattle.logged_journal.specs.declared.failed.FailedCall.{FailedCall}
 use Rattle.logged_journal.specs.View.{LoggedView, failed_commit}
 use Rattle.logged_journal.specs.Kept.{CanCommit}
 use Rattle.logged_journal.specs.Calls.{IsOfJournal, DoesCall, GoesOn, KeepsFrames, FailsCommit}
-use Rattle.latch_table.specs.Views.{no_marks}
-use Rattle.journal_chronicle.specs.Steps.{disk_mark, trace_mark, entered_by_call, marked_by_call, GoesOnWith}
+use Rattle.journal_chronicle.specs.Steps.{no_mark, disk_mark, trace_mark, entered_by_call, marked_by_call, GoesOnWith}
 use Rattle.journal_chronicle.specs.Inside.{FitFrames, IsChronicle}
 use Rattle.journal_chronicle.proofs.Notes.{no-commit}
 use Rattle.journal_chronicle.proofs.Goings.{Came, stays-by, commit-same, some-same, marks-same, marks-disk, marks-trace, came-still, came-stopped, came-full, came-joined, fails-goes_on}
@@ -45,7 +44,7 @@ pub record Applied {D : Type 0} (faults : D → ℕ) (slots : ℕ) (old new : Lo
 
 module _ {D : Type 0} (faults : D → ℕ) (slots : ℕ) (old new : LoggedView D) (held held_new : List (HeldFrame slots)) (pass : ℕ) (c : TransactionCall) where
   -- a reply that enters the history
-  entered : (r : Reply) → Applied faults slots old new held held_new pass c r → old.failed ≡ None → IsOfJournal r → IsEntered r → Came slots old new held held_new (Some (Call pass c r)) no_marks
+  entered : (r : Reply) → Applied faults slots old new held held_new pass c r → old.failed ≡ None → IsOfJournal r → IsEntered r → Came slots old new held held_new (Some (Call pass c r)) no_mark
   entered r a before of enters =
       let does = a.does of in
       let goes = a.goes_on of in
@@ -64,12 +63,12 @@ module _ {D : Type 0} (faults : D → ℕ) (slots : ℕ) (old new : LoggedView D
       (a.same (inl refl))
       (marks-trace old new (some-same old new before goes.running) (ap (λ (j : JournalView). j.marks.trace) is) goes.log_full)
 
-  starved : Applied faults slots old new held held_new pass c reply.Memory → old.failed ≡ None → Came slots old new held held_new None no_marks
+  starved : Applied faults slots old new held held_new pass c reply.Memory → old.failed ≡ None → Came slots old new held held_new None no_mark
   starved a before =
       let does = a.does tt in
       let goes = a.goes_on tt in
       let is = does.memory refl in
-      came-still slots old new held held_new no_marks a.before
+      came-still slots old new held held_new no_mark a.before
       (stays-by old new old.journal is refl refl refl refl goes.opened (commit-same old new before goes.running))
       (a.same (inr refl))
       (marks-same old new (some-same old new before goes.running) (ap (λ (j : JournalView). j.marks.trace) is) goes.log_full)
@@ -81,7 +80,7 @@ module _ {D : Type 0} (faults : D → ℕ) (slots : ℕ) (old new : LoggedView D
       record {
         goes = subst (λ (x : TransactionCall). GoesOnWith slots (is_held held) old new (Some (Call pass x reply.DiskFault)) disk_mark) (sym f.commit)
             (fails-goes_on slots old new a.own a.owned (is_held held) pass f.journal f.opened (no-commit old before) told
-            (marks-disk old new (ap is_some f.told) (ap (λ (j : JournalView). j.marks.trace) f.journal) f.marks.0));
+            (marks-disk old new _ f.told (inl before) (ap (λ (j : JournalView). j.marks.trace) f.journal) f.marks.0));
         rest = λ e. absurd (cc);
         chronicle = record {
           pages = subst (λ (j : JournalView). FitFrames slots j.history.ids (cells_of j)) (sym f.journal) (let b = a.before in b.pages);
@@ -122,4 +121,4 @@ module _ {D : Type 0} (faults : D → ℕ) (slots : ℕ) (old new : LoggedView D
       by None e stopped = running r a e
       by (Some f) e stopped =
           subst (λ (x : Reply). Came slots old new held held_new (entered_by_call pass c x) (marked_by_call x)) (sym stopped.0)
-          (came-stopped slots old new held held_new a.before stopped.1 stopped.2 (ap is_some e))
+          (came-stopped slots old new held held_new a.before stopped.1 stopped.2 f e)

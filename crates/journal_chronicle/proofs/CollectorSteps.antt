@@ -1,6 +1,6 @@
 -- What the steps of an abort and of the collector make of a chronicle.
 use Rattle.std.proofs.Common.{◌≡◌, ◌⊎◌, ℕ, List, Bool, true, Option, Some, None, refl, sym, ap, subst, inl, inr}
-use Rattle.std.specs.Prelude.{is_some, option_map, IfSome, IsSome, IfOk, IfErr, IsErrOf, Result, Ok, Err}
+use Rattle.std.specs.Prelude.{option_map, IfSome, IsSome, IfOk, IfErr, IsErrOf, Result, Ok, Err}
 use Rattle.plain_model.specs.declared.calls.Call.TheVariants as call
 use Rattle.plain_model.specs.declared.calls.Reply.TheVariants as reply
 use Rattle.plain_model.specs.declared.calls.Entry.{Entry}
@@ -29,8 +29,7 @@ use Rattle.logged_journal.specs.declared.failed.FailedCall.{FailedCall}
 use Rattle.logged_journal.specs.declared.failed.Stopped.{Stopped}
 use Rattle.logged_journal.specs.View.{LoggedView}
 use Rattle.logged_journal.specs.Calls.{GoesOn, KeepsFrames, DoesAbortStep, DoesCollect}
-use Rattle.latch_table.specs.Views.{no_marks}
-use Rattle.journal_chronicle.specs.Steps.{trace_mark, entered_by_abort_step, marked_by_abort_step, entered_by_collect_step, marked_by_collect_step}
+use Rattle.journal_chronicle.specs.Steps.{no_mark, trace_mark, entered_by_abort_step, marked_by_abort_step, entered_by_collect_step, marked_by_collect_step}
 use Rattle.journal_chronicle.specs.Inside.{IsChronicle}
 use Rattle.journal_chronicle.proofs.Goings.{Came, stays-by, commit-same, some-same, marks-same, marks-trace, came-still, came-stopped, came-full, came-joined}
 
@@ -65,17 +64,17 @@ module _ {D : Type 0} (slots : ℕ) (old new : LoggedView D) (held held_new : Li
       a.frames (ap (λ m. m.trace) does.opening.2) goes.log_full
   abort-running (Err stopped) a before = absurd (let s = subst IsSome before a.only_stopped in cc)
 
-  abort-stopped : (r : Result AbortStep Stopped) → Aborted slots old new held held_new pass r → (f : FailedCall) → IsErrOf r (record { faults = f.faults }) → new ≡ old → held_new ≡ held → is_some old.failed ≡ true
+  abort-stopped : (r : Result AbortStep Stopped) → Aborted slots old new held held_new pass r → (f : FailedCall) → IsErrOf r (record { faults = f.faults }) → new ≡ old → held_new ≡ held → old.failed ≡ Some f
       → Came slots old new held held_new (entered_by_abort_step pass r) (marked_by_abort_step r)
   abort-stopped (Ok step) a f is same held_same failed = absurd (cc)
-  abort-stopped (Err stopped) a f is same held_same failed = came-stopped slots old new held held_new a.before same held_same failed
+  abort-stopped (Err stopped) a f is same held_same failed = came-stopped slots old new held held_new a.before same held_same f failed
 
   pub abort-stepped : (r : Result AbortStep Stopped) → Aborted slots old new held held_new pass r → Came slots old new held held_new (entered_by_abort_step pass r) (marked_by_abort_step r)
   abort-stepped r a = by old.failed refl a.stopped
     where
       by : (o : Option FailedCall) → old.failed ≡ o → IfSome o (λ f. (IsErrOf r (record { faults = f.faults })) × (new ≡ old) × (held_new ≡ held)) → Came slots old new held held_new (entered_by_abort_step pass r) (marked_by_abort_step r)
       by None e stopped = abort-running r a e
-      by (Some f) e stopped = abort-stopped r a f stopped.0 stopped.1 stopped.2 (ap is_some e)
+      by (Some f) e stopped = abort-stopped r a f stopped.0 stopped.1 stopped.2 e
 
 -- ---- the collector
 
@@ -104,20 +103,20 @@ deleted-told act None left more id e = absurd (cc)
 deleted-told act (Some other) left more id e = absurd (cc)
 
 module _ {D : Type 0} (slots : ℕ) (old new : LoggedView D) (held held_new : List (HeldFrame slots)) where
-  event : (step : Collect) → Collected slots old new held held_new (Ok step) → old.failed ≡ None → (m : MakesEvent slots old.journal new.journal step) → (e : Entry) → entry_of m.logged ≡ e → Came slots old new held held_new (Some e) no_marks
+  event : (step : Collect) → Collected slots old new held held_new (Ok step) → old.failed ≡ None → (m : MakesEvent slots old.journal new.journal step) → (e : Entry) → entry_of m.logged ≡ e → Came slots old new held held_new (Some e) no_mark
   event step a before m e is =
       let goes = a.goes_on in
       let does = a.does in
       let n : Note = record { entry = entry_of m.logged; logged = m.logged; left = left_of slots new.journal.round; act = m.event } in
-      subst (λ (x : Entry). Came slots old new held held_new (Some x) no_marks) is
+      subst (λ (x : Entry). Came slots old new held held_new (Some x) no_mark) is
       (came-joined slots old new held held_new n a.own a.owned a.before
       (record { history = m.entry; notes = m.noted; opening = does.opening.0; limits = does.opening.1; opened = goes.opened; before = before; running = goes.running })
       a.frames (ap (λ k. k.trace) m.marks) goes.log_full)
 
-  still : (step : Collect) → Collected slots old new held held_new (Ok step) → old.failed ≡ None → new.journal ≡ old.journal → held_new ≡ held → Came slots old new held held_new None no_marks
+  still : (step : Collect) → Collected slots old new held held_new (Ok step) → old.failed ≡ None → new.journal ≡ old.journal → held_new ≡ held → Came slots old new held held_new None no_mark
   still step a before is held_same =
       let goes = a.goes_on in
-      came-still slots old new held held_new no_marks a.before
+      came-still slots old new held held_new no_mark a.before
       (stays-by old new old.journal is refl refl refl refl goes.opened (commit-same old new before goes.running))
       held_same
       (marks-same old new (some-same old new before goes.running) (ap (λ (j : JournalView). j.marks.trace) is) goes.log_full)
@@ -147,10 +146,10 @@ module _ {D : Type 0} (slots : ℕ) (old new : LoggedView D) (held held_new : Li
   collect-running (Err (refusal.Stopped n)) a before = absurd (let s = subst IsSome before (a.only_stopped n refl) in cc)
   collect-running (Err refusal.LogFull) a before = came-full slots old new held held_new a.before (a.log_marked refl).0 (a.log_marked refl).1
 
-  collect-stopped : (r : Result Collect CollectRefusal) → Collected slots old new held held_new r → (f : FailedCall) → IsErrOf r (refusal.Stopped f.faults) → new ≡ old → held_new ≡ held → is_some old.failed ≡ true
+  collect-stopped : (r : Result Collect CollectRefusal) → Collected slots old new held held_new r → (f : FailedCall) → IsErrOf r (refusal.Stopped f.faults) → new ≡ old → held_new ≡ held → old.failed ≡ Some f
       → Came slots old new held held_new (entered_by_collect_step r) (marked_by_collect_step r)
   collect-stopped (Ok step) a f is same held_same failed = absurd (cc)
-  collect-stopped (Err (refusal.Stopped n)) a f is same held_same failed = came-stopped slots old new held held_new a.before same held_same failed
+  collect-stopped (Err (refusal.Stopped n)) a f is same held_same failed = came-stopped slots old new held held_new a.before same held_same f failed
   collect-stopped (Err refusal.LogFull) a f is same held_same failed = absurd (cc)
 
   pub collect-stepped : (r : Result Collect CollectRefusal) → Collected slots old new held held_new r → Came slots old new held held_new (entered_by_collect_step r) (marked_by_collect_step r)
@@ -158,4 +157,4 @@ module _ {D : Type 0} (slots : ℕ) (old new : LoggedView D) (held held_new : Li
     where
       by : (o : Option FailedCall) → old.failed ≡ o → IfSome o (λ f. (IsErrOf r (refusal.Stopped f.faults)) × (new ≡ old) × (held_new ≡ held)) → Came slots old new held held_new (entered_by_collect_step r) (marked_by_collect_step r)
       by None e stopped = collect-running r a e
-      by (Some f) e stopped = collect-stopped r a f stopped.0 stopped.1 stopped.2 (ap is_some e)
+      by (Some f) e stopped = collect-stopped r a f stopped.0 stopped.1 stopped.2 e

@@ -1,6 +1,7 @@
 -- How a chronicle goes on: where nothing is entered, and where one note joins.
-use Rattle.std.proofs.Common.{◌≡◌, ℕ, zero, suc, ◌*◌, ◌<◌, ◌≤◌, List, [], ◌∷◌, ◌++◌, length, Bool, true, false, Option, Some, None, refl, sym, ap, subst, ◌∙◌, inl, inr, arith}
-use Rattle.std.specs.Prelude.{◌==◌, ◌||◌, is_some, IfSome, slice_get}
+use Rattle.std.proofs.Common.{◌≡◌, ◌⊎◌, ℕ, zero, suc, ◌*◌, ◌<◌, ◌≤◌, List, [], ◌∷◌, ◌++◌, length, Bool, true, false, Option, Some, None, refl, sym, ap, subst, ◌∙◌, inl, inr, arith}
+use Rattle.std.specs.Prelude.{◌==◌, ◌||◌, option_map, unwrap_or, IfSome, slice_get}
+use Rattle.std.specs.Option.{option_or}
 use Rattle.std.proofs.Math.Bool.{or-false}
 use Rattle.std.proofs.lemmas.Bool.{eqb-true}
 use Rattle.plain_model.specs.declared.calls.Call.TheVariants.{Commit}
@@ -18,14 +19,14 @@ use Rattle.core_store.specs.declared.three.HeldFrame.{HeldFrame}
 use Rattle.core_store.specs.Frames.{Agree, AllAgree, IsSameElsewhere, is_held, pages_held}
 use Rattle.core_store.specs.JournalView.{JournalView, cells_of}
 use Rattle.core_store.proofs.PageLaws.{is_held-pages}
+use Rattle.logged_journal.specs.declared.failed.FailedCall.{FailedCall}
 use Rattle.logged_journal.specs.View.{LoggedView, failed_commit}
 use Rattle.logged_journal.specs.Kept.{CanCommit}
 use Rattle.logged_journal.specs.Calls.{KeepsFrames}
-use Rattle.latch_table.specs.Account.{Marks}
-use Rattle.latch_table.specs.Views.{no_marks, joined_marks}
+use Rattle.latch_table.specs.Views.{joined_marks}
 use Rattle.journal_chronicle.specs.Pages.{page_in}
-use Rattle.journal_chronicle.specs.View.{Origin, origin_of, notes_of, marks_of, failed_note, frame_after}
-use Rattle.journal_chronicle.specs.Steps.{disk_mark, trace_mark, log_mark, GoesOnWith}
+use Rattle.journal_chronicle.specs.View.{Origin, origin_of, notes_of, count_failed, marks_of, failed_note, frame_after}
+use Rattle.journal_chronicle.specs.Steps.{Flags, no_mark, disk_mark, trace_mark, log_mark, marks_with, count_kept, GoesOnWith}
 use Rattle.journal_chronicle.specs.Inside.{FitFrames, IsChronicle}
 use Rattle.journal_chronicle.proofs.Notes.{no-commit, notes-running, notes-failed, frame-is}
 use Rattle.journal_chronicle.proofs.PageCells.{page-same, holds-same, holds-exact}
@@ -36,30 +37,41 @@ or-true : (b : Bool) → (b || true) ≡ true
 or-true true = refl
 or-true false = refl
 
+or-none : (o : Option ℕ) → option_or o None ≡ o
+or-none None = refl
+or-none (Some n) = refl
+
+-- the disk failed this call, or one before
+disk-count : (o n : Option FailedCall) (f : FailedCall) → n ≡ Some f → (o ≡ None) ⊎ (o ≡ n)
+    → option_map (λ (x : FailedCall). x.faults) n ≡ option_or (option_map (λ (x : FailedCall). x.faults) o) (Some (unwrap_or (option_map (λ (x : FailedCall). x.faults) n) 0))
+disk-count o n f is (inl none) = rw (none, is) refl
+disk-count o n f is (inr same) = rw (same ∙ is, is) refl
+
 module _ {D : Type 0} (old new : LoggedView D) where
-  marks-are : (a b c : Bool) → is_some new.failed ≡ a → new.journal.marks.trace ≡ b → new.log_full ≡ c → marks_of new ≡ (a, b, c)
+  marks-are : (a : Option ℕ) (b c : Bool) → count_failed new ≡ a → new.journal.marks.trace ≡ b → new.log_full ≡ c → marks_of new ≡ (a, b, c)
   marks-are a b c e f g = rw (e, f, g) refl
 
   -- none was set
-  pub marks-same : is_some new.failed ≡ is_some old.failed → new.journal.marks.trace ≡ old.journal.marks.trace → new.log_full ≡ old.log_full → marks_of new ≡ joined_marks (marks_of old) no_marks
+  pub marks-same : count_failed new ≡ count_failed old → new.journal.marks.trace ≡ old.journal.marks.trace → new.log_full ≡ old.log_full → marks_of new ≡ joined_marks (marks_of old) (marks_with no_mark (count_kept new))
   marks-same e f g =
-      marks-are (is_some old.failed || false) (old.journal.marks.trace || false) (old.log_full || false)
-      (e ∙ sym (or-false (is_some old.failed))) (f ∙ sym (or-false old.journal.marks.trace)) (g ∙ sym (or-false old.log_full))
+      marks-are (option_or (count_failed old) None) (old.journal.marks.trace || false) (old.log_full || false)
+      (e ∙ sym (or-none (count_failed old))) (f ∙ sym (or-false old.journal.marks.trace)) (g ∙ sym (or-false old.log_full))
 
-  pub marks-disk : is_some new.failed ≡ true → new.journal.marks.trace ≡ old.journal.marks.trace → new.log_full ≡ old.log_full → marks_of new ≡ joined_marks (marks_of old) disk_mark
-  marks-disk e f g =
-      marks-are (is_some old.failed || true) (old.journal.marks.trace || false) (old.log_full || false)
-      (e ∙ sym (or-true (is_some old.failed))) (f ∙ sym (or-false old.journal.marks.trace)) (g ∙ sym (or-false old.log_full))
+  pub marks-disk : (failed : FailedCall) → new.failed ≡ Some failed → (old.failed ≡ None) ⊎ (old.failed ≡ new.failed) → new.journal.marks.trace ≡ old.journal.marks.trace → new.log_full ≡ old.log_full
+      → marks_of new ≡ joined_marks (marks_of old) (marks_with disk_mark (count_kept new))
+  marks-disk failed is before f g =
+      marks-are (option_or (count_failed old) (Some (count_kept new))) (old.journal.marks.trace || false) (old.log_full || false)
+      (disk-count old.failed new.failed failed is before) (f ∙ sym (or-false old.journal.marks.trace)) (g ∙ sym (or-false old.log_full))
 
-  pub marks-trace : is_some new.failed ≡ is_some old.failed → new.journal.marks.trace ≡ true → new.log_full ≡ old.log_full → marks_of new ≡ joined_marks (marks_of old) trace_mark
+  pub marks-trace : count_failed new ≡ count_failed old → new.journal.marks.trace ≡ true → new.log_full ≡ old.log_full → marks_of new ≡ joined_marks (marks_of old) (marks_with trace_mark (count_kept new))
   marks-trace e f g =
-      marks-are (is_some old.failed || false) (old.journal.marks.trace || true) (old.log_full || false)
-      (e ∙ sym (or-false (is_some old.failed))) (f ∙ sym (or-true old.journal.marks.trace)) (g ∙ sym (or-false old.log_full))
+      marks-are (option_or (count_failed old) None) (old.journal.marks.trace || true) (old.log_full || false)
+      (e ∙ sym (or-none (count_failed old))) (f ∙ sym (or-true old.journal.marks.trace)) (g ∙ sym (or-false old.log_full))
 
-  pub marks-log : is_some new.failed ≡ is_some old.failed → new.journal.marks.trace ≡ old.journal.marks.trace → new.log_full ≡ true → marks_of new ≡ joined_marks (marks_of old) log_mark
+  pub marks-log : count_failed new ≡ count_failed old → new.journal.marks.trace ≡ old.journal.marks.trace → new.log_full ≡ true → marks_of new ≡ joined_marks (marks_of old) (marks_with log_mark (count_kept new))
   marks-log e f g =
-      marks-are (is_some old.failed || false) (old.journal.marks.trace || false) (old.log_full || true)
-      (e ∙ sym (or-false (is_some old.failed))) (f ∙ sym (or-false old.journal.marks.trace)) (g ∙ sym (or-true old.log_full))
+      marks-are (option_or (count_failed old) None) (old.journal.marks.trace || false) (old.log_full || true)
+      (e ∙ sym (or-none (count_failed old))) (f ∙ sym (or-false old.journal.marks.trace)) (g ∙ sym (or-true old.log_full))
 
 -- ---- nothing is entered
 
@@ -87,7 +99,7 @@ origin-is : {D : Type 0} (old new : LoggedView D) → new.journal.limits ≡ old
 origin-is old new e f g h = rw (e, f, g, h) refl
 
 module _ {D : Type 0} (slots : ℕ) (old new : LoggedView D) where
-  pub stays-goes_on : (test : ℕ → Bool) (marked : Marks) → Stays old new → marks_of new ≡ joined_marks (marks_of old) marked → GoesOnWith slots test old new None marked
+  pub stays-goes_on : (test : ℕ → Bool) (marked : Flags) → Stays old new → marks_of new ≡ joined_marks (marks_of old) (marks_with marked (count_kept new)) → GoesOnWith slots test old new None marked
   stays-goes_on test marked s marks = record {
     origin = origin-is old new s.limits s.opening (ap (λ (x : History). x.ids) s.history) s.opened;
     notes = by (failed_commit old) refl;
@@ -126,8 +138,8 @@ module _ {D : Type 0} (slots : ℕ) (old new : LoggedView D) (own : old.journal.
       ∙ (ap (λ p. record { page = p }) (page-same slots (cells_of old.journal) (cells_of new.journal) page same)
       ∙ sym (frame-is slots old own page)))
 
-  pub joins-goes_on : (test : ℕ → Bool) (marked : Marks) (n : Note) → Joins old new n → ((page : ℕ) → test page ≡ false → page_of (cells_of new.journal) page ≡ page_of (cells_of old.journal) page)
-      → marks_of new ≡ joined_marks (marks_of old) marked → GoesOnWith slots test old new (Some n.entry) marked
+  pub joins-goes_on : (test : ℕ → Bool) (marked : Flags) (n : Note) → Joins old new n → ((page : ℕ) → test page ≡ false → page_of (cells_of new.journal) page ≡ page_of (cells_of old.journal) page)
+      → marks_of new ≡ joined_marks (marks_of old) (marks_with marked (count_kept new)) → GoesOnWith slots test old new (Some n.entry) marked
   joins-goes_on test marked n j same marks = record {
     origin = origin;
     notes = record {
@@ -143,7 +155,7 @@ module _ {D : Type 0} (slots : ℕ) (old new : LoggedView D) (own : old.journal.
       origin = origin-is old new j.limits j.opening (ap (λ (x : History). x.ids) j.history) j.opened
 
   -- the disk failed a commit, and the journal stays
-  pub fails-goes_on : (test : ℕ → Bool) (client : ℕ) → new.journal ≡ old.journal → new.opened ≡ old.opened → failed_commit old ≡ None → failed_commit new ≡ Some client → marks_of new ≡ joined_marks (marks_of old) disk_mark
+  pub fails-goes_on : (test : ℕ → Bool) (client : ℕ) → new.journal ≡ old.journal → new.opened ≡ old.opened → failed_commit old ≡ None → failed_commit new ≡ Some client → marks_of new ≡ joined_marks (marks_of old) (marks_with disk_mark (count_kept new))
       → GoesOnWith slots test old new (Some (Call client Commit DiskFault)) disk_mark
   fails-goes_on test client journal opened before failed marks = record {
     origin = origin;
@@ -187,7 +199,7 @@ joins-chronicle slots old new n j pages = record {
 -- ---- what a call comes to
 
 -- the call goes on with the chronicle, leaves the held frames where it entered nothing, and each page can still stand in a frame
-pub record Came {D : Type 0} (slots : ℕ) (old new : LoggedView D) (held held_new : List (HeldFrame slots)) (entered : Option Entry) (marked : Marks) : Type 0 where
+pub record Came {D : Type 0} (slots : ℕ) (old new : LoggedView D) (held held_new : List (HeldFrame slots)) (entered : Option Entry) (marked : Flags) : Type 0 where
   pub goes : GoesOnWith slots (is_held held) old new entered marked
   pub rest : entered ≡ None → held_new ≡ held
   pub chronicle : IsChronicle slots new
@@ -212,10 +224,10 @@ stays-same {D} old new e =
 pub commit-same : {D : Type 0} (old new : LoggedView D) → old.failed ≡ None → new.failed ≡ None → failed_commit new ≡ failed_commit old
 commit-same old new e f = no-commit new f ∙ sym (no-commit old e)
 
-pub some-same : {D : Type 0} (old new : LoggedView D) → old.failed ≡ None → new.failed ≡ None → is_some new.failed ≡ is_some old.failed
-some-same old new e f = ap is_some f ∙ sym (ap is_some e)
+pub some-same : {D : Type 0} (old new : LoggedView D) → old.failed ≡ None → new.failed ≡ None → count_failed new ≡ count_failed old
+some-same old new e f = ap (option_map (λ (x : FailedCall). x.faults)) f ∙ sym (ap (option_map (λ (x : FailedCall). x.faults)) e)
 
-pub came-still : {D : Type 0} (slots : ℕ) (old new : LoggedView D) (held held_new : List (HeldFrame slots)) (marked : Marks) → IsChronicle slots old → Stays old new → held_new ≡ held → marks_of new ≡ joined_marks (marks_of old) marked
+pub came-still : {D : Type 0} (slots : ℕ) (old new : LoggedView D) (held held_new : List (HeldFrame slots)) (marked : Flags) → IsChronicle slots old → Stays old new → held_new ≡ held → marks_of new ≡ joined_marks (marks_of old) (marks_with marked (count_kept new))
     → Came slots old new held held_new None marked
 came-still slots old new held held_new marked before stays same marks = record {
   goes = stays-goes_on slots old new (is_held held) marked stays marks;
@@ -224,10 +236,10 @@ came-still slots old new held held_new marked before stays same marks = record {
 }
 
 -- the disk had failed a call before
-pub came-stopped : {D : Type 0} (slots : ℕ) (old new : LoggedView D) (held held_new : List (HeldFrame slots)) → IsChronicle slots old → new ≡ old → held_new ≡ held → is_some old.failed ≡ true → Came slots old new held held_new None disk_mark
-came-stopped {D} slots old new held held_new before same held_same failed =
+pub came-stopped : {D : Type 0} (slots : ℕ) (old new : LoggedView D) (held held_new : List (HeldFrame slots)) → IsChronicle slots old → new ≡ old → held_new ≡ held → (f : FailedCall) → old.failed ≡ Some f → Came slots old new held held_new None disk_mark
+came-stopped {D} slots old new held held_new before same held_same f failed =
     came-still slots old new held held_new disk_mark before (stays-same old new same) held_same
-    (marks-disk old new (ap (λ (v : LoggedView D). is_some v.failed) same ∙ failed) (ap (λ (v : LoggedView D). v.journal.marks.trace) same) (ap (λ (v : LoggedView D). v.log_full) same))
+    (marks-disk old new f (ap (λ (v : LoggedView D). v.failed) same ∙ failed) (inr (sym (ap (λ (v : LoggedView D). v.failed) same))) (ap (λ (v : LoggedView D). v.journal.marks.trace) same) (ap (λ (v : LoggedView D). v.log_full) same))
 
 -- the log is full
 pub came-full : {D : Type 0} (slots : ℕ) (old new : LoggedView D) (held held_new : List (HeldFrame slots)) → IsChronicle slots old → new ≡ record old { log_full = true } → held_new ≡ held → Came slots old new held held_new None log_mark
@@ -235,13 +247,13 @@ came-full {D} slots old new held held_new before is held_same =
     came-still slots old new held held_new log_mark before
     (stays-by old new old.journal (ap (λ (v : LoggedView D). v.journal) is) refl refl refl refl (ap (λ (v : LoggedView D). v.opened) is) (ap (λ (v : LoggedView D). failed_commit v) is))
     held_same
-    (marks-log old new (ap (λ (v : LoggedView D). is_some v.failed) is) (ap (λ (v : LoggedView D). v.journal.marks.trace) is) (ap (λ (v : LoggedView D). v.log_full) is))
+    (marks-log old new (ap (λ (v : LoggedView D). count_failed v) is) (ap (λ (v : LoggedView D). v.journal.marks.trace) is) (ap (λ (v : LoggedView D). v.log_full) is))
 
 -- a note joined
 pub came-joined : {D : Type 0} (slots : ℕ) (old new : LoggedView D) (held held_new : List (HeldFrame slots)) (n : Note) → old.journal.history.slots ≡ slots → new.journal.history.slots ≡ slots → IsChronicle slots old → Joins old new n
-    → KeepsFrames old.journal new.journal held held_new → new.journal.marks.trace ≡ old.journal.marks.trace → new.log_full ≡ old.log_full → Came slots old new held held_new (Some n.entry) no_marks
+    → KeepsFrames old.journal new.journal held held_new → new.journal.marks.trace ≡ old.journal.marks.trace → new.log_full ≡ old.log_full → Came slots old new held held_new (Some n.entry) no_mark
 came-joined slots old new held held_new n own owned before j frames trace log_full = record {
-  goes = joins-goes_on slots old new own owned (is_held held) no_marks n j frames.elsewhere (marks-same old new (some-same old new j.before j.running) trace log_full);
+  goes = joins-goes_on slots old new own owned (is_held held) no_mark n j frames.elsewhere (marks-same old new (some-same old new j.before j.running) trace log_full);
   rest = λ e. absurd (cc);
   chronicle = joins-chronicle slots old new n j (pages-kept old.journal.history.ids (cells_of old.journal) (cells_of new.journal) held held_new before.pages frames.pages frames.agree frames.elsewhere);
 }

@@ -1,6 +1,7 @@
 -- What a call of a journal gives to a table that has its chronicle.
 use Rattle.std.proofs.Common.{◌≡◌, ◌⊎◌, ℕ, Bool, true, false, List, [], ◌∷◌, ◌++◌, Some, None, refl, sym, ap, subst, ◌∙◌}
-use Rattle.std.specs.Prelude.{◌||◌}
+use Rattle.std.specs.Prelude.{◌||◌, Option}
+use Rattle.std.specs.Option.{option_or}
 use Rattle.plain_model.specs.declared.calls.Entry.{Entry}
 use Rattle.core_store.specs.declared.frame.Frame.{Frame}
 use Rattle.core_store.specs.declared.note.Note.{Note}
@@ -13,19 +14,23 @@ use Rattle.latch_table.specs.Rule.{IsInHand}
 use Rattle.latch_table.specs.Steps.{IsNext}
 use Rattle.journal_chronicle.specs.Clients.{speaker_of}
 use Rattle.journal_chronicle.specs.View.{Origin, account, origin_of, notes_of, marks_of, frame_after}
-use Rattle.journal_chronicle.specs.Steps.{GoesOnWith}
+use Rattle.journal_chronicle.specs.Steps.{Flags, marks_with, count_kept, GoesOnWith}
 
 or-left : (a b : Bool) → a ≡ true → (a || b) ≡ true
 or-left true b e = refl
 or-left false b e = absurd (cc)
 
+or-first : (b c : Option ℕ) (n : ℕ) → b ≡ Some n → option_or b c ≡ Some n
+or-first (Some k) c n e = e
+or-first None c n e = absurd (cc)
+
 -- marks that were set are set with others
 within-joined : (a b m : Marks) → KeepMarks a b → KeepMarks a (joined_marks b m)
-within-joined a b m w = (λ e. or-left b.0 m.0 (w.0 e), λ e. or-left b.1 m.1 (w.1 e), λ e. or-left b.2 m.2 (w.2 e))
+within-joined a b m w = (λ n e. or-first b.0 m.0 n (w.0 n e), λ e. or-left b.1 m.1 (w.1 e), λ e. or-left b.2 m.2 (w.2 e))
 
-module _ {D : Type 0} (slots : ℕ) (v : View Note Origin (Frame slots)) (old new : LoggedView D) (test : ℕ → Bool) (marked : Marks) (hand : IsInHand (account D slots) v old) where
-  within-after : marks_of new ≡ joined_marks (marks_of old) marked → (st : Story Note) → KeepMarks st.marks (marks_of old) → KeepMarks st.marks (marks_of new)
-  within-after e st w = subst (KeepMarks st.marks) (sym e) (within-joined st.marks (marks_of old) marked w)
+module _ {D : Type 0} (slots : ℕ) (v : View Note Origin (Frame slots)) (old new : LoggedView D) (test : ℕ → Bool) (marked : Flags) (hand : IsInHand (account D slots) v old) where
+  within-after : marks_of new ≡ joined_marks (marks_of old) (marks_with marked (count_kept new)) → (st : Story Note) → KeepMarks st.marks (marks_of old) → KeepMarks st.marks (marks_of new)
+  within-after e st w = subst (KeepMarks st.marks) (sym e) (within-joined st.marks (marks_of old) (marks_with marked (count_kept new)) w)
 
   -- Where a call entered nothing, the chronicle is still the one that the hold has: it may be given back.
   pub in-hand : GoesOnWith slots test old new None marked → IsInHand (account D slots) v new

@@ -1,6 +1,6 @@
 -- What upkeep and the looks of the collector make of a chronicle: no page changes.
-use Rattle.std.proofs.Common.{◌≡◌, ◌≢◌, ℕ, List, Bool, true, false, Option, Some, None, refl, sym, ap, subst, ◌∙◌}
-use Rattle.std.specs.Prelude.{is_some, IfSome, IsSome}
+use Rattle.std.proofs.Common.{◌≡◌, ◌≢◌, ℕ, List, Bool, true, false, Option, Some, None, inl, inr, refl, sym, ap, subst, ◌∙◌}
+use Rattle.std.specs.Prelude.{IfSome, IsSome}
 use Rattle.plain_model.specs.declared.calls.Entry.{Entry}
 use Rattle.plain_model.specs.declared.calls.Entry.TheVariants.{Hidden, TurnBusy}
 use Rattle.cell_model.specs.Cells.{Cell}
@@ -17,30 +17,29 @@ use Rattle.logged_journal.specs.declared.upkeep.Upkeep.{Upkeep}
 use Rattle.logged_journal.specs.declared.upkeep.Upkeep.TheVariants as upkeep
 use Rattle.logged_journal.specs.View.{LoggedView, OnlyTakesRoom, failed_commit}
 use Rattle.logged_journal.specs.Upkeep.{DoesUpkeep, FailsUpkeep}
-use Rattle.latch_table.specs.Account.{Marks}
-use Rattle.latch_table.specs.Views.{no_marks, joined_marks}
-use Rattle.journal_chronicle.specs.Steps.{disk_mark, trace_mark, log_mark, entered_by_refusal, entered_by_upkeep, marked_by_refusal, marked_by_upkeep, no_page, GoesOnWith}
-use Rattle.journal_chronicle.specs.View.{marks_of}
+use Rattle.latch_table.specs.Views.{joined_marks}
+use Rattle.journal_chronicle.specs.Steps.{Flags, no_mark, disk_mark, trace_mark, log_mark, marks_with, count_kept, entered_by_refusal, entered_by_upkeep, marked_by_refusal, marked_by_upkeep, no_page, GoesOnWith}
+use Rattle.journal_chronicle.specs.View.{count_failed, marks_of}
 use Rattle.journal_chronicle.specs.Inside.{FitFrames, IsChronicle}
 use Rattle.journal_chronicle.proofs.Notes.{cells-unlogged}
 use Rattle.journal_chronicle.proofs.Goings.{Stays, Joins, stays-by, stays-same, stays-goes_on, stays-chronicle, some-same, marks-same, marks-disk, marks-trace, marks-log, joins-goes_on, joins-chronicle}
 
 -- the call goes on with the chronicle, no page changes its frame, and each can still stand in one
-pub record Kept {D : Type 0} (slots : ℕ) (old new : LoggedView D) (entered : Option Entry) (marked : Marks) : Type 0 where
+pub record Kept {D : Type 0} (slots : ℕ) (old new : LoggedView D) (entered : Option Entry) (marked : Flags) : Type 0 where
   pub goes : GoesOnWith slots no_page old new entered marked
   pub chronicle : IsChronicle slots new
 
-kept-still : {D : Type 0} (slots : ℕ) (old new : LoggedView D) (marked : Marks) → IsChronicle slots old → Stays old new → marks_of new ≡ joined_marks (marks_of old) marked → Kept slots old new None marked
+kept-still : {D : Type 0} (slots : ℕ) (old new : LoggedView D) (marked : Flags) → IsChronicle slots old → Stays old new → marks_of new ≡ joined_marks (marks_of old) (marks_with marked (count_kept new)) → Kept slots old new None marked
 kept-still slots old new marked before stays marks = record { goes = stays-goes_on slots old new no_page marked stays marks; chronicle = stays-chronicle slots old new stays before }
 
 -- ---- the collector looks on
 
-pub looked : {D : Type 0} (slots : ℕ) (old new : LoggedView D) → IsChronicle slots old → new ≡ record old { journal = new.journal } → OnlyLooks slots old.journal new.journal → Kept slots old new None no_marks
+pub looked : {D : Type 0} (slots : ℕ) (old new : LoggedView D) → IsChronicle slots old → new ≡ record old { journal = new.journal } → OnlyLooks slots old.journal new.journal → Kept slots old new None no_mark
 looked {D} slots old new before is looks =
     let round = new.journal.round in
-    kept-still slots old new no_marks before
+    kept-still slots old new no_mark before
     (stays-by old new (record old.journal { round = new.journal.round }) looks.same refl refl refl refl (ap (λ (v : LoggedView D). v.opened) is) (ap (λ (v : LoggedView D). failed_commit v) is))
-    (marks-same old new (ap (λ (v : LoggedView D). is_some v.failed) is) (ap (λ (j : JournalView). j.marks.trace) looks.same) (ap (λ (v : LoggedView D). v.log_full) is))
+    (marks-same old new (ap (λ (v : LoggedView D). count_failed v) is) (ap (λ (j : JournalView). j.marks.trace) looks.same) (ap (λ (v : LoggedView D). v.log_full) is))
 
 -- ---- upkeep
 
@@ -61,7 +60,7 @@ pub record Upkept {D : Type 0} (faults : D → ℕ) (slots : ℕ) (old new : Log
 module _ {D : Type 0} (faults : D → ℕ) (slots : ℕ) (old new : LoggedView D) where
   -- an entry joined that logs nothing
   entered : (e : Entry) → old.journal.history.slots ≡ slots → new.journal.history.slots ≡ slots → IsChronicle slots old → new.journal ≡ with_upkeep slots old.journal e → old.failed ≡ None → new.failed ≡ None → new.opened ≡ old.opened → new.log_full ≡ old.log_full
-      → Kept slots old new (Some e) no_marks
+      → Kept slots old new (Some e) no_mark
   entered e own owned before is failed running opened log_full =
       let n : Note = record { entry = e; logged = None; left = left_of slots old.journal.round; act = Other } in
       let cells : cells_of new.journal ≡ cells_of old.journal = ap cells_of is ∙ cells-unlogged old.journal.history.slots old.journal.opening old.journal.notes n refl in
@@ -75,7 +74,7 @@ module _ {D : Type 0} (faults : D → ℕ) (slots : ℕ) (old new : LoggedView D
         running = running;
       } in
       record {
-        goes = joins-goes_on slots old new own owned no_page no_marks n j (λ page other. ap (λ (cs : List Cell). page_of cs page) cells)
+        goes = joins-goes_on slots old new own owned no_page no_mark n j (λ page other. ap (λ (cs : List Cell). page_of cs page) cells)
             (marks-same old new (some-same old new failed running) (ap (λ (x : JournalView). x.marks.trace) is) log_full);
         chronicle = joins-chronicle slots old new n j (subst (FitFrames slots old.journal.history.ids) (sym cells) before.pages);
       }
@@ -92,23 +91,23 @@ module _ {D : Type 0} (faults : D → ℕ) (slots : ℕ) (old new : LoggedView D
       let is = a.marked refl in
       kept-still slots old new trace_mark a.before
       (stays-by old new (record old.journal { marks = record old.journal.marks { trace = true } }) (ap (λ (v : LoggedView D). v.journal) is) refl refl refl refl (ap (λ (v : LoggedView D). v.opened) is) (ap (λ (v : LoggedView D). failed_commit v) is))
-      (marks-trace old new (ap (λ (v : LoggedView D). is_some v.failed) is) (ap (λ (v : LoggedView D). v.journal.marks.trace) is) (ap (λ (v : LoggedView D). v.log_full) is))
+      (marks-trace old new (ap (λ (v : LoggedView D). count_failed v) is) (ap (λ (v : LoggedView D). v.journal.marks.trace) is) (ap (λ (v : LoggedView D). v.log_full) is))
   running upkeep.LogFull a before =
       let is = a.log_marked refl in
       kept-still slots old new log_mark a.before
       (stays-by old new (record old.journal { reserved = new.journal.reserved }) (ap (λ (v : LoggedView D). v.journal) is) refl refl refl refl (ap (λ (v : LoggedView D). v.opened) is) (ap (λ (v : LoggedView D). failed_commit v) is))
-      (marks-log old new (ap (λ (v : LoggedView D). is_some v.failed) is) (ap (λ (v : LoggedView D). v.journal.marks.trace) is) (ap (λ (v : LoggedView D). v.log_full) is))
+      (marks-log old new (ap (λ (v : LoggedView D). count_failed v) is) (ap (λ (v : LoggedView D). v.journal.marks.trace) is) (ap (λ (v : LoggedView D). v.log_full) is))
   running upkeep.Memory a before =
       let is = a.memory refl in
-      kept-still slots old new no_marks a.before
+      kept-still slots old new no_mark a.before
       (stays-by old new (record old.journal { reserved = new.journal.reserved }) (ap (λ (v : LoggedView D). v.journal) is) refl refl refl refl (ap (λ (v : LoggedView D). v.opened) is) (ap (λ (v : LoggedView D). failed_commit v) is))
-      (marks-same old new (ap (λ (v : LoggedView D). is_some v.failed) is) (ap (λ (v : LoggedView D). v.journal.marks.trace) is) (ap (λ (v : LoggedView D). v.log_full) is))
+      (marks-same old new (ap (λ (v : LoggedView D). count_failed v) is) (ap (λ (v : LoggedView D). v.journal.marks.trace) is) (ap (λ (v : LoggedView D). v.log_full) is))
   running upkeep.DiskFault a before =
       let f = a.fault refl in
       let commit : failed_commit new ≡ failed_commit old = rw (f.told, before) refl in
       kept-still slots old new disk_mark a.before
       (stays-by old new (record old.journal { reserved = new.journal.reserved }) f.journal refl refl refl refl f.opened commit)
-      (marks-disk old new (ap is_some f.told) (ap (λ (j : JournalView). j.marks.trace) f.journal) f.log_full)
+      (marks-disk old new _ f.told (inl before) (ap (λ (j : JournalView). j.marks.trace) f.journal) f.log_full)
 
   pub upkept : (r : Upkeep) → Upkept faults slots old new r → Kept slots old new (entered_by_upkeep r) (marked_by_upkeep r)
   upkept r a = by old.failed refl a.stopped
@@ -118,7 +117,7 @@ module _ {D : Type 0} (faults : D → ℕ) (slots : ℕ) (old new : LoggedView D
       by (Some f) e stopped =
           subst (λ (x : Upkeep). Kept slots old new (entered_by_upkeep x) (marked_by_upkeep x)) (sym stopped.0)
           (kept-still slots old new disk_mark a.before (stays-same old new stopped.1)
-          (marks-disk old new (ap (λ (v : LoggedView D). is_some v.failed) stopped.1 ∙ ap is_some e) (ap (λ (v : LoggedView D). v.journal.marks.trace) stopped.1) (ap (λ (v : LoggedView D). v.log_full) stopped.1)))
+          (marks-disk old new f (ap (λ (v : LoggedView D). v.failed) stopped.1 ∙ e) (inr (sym (ap (λ (v : LoggedView D). v.failed) stopped.1))) (ap (λ (v : LoggedView D). v.journal.marks.trace) stopped.1) (ap (λ (v : LoggedView D). v.log_full) stopped.1)))
 
 -- ---- upkeep that is refused before it is tried
 
@@ -137,11 +136,11 @@ pub record Refused {D : Type 0} (slots : ℕ) (old new : LoggedView D) (r : Opti
 
 module _ {D : Type 0} (faults : D → ℕ) (slots : ℕ) (old new : LoggedView D) where
   -- it took room at most
-  took-room : IsChronicle slots old → OnlyTakesRoom old new → Kept slots old new None no_marks
+  took-room : IsChronicle slots old → OnlyTakesRoom old new → Kept slots old new None no_mark
   took-room before is =
-      kept-still slots old new no_marks before
+      kept-still slots old new no_mark before
       (stays-by old new (record old.journal { reserved = new.journal.reserved }) (ap (λ (v : LoggedView D). v.journal) is) refl refl refl refl (ap (λ (v : LoggedView D). v.opened) is) (ap (λ (v : LoggedView D). failed_commit v) is))
-      (marks-same old new (ap (λ (v : LoggedView D). is_some v.failed) is) (ap (λ (v : LoggedView D). v.journal.marks.trace) is) (ap (λ (v : LoggedView D). v.log_full) is))
+      (marks-same old new (ap (λ (v : LoggedView D). count_failed v) is) (ap (λ (v : LoggedView D). v.journal.marks.trace) is) (ap (λ (v : LoggedView D). v.log_full) is))
 
   took-none : new ≡ old → OnlyTakesRoom old new
   took-none is = rw is refl
@@ -179,13 +178,13 @@ module _ {D : Type 0} (faults : D → ℕ) (slots : ℕ) (old new : LoggedView D
       by (Some f) e is past p =
           subst (λ (x : Option Upkeep). Kept slots old new None (marked_by_refusal x)) (sym is.0)
           (kept-still slots old new disk_mark before (stays-same old new is.1)
-          (marks-disk old new (ap (λ (v : LoggedView D). is_some v.failed) is.1 ∙ ap is_some e) (ap (λ (v : LoggedView D). v.journal.marks.trace) is.1) (ap (λ (v : LoggedView D). v.log_full) is.1)))
+          (marks-disk old new f (ap (λ (v : LoggedView D). v.failed) is.1 ∙ e) (inr (sym (ap (λ (v : LoggedView D). v.failed) is.1))) (ap (λ (v : LoggedView D). v.journal.marks.trace) is.1) (ap (λ (v : LoggedView D). v.log_full) is.1)))
       by None e is true p =
           let so = full e p in
           subst (λ (x : Option Upkeep). Kept slots old new None (marked_by_refusal x)) (sym so.0)
           (kept-still slots old new trace_mark before
           (stays-by old new (record old.journal { marks = record old.journal.marks { trace = true } }) (ap (λ (v : LoggedView D). v.journal) so.1) refl refl refl refl (ap (λ (v : LoggedView D). v.opened) so.1) (ap (λ (v : LoggedView D). failed_commit v) so.1))
-          (marks-trace old new (ap (λ (v : LoggedView D). is_some v.failed) so.1) (ap (λ (v : LoggedView D). v.journal.marks.trace) so.1) (ap (λ (v : LoggedView D). v.log_full) so.1)))
+          (marks-trace old new (ap (λ (v : LoggedView D). count_failed v) so.1) (ap (λ (v : LoggedView D). v.journal.marks.trace) so.1) (ap (λ (v : LoggedView D). v.log_full) so.1)))
       by None e is false p =
           let so = free e p in
           subst (λ (x : Option Upkeep). Kept slots old new None (marked_by_refusal x)) (sym so.0) (took-room before so.1)

@@ -1,5 +1,5 @@
 -- What a chronicle shows of a journal with its log.
-use Rattle.std.specs.Prelude.{ℕ, Bool, List, [], ◌∷◌, ◌++◌, map, is_some, None}
+use Rattle.std.specs.Prelude.{ℕ, Bool, List, [], ◌∷◌, ◌++◌, map, Option, option_map, None}
 use Rattle.std.specs.Option.{option_map_or}
 use Rattle.plain_model.specs.declared.calls.Call.TheVariants.{Commit}
 use Rattle.plain_model.specs.declared.calls.Reply.TheVariants.{DiskFault}
@@ -37,9 +37,13 @@ failed_note notes client = record { entry = Call client Commit DiskFault; logged
 abbrev pub notes_of : {D : Type 0} → LoggedView D → List Note
 notes_of v = v.journal.notes ++ option_map_or (λ client. failed_note v.journal.notes client ∷ []) (failed_commit v) []
 
--- which answers were given: that the disk failed, that the history is full, that the log is full
+-- the disk's count of faults behind the call that it failed, if it failed one
+abbrev pub count_failed : {D : Type 0} → LoggedView D → Option ℕ
+count_failed v = option_map (λ f. f.faults) v.failed
+
+-- which answers were given: that the disk failed, with its count of faults then, that the history is full, that the log is full
 abbrev pub marks_of : {D : Type 0} → LoggedView D → Marks
-marks_of v = (is_some v.failed, v.journal.marks.trace, v.log_full)
+marks_of v = (count_failed v, v.journal.marks.trace, v.log_full)
 
 -- ---- what the origin and the notes determine
 

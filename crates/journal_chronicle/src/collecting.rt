@@ -7,8 +7,7 @@ ghost use Rattle.core_store.specs.Logged.{want_of};
 ghost use Rattle.core_store.specs.RoundView.{Closed, asked, left_of};
 ghost use Rattle.core_store.specs.Steppings.{IsReadyForCollector, OnlyLooks};
 ghost use Rattle.logged_journal.specs.Calls.{KeepsFrames, KeepsDisk, GoesOn, IsPastLogToCollect, DoesCollect};
-ghost use Rattle.latch_table.specs.Views.{no_marks};
-ghost use Rattle.journal_chronicle.specs.Steps.{entered_by_collect_step, marked_by_collect_step, no_page, GoesOnWith};
+ghost use Rattle.journal_chronicle.specs.Steps.{entered_by_collect_step, marked_by_collect_step, no_mark, no_page, GoesOnWith};
 
 use crate::chronicle::{JournalChronicle, count_notes};
 use core_store::{Collect, RoundAt, Three, Want};
@@ -24,7 +23,7 @@ impl<const SLOTS: usize, D: Disk> JournalChronicle<SLOTS, D> {
         requires agree { Agree (cells_of self.old.journal) held.now }
 
         // The chronicle shows what it showed.
-        ensures chronicle { GoesOnWith SLOTS no_page self.old self.new None no_marks }
+        ensures chronicle { GoesOnWith SLOTS no_page self.old self.new None no_mark }
         ensures exact { result ≡ want_of (pages_for_collector self.new.journal) (pages_held held.now) }
         ensures ready { result ≡ Want.Ready → IsReadyForCollector self.new.journal held.now }
         ensures next { (page : ℕ) → result ≡ Want.Page page → IsNext self.new.journal.history.ids held.now page }
@@ -44,7 +43,7 @@ impl<const SLOTS: usize, D: Disk> JournalChronicle<SLOTS, D> {
         requires all { HoldsAll self.old.journal.history.ids held.now }
 
         // The chronicle shows what it showed.
-        ensures chronicle { GoesOnWith SLOTS no_page self.old self.new None no_marks }
+        ensures chronicle { GoesOnWith SLOTS no_page self.old self.new None no_mark }
         ensures ready { IsReadyForCollector self.new.journal held.now }
         ensures looks { OnlyLooks SLOTS self.old.journal self.new.journal }
         ensures none { (result ≡ None) ↔ (is_past_limit self.new.journal 1 ≡ true) ⊎ ((self.new.journal.queue ≡ []) × (self.new.journal.round ≡ Closed)) }

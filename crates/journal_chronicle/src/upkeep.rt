@@ -152,6 +152,7 @@ impl<const SLOTS: usize, D: Disk> JournalChronicle<SLOTS, D> {
 
         // The images that joined the log before that are those of the changed pages without a current one, ascending, each once.
         ensures old_log { result ≡ Upkeep.Done → ForcesImages D.content frames.now self.old self.new }
+
         ensures fault { result ≡ Upkeep.DiskFault → FailsUpkeep D.faults self.old self.new }
         ensures later { D.faults self.old.disk ≤ D.faults self.new.disk }
         ensures count { result ≢ Upkeep.DiskFault → D.faults self.new.disk ≡ D.faults self.old.disk }

@@ -7,7 +7,7 @@ use Rattle.latch_table.specs.Views.{KeepMarks}
 use Rattle.latch_table.specs.Rule.{AreStories}
 
 within : (l m n : Marks) → KeepMarks l m → KeepMarks m n → KeepMarks l n
-within l m n p q = ((λ e. q.0 (p.0 e)), (λ e. q.1 (p.1 e)), (λ e. q.2 (p.2 e)))
+within l m n p q = ((λ k e. q.0 k (p.0 k e)), (λ e. q.1 (p.1 e)), (λ e. q.2 (p.2 e)))
 
 module _ {E : Type 0} where
   -- with more marks

@@ -1,8 +1,9 @@
 -- What a table is told of a chronicle.
 use Rattle.std.specs.Prelude.{ℕ, List, Bool, Option}
 
+-- a number or none, and two truth values
 abbrev pub Marks : Type 0
-Marks = Bool × Bool × Bool
+Marks = Option ℕ × Bool × Bool
 
 -- Of a chronicle of type J, with entries of type E, a fixed part of type X and pages whose frames are of type F
 pub record Account (E X F J : Type 0) : Type 0 where
@@ -10,7 +11,7 @@ pub record Account (E X F J : Type 0) : Type 0 where
   pub entries : J → List E
   -- what no append changes
   pub fixed : J → X
-  -- three marks: one that was set stays set
+  -- three marks: one that was set stays set, and the number of the first stays
   pub marks : J → Marks
   -- the frame of a page after these entries
   pub frame : X → List E → ℕ → F

@@ -20,7 +20,7 @@ impl Chronicle<u64> for Pairs {
 
     type Fixed = ();
 
-    ghost account = { record { entries = λ c. c.pairs.items; fixed = λ _. tt; marks = λ _. (false, false, false); frame = λ _ es p. fold (λ old e. if e.0 == p then e.1 else old) 0 es; speaks = λ _. None; truth = λ _ _. false } };
+    ghost account = { record { entries = λ c. c.pairs.items; fixed = λ _. tt; marks = λ _. no_marks; frame = λ _ es p. fold (λ old e. if e.0 == p then e.1 else old) 0 es; speaks = λ _. None; truth = λ _ _. false } };
 
     fn len(&self) -> u64 {
         self.pairs.len() as u64

@@ -1,6 +1,6 @@
 -- What a hold may give back behind its work on the journal.
-use Rattle.std.proofs.Common.{◌≡◌, ◌⊎◌, ℕ, ◌+◌, ◌*◌, Bool, true, false, List, [], ◌∷◌, Option, Some, None, refl, sym, ap, ◌∙◌, subst, arith}
-use Rattle.std.specs.Prelude.{◌↔◌, ◌<◌, is_some, ◌==◌, if◌then◌else◌, IfSome, IsSome}
+use Rattle.std.proofs.Common.{◌≡◌, ◌⊎◌, ℕ, ◌+◌, ◌*◌, Bool, true, false, List, [], ◌∷◌, Option, Some, None, refl, sym, ap, ◌∙◌, subst, inr, arith}
+use Rattle.std.specs.Prelude.{◌↔◌, ◌<◌, ◌==◌, if◌then◌else◌, IfSome, IsSome}
 use Rattle.std.specs.List.{AllByRecursion}
 use Rattle.plain_model.specs.declared.calls.Entry.{Entry}
 use Rattle.core_store.specs.declared.frame.Frame.{Frame}
@@ -11,15 +11,15 @@ use Rattle.framed_journal.specs.Holding.{AreHeldOf}
 use Rattle.logged_journal.specs.View.{LoggedView}
 use Rattle.logged_journal.specs.Calls.{KeepsFrames}
 use Rattle.latch_table.specs.declared.view.Station.{Station}
-use Rattle.latch_table.specs.Account.{Marks}
-use Rattle.latch_table.specs.Views.{frame_of, story, log_claimed, no_marks, with_claims}
+use Rattle.latch_table.specs.Views.{frame_of, story, log_claimed, with_claims}
 use Rattle.latch_table.specs.Holds.{HoldView, IsAnother}
 use Rattle.latch_table.specs.Rule.{IsInHand, IsLater}
 use Rattle.latch_table.specs.Steps.{IsNext}
 use Rattle.latch_table.proofs.Frames.{some_is}
 use Rattle.core_store.specs.declared.note.Note.{Note}
 use Rattle.journal_chronicle.specs.Clients.{speaker_of}
-use Rattle.journal_chronicle.specs.Steps.{GoesOnWith, disk_mark}
+use Rattle.journal_chronicle.specs.Steps.{Flags, GoesOnWith, no_mark, disk_mark}
+use Rattle.logged_journal.specs.declared.failed.FailedCall.{FailedCall}
 use Rattle.journal_chronicle.specs.View.{Origin, account, origin_of, notes_of, marks_of}
 use Rattle.journal_chronicle.proofs.Goings.{marks-same, marks-disk, stays-goes_on, stays-same}
 use Rattle.journal_chronicle.proofs.Tables.{in-hand, is-next}
@@ -73,7 +73,7 @@ hand-met slots v (Some f) cs ps j h = record { fixed = h.fixed; log = h.log }
 
 -- ---- the journal behind the work
 
-module _ {D : Type 0} (slots pages : ℕ) (v w : Known slots) (j k : LoggedView D) (held : List (HeldFrame slots)) (marked : Marks) (found : Option (ℕ × ℕ)) (has : HasJournal slots pages v j) where
+module _ {D : Type 0} (slots pages : ℕ) (v w : Known slots) (j k : LoggedView D) (held : List (HeldFrame slots)) (marked : Flags) (found : Option (ℕ × ℕ)) (has : HasJournal slots pages v j) where
   act-hand : (entered : Option Entry) → Acts slots v w j k held entered marked found → IsInHand (account D slots) w j
   act-hand entered a = subst (λ (z : Known slots). IsInHand (account D slots) z j) (sym a.view.1) (hand-met slots v found a.view.0 (pairs_of a.first) j has.in_hand)
 
@@ -106,27 +106,27 @@ module _ {D : Type 0} (slots pages : ℕ) (v w : Known slots) (j k : LoggedView 
     rest = λ f. act-rest entered a (λ s. absurd (let t = iff.1 s in cc));
   }
 
-pub acts-seen : {D : Type 0} (slots : ℕ) (v w : Known slots) (j k : LoggedView D) (held : List (HeldFrame slots)) (entered : Option Entry) (marked : Marks) (found : Option (ℕ × ℕ)) → Acts slots v w j k held entered marked found → w.knowledge.seen ≡ v.knowledge.seen
+pub acts-seen : {D : Type 0} (slots : ℕ) (v w : Known slots) (j k : LoggedView D) (held : List (HeldFrame slots)) (entered : Option Entry) (marked : Flags) (found : Option (ℕ × ℕ)) → Acts slots v w j k held entered marked found → w.knowledge.seen ≡ v.knowledge.seen
 acts-seen slots v w j k held entered marked found a = ap (λ (z : Known slots). z.knowledge.seen) a.view.1 ∙ seen-met (with_pages (with_claims v a.view.0) (pairs_of a.first)) found
 
 -- ---- how the work may end
 
 -- the disk failed a call before
-pub acts-stopped : {D : Type 0} (slots : ℕ) (v : Known slots) (j : LoggedView D) (held : List (HeldFrame slots)) → v.hands.pages ≡ [] → v.hands.moving ≡ None → held ≡ [] → is_some j.failed ≡ true → Acts slots v v j j held None disk_mark None
-acts-stopped slots v j held none idle empty failed = record {
+pub acts-stopped : {D : Type 0} (slots : ℕ) (v : Known slots) (j : LoggedView D) (held : List (HeldFrame slots)) → v.hands.pages ≡ [] → v.hands.moving ≡ None → held ≡ [] → (f : FailedCall) → j.failed ≡ Some f → Acts slots v v j j held None disk_mark None
+acts-stopped slots v j held none idle empty f failed = record {
   first = [];
   view = with_none v none idle;
   another = tt;
   pages = ap pages_held empty;
   once = subst AreOnce (sym empty) tt;
   frames = subst (AreHeldOf j.journal) (sym empty) (record { agree = tt; within = tt });
-  goes_on = (let no_frames : List (HeldFrame slots) = [] in stays-goes_on slots j j (is_held no_frames) disk_mark (stays-same j j refl) (marks-disk j j failed refl refl));
+  goes_on = (let no_frames : List (HeldFrame slots) = [] in stays-goes_on slots j j (is_held no_frames) disk_mark (stays-same j j refl) (marks-disk j j f failed (inr refl) refl refl));
   rest = λ e. empty;
 }
 
 -- another hold had a word
 pub acts-found : {D : Type 0} (slots : ℕ) (v w : Known slots) (j : LoggedView D) (held : List (HeldFrame slots)) (word seat : ℕ) → Takes v w (pairs_of held) (Some (word, seat)) → IsAnother v seat → AreOnce held → AreHeldOf j.journal held
-    → Acts slots v w j j held None no_marks (Some (word, seat))
+    → Acts slots v w j j held None no_mark (Some (word, seat))
 acts-found slots v w j held word seat is other once frames = record {
   first = held;
   view = is;
@@ -134,12 +134,12 @@ acts-found slots v w j held word seat is other once frames = record {
   pages = refl;
   once = once;
   frames = frames;
-  goes_on = stays-goes_on slots j j (is_held held) no_marks (stays-same j j refl) (marks-same j j refl refl refl);
+  goes_on = stays-goes_on slots j j (is_held held) no_mark (stays-same j j refl) (marks-same j j refl refl refl);
   rest = λ e. refl;
 }
 
 -- the journal went on
-pub acts-on : {D : Type 0} (slots : ℕ) (v w : Known slots) (j k : LoggedView D) (held new : List (HeldFrame slots)) (entered : Option Entry) (marked : Marks) (found : Option (ℕ × ℕ)) → Takes v w (pairs_of held) None → found ≡ None → AreOnce held → AreHeldOf j.journal held
+pub acts-on : {D : Type 0} (slots : ℕ) (v w : Known slots) (j k : LoggedView D) (held new : List (HeldFrame slots)) (entered : Option Entry) (marked : Flags) (found : Option (ℕ × ℕ)) → Takes v w (pairs_of held) None → found ≡ None → AreOnce held → AreHeldOf j.journal held
     → KeepsFrames j.journal k.journal held new → GoesOnWith slots (is_held held) j k entered marked → (entered ≡ None → new ≡ held) → Acts slots v w j k new entered marked found
 acts-on slots v w j k held new entered marked found is none once frames keeps goes rest = record {
   first = held;
@@ -166,6 +166,6 @@ has-journal {D} {slots} h main number txn seen refused left pages v j p sized la
     let many = of.2 in
     subst (λ (z : Known slots). HasJournal slots pages z j) (sym claim) (record {
       ids = omega (arith, ids, many, sized);
-      in_hand = record { fixed = later.fixed; log = (story (notes_of j) (marks_of j), refl, refl, (λ e. e, λ e. e, λ e. e)) };
+      in_hand = record { fixed = later.fixed; log = (story (notes_of j) (marks_of j), refl, refl, (λ n e. e, λ e. e, λ e. e)) };
       idle = refl;
     })

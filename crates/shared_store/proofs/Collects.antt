@@ -1,37 +1,47 @@
 -- Answers of steps of the collector: what they enter, name and count, and what the looks before a step come to.
-use Rattle.std.proofs.Common.{◌≡◌, ◌⊎◌, ℕ, Bool, true, false, List, Option, Some, None, Result, Ok, Err, refl, sym, ap, ◌∙◌, subst, inl}
+use Rattle.std.proofs.Common.{◌≡◌, ◌≢◌, ◌⊎◌, ℕ, Bool, true, false, List, [], ◌∷◌, ◌++◌, length, Option, Some, None, Result, Ok, Err, refl, sym, ap, ◌∙◌, subst, inl, arith}
 use Rattle.std.specs.Prelude.{is_some, IfOk, IfSome, IsErrOf}
 use Rattle.plain_model.specs.declared.calls.Entry.{Entry}
 use Rattle.plain_model.specs.declared.calls.Entry.TheVariants.{Hidden, Delete}
+use Rattle.std.proofs.lemmas.List.{length-append}
 use Rattle.plain_model.specs.History.{IsLegal}
+use Rattle.store_model.specs.Core.{Core, Round}
+use Rattle.log_record.specs.declared.cell_record.CellRecord.{CellRecord}
+use Rattle.core_store.specs.declared.act.Act.{Act}
+use Rattle.core_store.specs.declared.act.Act.TheVariants.{Other}
+use Rattle.core_store.specs.declared.note.Note.{Note}
+use Rattle.core_store.specs.Collects.{entry_of, Collects as CollectsCore}
 use Rattle.core_store.specs.declared.collect.Collect.{Collect}
 use Rattle.core_store.specs.declared.collect.Collect.TheVariants.{Idle, Did, Deleted, TraceFull, Memory}
 use Rattle.core_store.specs.declared.three.HeldFrame.{HeldFrame}
 use Rattle.core_store.specs.Frames.{AreOnce, is_held}
-use Rattle.core_store.specs.JournalView.{cells_of}
+use Rattle.core_store.specs.JournalView.{JournalView, cells_of, core_of, with_note}
 use Rattle.core_store.specs.Limited.{is_past_limit}
-use Rattle.core_store.specs.RoundView.{asked, is_event}
+use Rattle.core_store.specs.RoundView.{asked, is_event, left_of}
 use Rattle.core_store.specs.Steppings.{OnlyLooks}
 use Rattle.framed_journal.specs.Holding.{AreHeldOf}
+use Rattle.framed_journal.specs.Steps.{MakesNextEvent}
 use Rattle.framed_journal.proofs.CollectLaws.{collects-all, collects-next, fills-log, all_go_on-before, disk-before}
 use Rattle.logged_journal.specs.Calls.{KeepsDisk, GoesOn, IsPastLogToCollect, DoesCollect}
 use Rattle.logged_journal.specs.declared.collect.CollectRefusal.{CollectRefusal as Refusal}
 use Rattle.logged_journal.specs.declared.collect.CollectRefusal.TheVariants as refusal
 use Rattle.logged_journal.specs.declared.failed.FailedCall.{FailedCall}
-use Rattle.logged_journal.specs.View.{LoggedView, history_of}
+use Rattle.logged_journal.specs.View.{LoggedView, failed_commit, history_of}
 use Rattle.latch_table.specs.Account.{Marks}
-use Rattle.latch_table.specs.Views.{joined_marks, no_marks}
+use Rattle.latch_table.specs.Views.{joined_marks}
 use Rattle.latch_table.specs.Holds.{IsAnother}
 use Rattle.journal_chronicle.specs.Clients.{speaker_of}
-use Rattle.journal_chronicle.specs.Steps.{GoesOnWith, no_page}
+use Rattle.journal_chronicle.specs.View.{notes_of}
+use Rattle.journal_chronicle.proofs.Notes.{no-commit, notes-running}
+use Rattle.journal_chronicle.specs.Steps.{Flags, GoesOnWith, no_mark, no_page, marks_with}
 use Rattle.shared_store.specs.declared.answers.CollectRefusal.{CollectRefusal}
 use Rattle.shared_store.specs.declared.answers.CollectRefusal.TheVariants.{Again, Stopped, LogFull}
 use Rattle.shared_store.specs.declared.refused.Refused.{Refused}
 use Rattle.shared_store.specs.Passes.{Known, AreMarked}
 use Rattle.shared_store.specs.Acts.{Acts, Takes}
-use Rattle.shared_store.specs.Calls.{GoesOnAs, DoesCollectOn, WasNoted, entered_by_collecting, marked_by_collecting, refused_by_collecting}
+use Rattle.shared_store.specs.Calls.{GoesOnAs, DoesCollectOn, KeepsNoted, WasNoted, entered_by_collecting, found_by_collecting, marked_by_collecting, refused_by_collecting}
 use Rattle.shared_store.specs.Holding.{pairs_of}
-use Rattle.shared_store.proofs.Goings.{marked-joined, truth-some}
+use Rattle.shared_store.proofs.Goings.{marked-joined, same-last, truth-some}
 use Rattle.shared_store.proofs.Looks.{goes-behind}
 use Rattle.shared_store.proofs.Replies.{marked-disk, marked-trace, marked-log}
 
@@ -53,15 +63,15 @@ txn-collect v z (Ok Idle) found had was g = let k = g.entries in was ∙ sym k.h
 txn-collect v z (Ok Memory) found had was g = let k = g.entries in was ∙ sym k.has
 txn-collect v z (Err refusal) found had was g = let k = g.entries in was ∙ sym k.has
 
-pub marked-collect : (x : Refused) (a m : Marks) → AreMarked x a → (r : Result Collect CollectRefusal) → AreMarked (refused_by_collecting r x) (joined_marks a (joined_marks m (marked_by_collecting r)))
-marked-collect x a m h (Ok (Did popped left)) = marked-joined x a (joined_marks m (marked_by_collecting (Ok (Did popped left)))) h
-marked-collect x a m h (Ok (Deleted id left)) = marked-joined x a (joined_marks m (marked_by_collecting (Ok (Deleted id left)))) h
-marked-collect x a m h (Ok TraceFull) = marked-trace x a m h (refused_by_collecting (Ok TraceFull) x).trace
-marked-collect x a m h (Ok Idle) = marked-joined x a (joined_marks m (marked_by_collecting (Ok Idle))) h
-marked-collect x a m h (Ok Memory) = marked-joined x a (joined_marks m (marked_by_collecting (Ok Memory))) h
-marked-collect x a m h (Err (Stopped faults)) = marked-disk x a m h (refused_by_collecting (Err (Stopped faults)) x).disk
-marked-collect x a m h (Err LogFull) = marked-log x a m h (refused_by_collecting (Err LogFull) x).log
-marked-collect x a m h (Err (Again word seat)) = marked-joined x a (joined_marks m (marked_by_collecting (Err (Again word seat)))) h
+pub marked-collect : (x : Refused) (n : ℕ) (a m : Marks) → AreMarked x a → (r : Result Collect CollectRefusal) → AreMarked (refused_by_collecting r x) (joined_marks a (joined_marks m (marks_with (marked_by_collecting r) n)))
+marked-collect x n a m h (Ok (Did popped left)) = marked-joined x a (joined_marks m (marks_with (marked_by_collecting (Ok (Did popped left))) n)) h
+marked-collect x n a m h (Ok (Deleted id left)) = marked-joined x a (joined_marks m (marks_with (marked_by_collecting (Ok (Deleted id left))) n)) h
+marked-collect x n a m h (Ok TraceFull) = marked-trace x n a m h (refused_by_collecting (Ok TraceFull) x).trace
+marked-collect x n a m h (Ok Idle) = marked-joined x a (joined_marks m (marks_with (marked_by_collecting (Ok Idle)) n)) h
+marked-collect x n a m h (Ok Memory) = marked-joined x a (joined_marks m (marks_with (marked_by_collecting (Ok Memory)) n)) h
+marked-collect x n a m h (Err (Stopped faults)) = marked-disk x n a m h (refused_by_collecting (Err (Stopped faults)) x).disk
+marked-collect x n a m h (Err LogFull) = marked-log x n a m h (refused_by_collecting (Err LogFull) x).log
+marked-collect x n a m h (Err (Again word seat)) = marked-joined x a (joined_marks m (marks_with (marked_by_collecting (Err (Again word seat))) n)) h
 
 -- the disk had failed a call
 pub collect-stopped : {D : Type 0} (slots : ℕ) (j : LoggedView D) (f : FailedCall) → j.failed ≡ Some f → IsLegal (history_of j) → WasNoted slots j → DoesCollectOn slots j j (Err (Stopped f.faults))
@@ -81,7 +91,7 @@ collect-stopped {D} slots j f failed legal noted = record {
 
 -- another hold had a word, when the collector had looked on
 pub acts-looked_found : {D : Type 0} (slots : ℕ) (v w : Known slots) (j k : LoggedView D) (held : List (HeldFrame slots)) (word seat : ℕ) → Takes v w (pairs_of held) (Some (word, seat)) → IsAnother v seat → AreOnce held → AreHeldOf k.journal held
-    → GoesOnWith slots no_page j k None no_marks → Acts slots v w j k held None no_marks (Some (word, seat))
+    → GoesOnWith slots no_page j k None no_mark → Acts slots v w j k held None no_mark (Some (word, seat))
 acts-looked_found slots v w j k held word seat is other once frames look = record {
   first = held;
   view = is;
@@ -94,7 +104,7 @@ acts-looked_found slots v w j k held word seat is other once frames look = recor
 }
 
 -- and went on from what it had come to
-pub acts-behind : {D : Type 0} (slots : ℕ) (v w : Known slots) (i j k : LoggedView D) (held : List (HeldFrame slots)) (entered : Option Entry) (marked : Marks) (found : Option (ℕ × ℕ)) → GoesOnWith slots no_page i j None no_marks
+pub acts-behind : {D : Type 0} (slots : ℕ) (v w : Known slots) (i j k : LoggedView D) (held : List (HeldFrame slots)) (entered : Option Entry) (marked : Flags) (found : Option (ℕ × ℕ)) → GoesOnWith slots no_page i j None no_mark
     → Acts slots v w j k held entered marked found → Acts slots v w i k held entered marked found
 acts-behind slots v w i j k held entered marked found look a = record {
   first = a.first;
@@ -144,3 +154,50 @@ module _ {D : Type 0} (slots : ℕ) (i j k : LoggedView D) (running : i.failed �
     goes_on = tt;
     untouched = disk-before i j k same kept;
   }
+
+-- ---- the note of an event
+
+-- no event of the collector has this act
+no-other : (slots : ℕ) (c : Core) (logged : Option CellRecord) (queue : List ℕ) (round : Option Round) → CollectsCore slots c Other logged queue round → ⊥
+no-other slots c None queue round h = h
+no-other slots c (Some r) queue round h = h
+
+-- nothing is kept besides
+pub keeps-more : {A : Type 0} (xs ys : List A) (x : A) → ys ≡ xs → ys ≡ xs ++ x ∷ [] → ⊥
+keeps-more xs ys x same more = let long = ap length (sym same ∙ more) ∙ length-append xs (x ∷ []) in absurd (omega (arith, long))
+
+module _ {D : Type 0} (slots : ℕ) (u v : Known slots) (j k : LoggedView D) (x : ℕ × Note) (more : v.knowledge.entries ≡ u.knowledge.entries ++ x ∷ []) where
+  event-noted : (step : Collect) → DoesCollectOn slots j k (Ok step) → GoesOn j k → MakesNextEvent slots j.journal k.journal step → (note : Note) → notes_of k ≡ notes_of j ++ note ∷ [] → note.act ≢ Other
+  event-noted step d goes made note noted other =
+      let before : failed_commit j ≡ None = not-failed j step d.stopped in
+      let m = made.event in
+      let notes : notes_of k ≡ notes_of j ++ record { entry = entry_of m.logged; logged = m.logged; left = left_of slots k.journal.round; act = m.event } ∷ [] =
+      notes-running k (no-commit k goes.running) ∙ (m.noted ∙ ap (λ (ns : List Note). with_note ns (entry_of m.logged) m.logged (left_of slots k.journal.round) m.event) (ap (λ (i : JournalView). i.notes) made.looks.same ∙ sym (notes-running j before))) in
+      let same : note ≡ record { entry = entry_of m.logged; logged = m.logged; left = left_of slots k.journal.round; act = m.event } = same-last (notes_of j) note _ (sym noted ∙ notes) in
+      let is : m.event ≡ Other = sym (ap (λ (n : Note). n.act) same) ∙ other in
+      no-other slots (core_of made.looked) m.logged k.journal.queue (core_of k.journal).round (subst (λ (a : Act). CollectsCore slots (core_of made.looked) a m.logged k.journal.queue (core_of k.journal).round) is m.collects)
+    where
+      not-failed : (w : LoggedView D) (s : Collect) → IfSome w.failed (λ f. (◌≡◌ {A = Result Collect CollectRefusal} (Ok s) (Err (Stopped f.faults))) × (k ≡ w)) → failed_commit w ≡ None
+      not-failed w s h = by w.failed refl h
+        where
+          by : (o : Option FailedCall) → w.failed ≡ o → IfSome o (λ f. (◌≡◌ {A = Result Collect CollectRefusal} (Ok s) (Err (Stopped f.faults))) × (k ≡ w)) → failed_commit w ≡ None
+          by None e h = no-commit w e
+          by (Some f) e h = absurd (let clash = h.0 in cc)
+
+  of-kept : (entry : Entry) → KeepsNoted u v j k (Some entry) → (note : Note) × (notes_of k ≡ notes_of j ++ note ∷ []) × (x.1 ≡ note)
+  of-kept entry kept = (kept.0, kept.1, ap (λ (y : ℕ × Note). y.1) (same-last u.knowledge.entries x (length (notes_of j), kept.0) (sym more ∙ kept.2)))
+
+  -- what the pass keeps is of an event
+  pub collect-act : (r : Result Collect CollectRefusal) (found : Option (ℕ × ℕ)) → GoesOnAs u v (entered_by_collecting r) found → KeepsNoted u v j k (entered_by_collecting r) → (found_by_collecting r ≡ None → DoesCollectOn slots j k r) → x.1.act ≢ Other
+  collect-act (Ok (Did popped left)) found g kept made other =
+      let d = made refl in
+      let n = of-kept Hidden kept in
+      event-noted (Did popped left) d d.goes_on (d.does.event tt) n.0 n.1 (ap (λ (y : Note). y.act) (sym n.2) ∙ other)
+  collect-act (Ok (Deleted id left)) found g kept made other =
+      let d = made refl in
+      let n = of-kept (Delete id) kept in
+      event-noted (Deleted id left) d d.goes_on (d.does.event tt) n.0 n.1 (ap (λ (y : Note). y.act) (sym n.2) ∙ other)
+  collect-act (Ok TraceFull) found g kept made other = keeps-more u.knowledge.entries v.knowledge.entries x g.entries.kept more
+  collect-act (Ok Idle) found g kept made other = keeps-more u.knowledge.entries v.knowledge.entries x g.entries.kept more
+  collect-act (Ok Memory) found g kept made other = keeps-more u.knowledge.entries v.knowledge.entries x g.entries.kept more
+  collect-act (Err refusal) found g kept made other = keeps-more u.knowledge.entries v.knowledge.entries x g.entries.kept more

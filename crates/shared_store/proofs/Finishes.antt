@@ -43,7 +43,7 @@ is-told {D} slots pages w w' k held true d told same are =
     subst (λ (v : Known slots). IsTold slots v k held) (sym t.2) (record {
       pages = ap (reframed g) d.hands ∙ onto-told g [] [] d.first held d.same are refl;
       idle = d.idle;
-      in_hand = record { fixed = next.fixed; log = (story (log_of w ++ t.0 ∷ []) (marks_of k), refl, sym t.1, (λ e. e, λ e. e, λ e. e)) };
+      in_hand = record { fixed = next.fixed; log = (story (log_of w ++ t.0 ∷ []) (marks_of k), refl, sym t.1, (λ n e. e, λ e. e, λ e. e)) };
     })
 is-told {D} slots pages w w' k held false d told same are =
     let r = d.rest refl in

@@ -1,6 +1,7 @@
 -- What a pass knows behind a call.
 use Rattle.std.proofs.Common.{◌≡◌, ℕ, ◌*◌, Bool, true, false, List, [], ◌∷◌, ◌++◌, map, Option, Some, None, refl, sym, ap, ◌∙◌, subst}
 use Rattle.std.specs.Prelude.{◌↔◌, ◌||◌, IfSome, IsSome, fold}
+use Rattle.std.specs.Option.{option_or}
 use Rattle.std.proofs.lemmas.List.{map-append}
 use Rattle.std.proofs.lemmas.List.Sums.{fold-append}
 use Rattle.atomic_table.specs.Seated.{TableId}
@@ -16,11 +17,12 @@ use Rattle.latch_table.specs.Holds.{HoldView, HasNone, IsAnother}
 use Rattle.latch_table.specs.Rule.{IsLater}
 use Rattle.latch_table.specs.Steps.{told_of}
 use Rattle.journal_chronicle.specs.Clients.{has_after}
+use Rattle.journal_chronicle.specs.Steps.{Flags}
 use Rattle.journal_chronicle.specs.View.{Origin, account, notes_of, marks_of, has_transaction}
 use Rattle.shared_store.specs.declared.refused.Refused.{Refused}
 use Rattle.shared_store.specs.Passes.{Known, IsPass, AreMarked}
 use Rattle.shared_store.specs.Acts.{met_if, Acts}
-use Rattle.shared_store.specs.Calls.{GoesOnAs, Keeps}
+use Rattle.shared_store.specs.Calls.{GoesOnAs, Keeps, KeepsNoted}
 use Rattle.shared_store.specs.Holding.{pairs_of, with_pages}
 
 pub or-left : (a b : Bool) → a ≡ true → (a || b) ≡ true
@@ -31,15 +33,23 @@ pub or-right : (a b : Bool) → b ≡ true → (a || b) ≡ true
 or-right true b e = refl
 or-right false b e = e
 
+or-first : (a b : Option ℕ) (n : ℕ) → a ≡ Some n → option_or a b ≡ Some n
+or-first (Some k) b n e = e
+or-first None b n e = absurd (cc)
+
+pub some-left : (a b : Option ℕ) → IsSome a → IsSome (option_or a b)
+some-left (Some k) b s = refl
+some-left None b s = absurd (cc)
+
 pub within-joined : (a m : Marks) → KeepMarks a (joined_marks a m)
-within-joined a m = (λ e. or-left a.0 m.0 e, λ e. or-left a.1 m.1 e, λ e. or-left a.2 m.2 e)
+within-joined a m = (λ n e. or-first a.0 m.0 n e, λ e. or-left a.1 m.1 e, λ e. or-left a.2 m.2 e)
 
 -- counts that are marked stay so with marks more
 pub marked-joined : (r : Refused) (a m : Marks) → AreMarked r a → AreMarked r (joined_marks a m)
-marked-joined r a m h = record { disk = λ p. or-left a.0 m.0 (h.disk p); trace = λ p. or-left a.1 m.1 (h.trace p); log = λ p. or-left a.2 m.2 (h.log p) }
+marked-joined r a m h = record { disk = λ p. some-left a.0 m.0 (h.disk p); trace = λ p. or-left a.1 m.1 (h.trace p); log = λ p. or-left a.2 m.2 (h.log p) }
 
 -- the last of two lists that begin alike
-same-last : {A : Type 0} (xs : List A) (a b : A) → xs ++ a ∷ [] ≡ xs ++ b ∷ [] → a ≡ b
+pub same-last : {A : Type 0} (xs : List A) (a b : A) → xs ++ a ∷ [] ≡ xs ++ b ∷ [] → a ≡ b
 same-last [] a b e = cc
 same-last (x ∷ xs) a b e = same-last xs a b (let r : xs ++ a ∷ [] ≡ xs ++ b ∷ [] = cc in r)
 
@@ -49,18 +59,22 @@ pub record Comes {D : Type 0} {slots : ℕ} (v z : Known slots) (j k : LoggedVie
   pub marks : z.knowledge.marks ≡ joined_marks v.knowledge.marks (marks_of k)
   -- the journal as it was found
   pub stories : z.knowledge.stories ≡ v.knowledge.stories ++ story (notes_of j) (marks_of j) ∷ []
+  -- and what it noted
+  pub noted : KeepsNoted v z j k entered
 
 module _ {D : Type 0} (slots : ℕ) (v z : Known slots) (j k : LoggedView D) (cs : List (Option ℕ × ℕ)) (ps : List (ℕ × Frame slots)) where
-  none-entered : (found : Option (ℕ × ℕ)) → z ≡ log_dropped (with_pages (met_if (with_pages (with_claims (log_claimed v (notes_of j) (marks_of j)) cs) ps) found) []) (marks_of k) → IfSome found (λ f. IsAnother v f.1) → Comes v z j k None found
-  none-entered None e other = subst (λ (u : Known slots). Comes v u j k None None) (sym e) (record {
+  none-entered : (found : Option (ℕ × ℕ)) → notes_of k ≡ notes_of j → z ≡ log_dropped (with_pages (met_if (with_pages (with_claims (log_claimed v (notes_of j) (marks_of j)) cs) ps) found) []) (marks_of k) → IfSome found (λ f. IsAnother v f.1) → Comes v z j k None found
+  none-entered None still e other = subst (λ (u : Known slots). Comes v u j k None None) (sym e) (record {
     goes = record { station = refl; none = (refl, refl); fixed = refl; peeks = refl; marks = within-joined v.knowledge.marks (marks_of k); entries = record { kept = refl; seen = refl; has = refl }; meets = refl };
     marks = refl;
     stories = refl;
+    noted = still;
   })
-  none-entered (Some f) e other = subst (λ (u : Known slots). Comes v u j k None (Some f)) (sym e) (record {
+  none-entered (Some f) still e other = subst (λ (u : Known slots). Comes v u j k None (Some f)) (sym e) (record {
     goes = record { station = refl; none = (refl, refl); fixed = refl; peeks = refl; marks = within-joined v.knowledge.marks (marks_of k); entries = record { kept = refl; seen = refl; has = refl }; meets = (refl, other) };
     marks = refl;
     stories = refl;
+    noted = still;
   })
 
   some-entered : (found : Option (ℕ × ℕ)) (note : Note) (entry : Entry) → note.entry ≡ entry → notes_of k ≡ notes_of j ++ note ∷ [] → IsLater (account D slots) v j
@@ -77,6 +91,7 @@ module _ {D : Type 0} (slots : ℕ) (v z : Known slots) (j k : LoggedView D) (cs
     };
     marks = refl;
     stories = refl;
+    noted = (note, more, refl);
   })
   some-entered (Some f) note entry of more later e other = subst (λ (u : Known slots). Comes v u j k (Some entry) (Some f)) (sym e) (record {
     goes = record {
@@ -90,6 +105,7 @@ module _ {D : Type 0} (slots : ℕ) (v z : Known slots) (j k : LoggedView D) (cs
     };
     marks = refl;
     stories = refl;
+    noted = (note, more, refl);
   })
 
 log-met : {slots : ℕ} (v : Known slots) (ns : List Note) (m : Marks) (cs : List (Option ℕ × ℕ)) (ps : List (ℕ × Frame slots)) (found : Option (ℕ × ℕ)) → log_of (met_if (with_pages (with_claims (log_claimed v ns m) cs) ps) found) ≡ ns
@@ -101,7 +117,7 @@ is-false true n = absurd (n refl)
 is-false false n = refl
 
 -- the pass knows what the journal and its answer tell
-pub comes : {D : Type 0} (slots : ℕ) (v v1 w z : Known slots) (j k : LoggedView D) (held : List (HeldFrame slots)) (entered : Option Entry) (marked : Marks) (found : Option (ℕ × ℕ)) (b : Bool)
+pub comes : {D : Type 0} (slots : ℕ) (v v1 w z : Known slots) (j k : LoggedView D) (held : List (HeldFrame slots)) (entered : Option Entry) (marked : Flags) (found : Option (ℕ × ℕ)) (b : Bool)
     → v1 ≡ log_claimed v (notes_of j) (marks_of j) → IsLater (account D slots) v j → Acts slots v1 w j k held entered marked found → ((b ≡ true) ↔ IsSome entered)
     → (b ≡ true → (note : Note) × (notes_of k ≡ log_of w ++ note ∷ []) × (z ≡ log_dropped (with_pages (told_of (account D slots) w k note) []) (marks_of k)))
     → (b ≡ false → z ≡ log_dropped (with_pages w []) (marks_of k)) → Comes v z j k entered found
@@ -109,7 +125,7 @@ comes {D} slots v v1 w z j k held None marked found b claim later a iff told sam
     let cs : List (Option ℕ × ℕ) = a.view.0 in
     let ps = pairs_of a.first in
     let is : w ≡ met_if (with_pages (with_claims (log_claimed v (notes_of j) (marks_of j)) cs) ps) found = a.view.1 ∙ ap (λ (u : Known slots). met_if (with_pages (with_claims u cs) ps) found) claim in
-    none-entered slots v z j k cs ps found
+    none-entered slots v z j k cs ps found a.goes_on.notes
     (same (is-false b (λ t. absurd (let s = iff.0 t in cc))) ∙ ap (λ (u : Known slots). log_dropped (with_pages u []) (marks_of k)) is)
     (subst (λ (u : Known slots). IfSome found (λ f. IsAnother u f.1)) claim a.another)
 comes {D} slots v v1 w z j k held (Some entry) marked found b claim later a iff told same =
@@ -132,7 +148,7 @@ found-log {slots} v z word seat none e other = subst (λ (u : Known slots). Goes
   none = none;
   fixed = refl;
   peeks = refl;
-  marks = (λ e. e, λ e. e, λ e. e);
+  marks = (λ n e. e, λ e. e, λ e. e);
   entries = record { kept = refl; seen = refl; has = refl };
   meets = (refl, other);
 })

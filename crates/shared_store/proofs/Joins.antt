@@ -1,6 +1,7 @@
 -- What a pass keeps that took in another.
 use Rattle.std.proofs.Common.{◌≡◌, ◌⊎◌, ⊎_elim, inl, inr, ℕ, zero, suc, ◌*◌, ◌<◌, Bool, true, false, List, ◌∷◌, length, get_or, set, refl, sym, ap, ◌∙◌, subst, arith}
-use Rattle.std.specs.Prelude.{◌||◌, if◌then◌else◌, max}
+use Rattle.std.specs.Prelude.{◌||◌, if◌then◌else◌, max, Option, Some, None, IsSome}
+use Rattle.std.specs.Option.{option_or}
 use Rattle.std.proofs.lemmas.List.{get_or-set_same, get_or-set_other}
 use mathlib.Core.Logic.{dite}
 use native.Mathlib.Decide.{ℕ_discrete}
@@ -15,7 +16,7 @@ use Rattle.latch_table.proofs.Frames.{if_same, if_other}
 use Rattle.journal_chronicle.specs.View.{Origin}
 use Rattle.shared_store.specs.declared.refused.Refused.{Refused}
 use Rattle.shared_store.specs.Passes.{Known, IsPass, AreMarked, both, joined_refusals}
-use Rattle.shared_store.proofs.Goings.{or-left, or-right}
+use Rattle.shared_store.proofs.Goings.{or-left, or-right, some-left}
 
 -- ---- counts of both are marked by both
 
@@ -26,8 +27,15 @@ some-of (suc a) b p = inl (omega arith)
 marked-by : (a b : ℕ) (x y : Bool) → (0 < a → x ≡ true) → (0 < b → y ≡ true) → 0 < both a b → (x || y) ≡ true
 marked-by a b x y f g p = ⊎_elim (λ l. or-left x y (f l)) (λ r. or-right x y (g r)) (some-of a b p)
 
+some-right : (x y : Option ℕ) → IsSome y → IsSome (option_or x y)
+some-right (Some n) y s = refl
+some-right None y s = s
+
+disk-by : (a b : ℕ) (x y : Option ℕ) → (0 < a → IsSome x) → (0 < b → IsSome y) → 0 < both a b → IsSome (option_or x y)
+disk-by a b x y f g p = ⊎_elim (λ l. some-left x y (f l)) (λ r. some-right x y (g r)) (some-of a b p)
+
 marked-both : (r q : Refused) (m n : Marks) → AreMarked r m → AreMarked q n → AreMarked (joined_refusals r q) (joined_marks m n)
-marked-both r q m n h k = record { disk = marked-by r.disk q.disk m.0 n.0 h.disk k.disk; trace = marked-by r.trace q.trace m.1 n.1 h.trace k.trace; log = marked-by r.log q.log m.2 n.2 h.log k.log }
+marked-both r q m n h k = record { disk = disk-by r.disk q.disk m.0 n.0 h.disk k.disk; trace = marked-by r.trace q.trace m.1 n.1 h.trace k.trace; log = marked-by r.log q.log m.2 n.2 h.log k.log }
 
 -- ---- whether a client that left has a transaction
 

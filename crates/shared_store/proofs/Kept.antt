@@ -10,11 +10,11 @@ use Rattle.logged_journal.specs.declared.upkeep.Upkeep.TheVariants as upkeep
 use Rattle.logged_journal.specs.View.{LoggedView}
 use Rattle.latch_table.specs.Account.{Marks}
 use Rattle.latch_table.specs.declared.hold.Held.{Held}
-use Rattle.latch_table.specs.Views.{joined_marks, no_marks, page_claimed, page_dropped, with_claims, without}
+use Rattle.latch_table.specs.Views.{joined_marks, page_claimed, page_dropped, with_claims, without}
 use Rattle.latch_table.specs.Holds.{IsAnother}
 use Rattle.latch_table.proofs.Frames.{if_same}
 use Rattle.journal_chronicle.specs.Clients.{speaker_of}
-use Rattle.journal_chronicle.specs.Steps.{GoesOnWith, no_page}
+use Rattle.journal_chronicle.specs.Steps.{Flags, GoesOnWith, no_mark, no_page, marks_with}
 use Rattle.shared_store.specs.declared.refused.Refused.{Refused}
 use Rattle.shared_store.specs.Passes.{Known, AreMarked}
 use Rattle.shared_store.specs.Acts.{met_if, Acts, Takes}
@@ -46,18 +46,18 @@ txn-upkeep v z (Ok upkeep.Memory) found had was g = let k = g.entries in was ∙
 txn-upkeep v z (Ok upkeep.DiskFault) found had was g = let k = g.entries in was ∙ sym k.has
 txn-upkeep v z (Err h) found had was g = let k = g.entries in was ∙ sym k.has
 
-pub marked-upkeep : (x : Refused) (a m : Marks) → AreMarked x a → (r : Result Upkeep Held) → AreMarked (refused_by_upkeep_of r x) (joined_marks a (joined_marks m (marked_by_upkeep_of r)))
-marked-upkeep x a m h (Ok upkeep.Done) = marked-joined x a (joined_marks m no_marks) h
-marked-upkeep x a m h (Ok (upkeep.Busy client)) = marked-joined x a (joined_marks m no_marks) h
-marked-upkeep x a m h (Ok (upkeep.Stopped faults)) = marked-disk x a m h (refused_by_upkeep_of (Ok (upkeep.Stopped faults)) x).disk
-marked-upkeep x a m h (Ok upkeep.TraceFull) = marked-trace x a m h (refused_by_upkeep_of (Ok upkeep.TraceFull) x).trace
-marked-upkeep x a m h (Ok upkeep.LogFull) = marked-log x a m h (refused_by_upkeep_of (Ok upkeep.LogFull) x).log
-marked-upkeep x a m h (Ok upkeep.Memory) = marked-joined x a (joined_marks m no_marks) h
-marked-upkeep x a m h (Ok upkeep.DiskFault) = marked-disk x a m h (refused_by_upkeep_of (Ok upkeep.DiskFault) x).disk
-marked-upkeep x a m h (Err held) = marked-joined x a (joined_marks m no_marks) h
+pub marked-upkeep : (x : Refused) (n : ℕ) (a m : Marks) → AreMarked x a → (r : Result Upkeep Held) → AreMarked (refused_by_upkeep_of r x) (joined_marks a (joined_marks m (marks_with (marked_by_upkeep_of r) n)))
+marked-upkeep x n a m h (Ok upkeep.Done) = marked-joined x a (joined_marks m (marks_with no_mark n)) h
+marked-upkeep x n a m h (Ok (upkeep.Busy client)) = marked-joined x a (joined_marks m (marks_with no_mark n)) h
+marked-upkeep x n a m h (Ok (upkeep.Stopped faults)) = marked-disk x n a m h (refused_by_upkeep_of (Ok (upkeep.Stopped faults)) x).disk
+marked-upkeep x n a m h (Ok upkeep.TraceFull) = marked-trace x n a m h (refused_by_upkeep_of (Ok upkeep.TraceFull) x).trace
+marked-upkeep x n a m h (Ok upkeep.LogFull) = marked-log x n a m h (refused_by_upkeep_of (Ok upkeep.LogFull) x).log
+marked-upkeep x n a m h (Ok upkeep.Memory) = marked-joined x a (joined_marks m (marks_with no_mark n)) h
+marked-upkeep x n a m h (Ok upkeep.DiskFault) = marked-disk x n a m h (refused_by_upkeep_of (Ok upkeep.DiskFault) x).disk
+marked-upkeep x n a m h (Err held) = marked-joined x a (joined_marks m (marks_with no_mark n)) h
 
 -- no page is in hand behind it
-pub acts-none : {D : Type 0} (slots : ℕ) (v w : Known slots) (j k : LoggedView D) (entered : Option Entry) (marked : Marks) (found : Option (ℕ × ℕ)) → Takes v w [] found → IfSome found (λ f. IsAnother v f.1) → GoesOnWith slots no_page j k entered marked
+pub acts-none : {D : Type 0} (slots : ℕ) (v w : Known slots) (j k : LoggedView D) (entered : Option Entry) (marked : Flags) (found : Option (ℕ × ℕ)) → Takes v w [] found → IfSome found (λ f. IsAnother v f.1) → GoesOnWith slots no_page j k entered marked
     → Acts slots v w j k [] entered marked found
 acts-none slots v w j k entered marked found is other goes = record {
   first = [];
@@ -84,5 +84,5 @@ seen-met : {slots : ℕ} (v : Known slots) (found : Option (ℕ × ℕ)) → (me
 seen-met v None = refl
 seen-met v (Some f) = refl
 
-pub act-seen : {D : Type 0} (slots : ℕ) (v w : Known slots) (j k : LoggedView D) (held : List (HeldFrame slots)) (entered : Option Entry) (marked : Marks) (found : Option (ℕ × ℕ)) → Acts slots v w j k held entered marked found → w.knowledge.seen ≡ v.knowledge.seen
+pub act-seen : {D : Type 0} (slots : ℕ) (v w : Known slots) (j k : LoggedView D) (held : List (HeldFrame slots)) (entered : Option Entry) (marked : Flags) (found : Option (ℕ × ℕ)) → Acts slots v w j k held entered marked found → w.knowledge.seen ≡ v.knowledge.seen
 act-seen slots v w j k held entered marked found a = ap (λ (z : Known slots). z.knowledge.seen) a.view.1 ∙ seen-met (with_pages (with_claims v a.view.0) (pairs_of a.first)) found

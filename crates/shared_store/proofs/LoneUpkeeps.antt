@@ -18,13 +18,12 @@ use Rattle.logged_journal.specs.declared.upkeep.Upkeep.{Upkeep}
 use Rattle.logged_journal.specs.View.{LoggedView}
 use Rattle.latch_table.specs.declared.view.Station.{Station}
 use Rattle.latch_table.specs.declared.hold.Held.{Held}
-use Rattle.latch_table.specs.Account.{Marks}
 use Rattle.latch_table.specs.Views.{log_of}
 use Rattle.latch_table.specs.Holds.{TableView, HoldView, IsAlone, IsAnother}
 use Rattle.latch_table.specs.Steps.{IsNext, told_of}
 use Rattle.journal_chronicle.specs.Clients.{speaker_of}
 use Rattle.journal_chronicle.specs.Pages.{AreShownBy}
-use Rattle.journal_chronicle.specs.Steps.{EntersIf, GoesOnWith, no_page}
+use Rattle.journal_chronicle.specs.Steps.{Flags, EntersIf, GoesOnWith, no_page}
 use Rattle.journal_chronicle.specs.View.{Origin, account, origin_of, notes_of, frame_after}
 use Rattle.shared_store.specs.Passes.{Known}
 use Rattle.shared_store.specs.Acts.{Acts, IsToDrop, Takes}
@@ -59,7 +58,7 @@ module _ {D : Type 0} (slots : ℕ) (j k : LoggedView D) (held : List (HeldFrame
   enters-held None e = e
   enters-held (Some x) e = record { note = e.note; of_entry = e.of_entry; notes = e.notes; elsewhere = λ page free. e.elsewhere page refl }
 
-  pub goes-held : (entered : Option Entry) (marked : Marks) → GoesOnWith slots no_page j k entered marked → GoesOnWith slots (is_held held) j k entered marked
+  pub goes-held : (entered : Option Entry) (marked : Flags) → GoesOnWith slots no_page j k entered marked → GoesOnWith slots (is_held held) j k entered marked
   goes-held entered marked h = record { origin = h.origin; notes = enters-held entered h.notes; marks = h.marks }
 
   -- no page changes its frame
@@ -72,11 +71,11 @@ module _ {D : Type 0} (slots : ℕ) (j k : LoggedView D) (held : List (HeldFrame
   same-shown [] same are = tt
   same-shown (x ∷ xs) same are = (are.0 ∙ sym (same x.page), same-shown xs same are.1)
 
-  pub still-shown : (entered : Option Entry) (marked : Marks) → GoesOnWith slots no_page j k entered marked
+  pub still-shown : (entered : Option Entry) (marked : Flags) → GoesOnWith slots no_page j k entered marked
       → AreShownBy (frame_after slots (origin_of j) (notes_of j)) held → AreShownBy (frame_after slots (origin_of k) (notes_of k)) held
   still-shown entered marked h are = same-shown held (λ page. ap (λ (x : Origin). frame_after slots x (notes_of k) page) h.origin ∙ same-frame entered page h.notes) are
 
-  pub still-within : (entered : Option Entry) (marked : Marks) → GoesOnWith slots no_page j k entered marked
+  pub still-within : (entered : Option Entry) (marked : Flags) → GoesOnWith slots no_page j k entered marked
       → AllByRecursion (λ (x : HeldFrame slots). 8 * x.page < j.journal.history.ids) held → AllByRecursion (λ (x : HeldFrame slots). 8 * x.page < k.journal.history.ids) held
   still-within entered marked h within = subst (λ (m : ℕ). AllByRecursion (λ (x : HeldFrame slots). 8 * x.page < m) held) (sym (ap (λ (x : Origin). x.ids) h.origin)) within
 
@@ -95,7 +94,7 @@ few-dropped slots store h v j held lone is = record {
   alone = (ap (λ (z : Known slots). z.station.main) is ∙ lone.alone.0, ap (λ (z : Known slots). z.station.others) is ∙ lone.alone.1);
 }
 
-module _ {D : Type 0} (slots pages : ℕ) (v w : Known slots) (j k : LoggedView D) (entered : Option Entry) (marked : Marks) (found : Option (ℕ × ℕ)) (n : ℕ)
+module _ {D : Type 0} (slots pages : ℕ) (v w : Known slots) (j k : LoggedView D) (entered : Option Entry) (marked : Flags) (found : Option (ℕ × ℕ)) (n : ℕ)
     (has : HasLog slots pages v j) (acts : Acts slots v w j k [] entered marked found) (speaks : IfSome entered (λ e. (speaker_of e ≡ None) ⊎ (speaker_of e ≡ Some v.station.name))) (counted : n ≡ length (notes_of j)) where
   pub few-found : found ≡ None
   few-found = lone-none v has.alone found acts.another

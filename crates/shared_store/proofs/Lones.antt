@@ -27,13 +27,12 @@ use Rattle.logged_journal.specs.declared.upkeep.Upkeep.{Upkeep}
 use Rattle.logged_journal.specs.declared.upkeep.Upkeep.TheVariants as upkeep
 use Rattle.logged_journal.specs.View.{LoggedView}
 use Rattle.latch_table.specs.declared.view.Station.{Station}
-use Rattle.latch_table.specs.Account.{Marks}
 use Rattle.latch_table.specs.Views.{all_claimed, first_view, log_of, pages_onto, renamed, story}
 use Rattle.latch_table.specs.Holds.{TableView, HoldView, IsAlone, IsAnother}
 use Rattle.latch_table.specs.Steps.{IsNext, told_of}
 use Rattle.journal_chronicle.specs.Clients.{speaker_of}
 use Rattle.journal_chronicle.specs.Pages.{AreShownBy}
-use Rattle.journal_chronicle.specs.Steps.{EntersIf, GoesOnWith, entered_by_abort_step, entered_by_collect_step, entered_by_upkeep}
+use Rattle.journal_chronicle.specs.Steps.{Flags, EntersIf, GoesOnWith, entered_by_abort_step, entered_by_collect_step, entered_by_upkeep}
 use Rattle.journal_chronicle.specs.View.{Origin, account, failed_note, origin_of, marks_of, notes_of, frame_after}
 use Rattle.shared_store.specs.Passes.{Known}
 use Rattle.shared_store.specs.Acts.{Acts, IsToDrop, Takes}
@@ -118,7 +117,7 @@ told-station slots w w' k true told same = ap (λ (z : Known slots). z.station) 
 told-station slots w w' k false told same = ap (λ (z : Known slots). z.station) (same refl)
 
 -- what a call does on the journal and the frames
-pub record WentOn {D : Type 0} (slots : ℕ) (v : Known slots) (j k : LoggedView D) (held new : List (HeldFrame slots)) (entered : Option Entry) (marked : Marks) (n : ℕ) : Type 0 where
+pub record WentOn {D : Type 0} (slots : ℕ) (v : Known slots) (j k : LoggedView D) (held new : List (HeldFrame slots)) (entered : Option Entry) (marked : Flags) (n : ℕ) : Type 0 where
   pub goes : GoesOnWith slots (is_held held) j k entered marked
   pub pages : pages_held new ≡ pages_held held
   pub agree : Agree (cells_of k.journal) new
@@ -126,7 +125,7 @@ pub record WentOn {D : Type 0} (slots : ℕ) (v : Known slots) (j k : LoggedView
   pub speaks : IfSome entered (λ e. (speaker_of e ≡ None) ⊎ (speaker_of e ≡ Some v.station.name))
   pub counted : n ≡ length (notes_of j)
 
-module _ {D : Type 0} (slots : ℕ) (store : TableView) (h : HoldView Note Origin (Frame slots)) (j k : LoggedView D) (held new : List (HeldFrame slots)) (entered : Option Entry) (marked : Marks) (n : ℕ)
+module _ {D : Type 0} (slots : ℕ) (store : TableView) (h : HoldView Note Origin (Frame slots)) (j k : LoggedView D) (held new : List (HeldFrame slots)) (entered : Option Entry) (marked : Flags) (n : ℕ)
     (lone : IsLone slots store h j held) (on : WentOn slots h.view j k held new entered marked n) where
   lone-acts : Acts slots h.view h.view j k new entered marked None
   lone-acts = record {
@@ -232,7 +231,7 @@ first-lone slots store h j fs held of some few size ids agree count are is = rec
   size = size;
   journal = record {
     ids = ids;
-    in_hand = record { fixed = ap (λ (z : Known slots). z.knowledge.fixed) is; log = (story (notes_of j) (marks_of j), ap (λ (z : Known slots). z.hands.log) is, refl, (λ e. e, λ e. e, λ e. e)) };
+    in_hand = record { fixed = ap (λ (z : Known slots). z.knowledge.fixed) is; log = (story (notes_of j) (marks_of j), ap (λ (z : Known slots). z.hands.log) is, refl, (λ n e. e, λ e. e, λ e. e)) };
     idle = ap (λ (z : Known slots). z.hands.moving) is;
   };
   pages = ap (λ (z : Known slots). z.hands.pages) is ∙ (onto-numbered [] 0 fs ∙ ap (λ (hs : List (HeldFrame slots)). pairs_of hs) (sym are));

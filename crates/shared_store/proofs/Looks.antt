@@ -1,25 +1,26 @@
 -- The collector looks on, where the pass has the log word.
 use Rattle.std.proofs.Common.{◌≡◌, ℕ, Bool, true, false, List, [], ◌∷◌, ◌++◌, Option, Some, None, refl, sym, ap, ◌∙◌}
-use Rattle.std.specs.Prelude.{◌||◌, is_some}
+use Rattle.std.specs.Prelude.{◌||◌}
+use Rattle.std.specs.Option.{option_or}
 use Rattle.plain_model.specs.declared.calls.Entry.{Entry}
 use Rattle.core_store.specs.declared.note.Note.{Note}
 use Rattle.core_store.specs.JournalView.{JournalView}
 use Rattle.core_store.specs.Steppings.{OnlyLooks}
 use Rattle.logged_journal.specs.View.{LoggedView, failed_commit}
 use Rattle.latch_table.specs.Account.{Marks}
-use Rattle.latch_table.specs.Views.{joined_marks, no_marks}
-use Rattle.journal_chronicle.specs.Steps.{EntersIf, GoesOnWith, no_page}
-use Rattle.journal_chronicle.specs.View.{Origin, origin_of, notes_of, marks_of, frame_after}
+use Rattle.latch_table.specs.Views.{joined_marks}
+use Rattle.journal_chronicle.specs.Steps.{Flags, EntersIf, GoesOnWith, no_mark, no_page, marks_with, count_kept}
+use Rattle.journal_chronicle.specs.View.{Origin, origin_of, notes_of, count_failed, marks_of, frame_after}
 use Rattle.journal_chronicle.proofs.Goings.{Stays, marks-same, stays-goes_on}
 use Rattle.journal_chronicle.proofs.Tables.{in-hand}
 use Rattle.shared_store.specs.Passes.{Known}
 use Rattle.shared_store.specs.Holding.{HasJournal}
 
 -- where nothing was entered, the journal is still in hand
-pub still-journal : {D : Type 0} (slots : ℕ) (j k : LoggedView D) (pages : ℕ) (v : Known slots) → GoesOnWith slots no_page j k None no_marks → HasJournal slots pages v j → HasJournal slots pages v k
+pub still-journal : {D : Type 0} (slots : ℕ) (j k : LoggedView D) (pages : ℕ) (v : Known slots) → GoesOnWith slots no_page j k None no_mark → HasJournal slots pages v j → HasJournal slots pages v k
 still-journal slots j k pages v goes h = record {
   ids = h.ids ∙ ap (λ (x : Origin). x.ids) (sym goes.origin);
-  in_hand = in-hand slots v j k no_page no_marks h.in_hand goes;
+  in_hand = in-hand slots v j k no_page no_mark h.in_hand goes;
   idle = h.idle;
 }
 
@@ -35,10 +36,10 @@ module _ {D : Type 0} (slots : ℕ) (j k : LoggedView D) (looks : OnlyLooks slot
   }
 
   -- the chronicle shows what it showed
-  pub looked-chronicle : GoesOnWith slots no_page j k None no_marks
+  pub looked-chronicle : GoesOnWith slots no_page j k None no_mark
   looked-chronicle =
-      stays-goes_on slots j k no_page no_marks looked-stays
-      (marks-same j k (ap (λ (x : LoggedView D). is_some x.failed) same) (ap (λ (x : JournalView). x.marks.trace) looks.same) (ap (λ (x : LoggedView D). x.log_full) same))
+      stays-goes_on slots j k no_page no_mark looked-stays
+      (marks-same j k (ap (λ (x : LoggedView D). count_failed x) same) (ap (λ (x : JournalView). x.marks.trace) looks.same) (ap (λ (x : LoggedView D). x.log_full) same))
 
   -- it is still in hand
   pub looked-journal : (pages : ℕ) (v : Known slots) → HasJournal slots pages v j → HasJournal slots pages v k
@@ -48,11 +49,15 @@ or-false : (b : Bool) → (b || false) ≡ b
 or-false true = refl
 or-false false = refl
 
-joined-none : (m : Marks) → joined_marks m no_marks ≡ m
-joined-none m = rw (or-false m.0, or-false m.1, or-false m.2) refl
+or-none : (o : Option ℕ) → option_or o None ≡ o
+or-none None = refl
+or-none (Some n) = refl
+
+joined-none : (m : Marks) (n : ℕ) → joined_marks m (marks_with no_mark n) ≡ m
+joined-none m n = rw (or-none m.0, or-false m.1, or-false m.2) refl
 
 -- a call behind a look
-module _ {D : Type 0} (slots : ℕ) (test : ℕ → Bool) (i j k : LoggedView D) (marked : Marks) (look : GoesOnWith slots no_page i j None no_marks) where
+module _ {D : Type 0} (slots : ℕ) (test : ℕ → Bool) (i j k : LoggedView D) (marked : Flags) (look : GoesOnWith slots no_page i j None no_mark) where
   notes-behind : (entered : Option Entry) → GoesOnWith slots test j k entered marked → EntersIf slots test i k entered
   notes-behind None h = h.notes ∙ look.notes
   notes-behind (Some e) h = let n = h.notes in record {
@@ -70,5 +75,5 @@ module _ {D : Type 0} (slots : ℕ) (test : ℕ → Bool) (i j k : LoggedView D)
   goes-behind entered h = record {
     origin = h.origin ∙ look.origin;
     notes = notes-behind entered h;
-    marks = h.marks ∙ ap (λ (m : Marks). joined_marks m marked) (look.marks ∙ joined-none (marks_of i));
+    marks = h.marks ∙ ap (λ (m : Marks). joined_marks m (marks_with marked (count_kept k))) (look.marks ∙ joined-none (marks_of i) (count_kept j));
   }

@@ -11,6 +11,7 @@ use Rattle.latch_table.specs.Views.{joined_marks, log_of, log_claimed, log_dropp
 use Rattle.latch_table.specs.Holds.{HoldView, IsAnother}
 use Rattle.latch_table.specs.Rule.{IsLater}
 use Rattle.latch_table.specs.Steps.{told_of}
+use Rattle.journal_chronicle.specs.Steps.{Flags, marks_with, count_kept}
 use Rattle.journal_chronicle.specs.View.{Origin, account, notes_of, marks_of}
 use Rattle.shared_store.specs.declared.refused.Refused.{Refused}
 use Rattle.shared_store.specs.Passes.{Known, IsPass, AreMarked}
@@ -20,7 +21,7 @@ use Rattle.shared_store.specs.Holding.{with_pages}
 use Rattle.shared_store.proofs.Goings.{Comes, comes, found-log, pass-after}
 
 -- a pass claimed the log word, did its work, told of the entry, if one was entered, and gave all back
-pub record IsDone {D : Type 0} (slots : ℕ) (v z : Known slots) (j k : LoggedView D) (entered : Option Entry) (marked : Marks) (found : Option (ℕ × ℕ)) : Type 0 where
+pub record IsDone {D : Type 0} (slots : ℕ) (v z : Known slots) (j k : LoggedView D) (entered : Option Entry) (marked : Flags) (found : Option (ℕ × ℕ)) : Type 0 where
   pub claimed : Known slots
   pub worked : Known slots
   pub held : List (HeldFrame slots)
@@ -32,13 +33,13 @@ pub record IsDone {D : Type 0} (slots : ℕ) (v z : Known slots) (j k : LoggedVi
   pub told : tells ≡ true → (note : Note) × (notes_of k ≡ log_of worked ++ note ∷ []) × (z ≡ log_dropped (with_pages (told_of (account D slots) worked k note) []) (marks_of k))
   pub same : tells ≡ false → z ≡ log_dropped (with_pages worked []) (marks_of k)
 
-pub done-comes : {D : Type 0} (slots : ℕ) (v z : Known slots) (j k : LoggedView D) (entered : Option Entry) (marked : Marks) (found : Option (ℕ × ℕ)) → IsDone slots v z j k entered marked found → Comes v z j k entered found
+pub done-comes : {D : Type 0} (slots : ℕ) (v z : Known slots) (j k : LoggedView D) (entered : Option Entry) (marked : Flags) (found : Option (ℕ × ℕ)) → IsDone slots v z j k entered marked found → Comes v z j k entered found
 done-comes slots v z j k entered marked found d = comes slots v d.claimed d.worked z j k d.held entered marked found d.tells d.claim d.later d.acts d.iff d.told d.same
 
 module _ {slots : ℕ} (h h' : HoldView Note Origin (Frame slots)) (main : Bool) (number : ℕ) (txn : Bool) (seen : ℕ) (refused : Refused) (left : List Bool) (p : IsPass h main number txn seen refused left) (table : h'.table ≡ h.table) where
   -- what the fields of the pass keep then
-  pub done-pass : {D : Type 0} (j k : LoggedView D) (entered : Option Entry) (marked : Marks) (found : Option (ℕ × ℕ)) (txn' : Bool) (seen' : ℕ) (refused' : Refused) → IsDone slots h.view h'.view j k entered marked found
-      → (GoesOnAs h.view h'.view entered found → txn' ≡ h'.view.knowledge.truth) → seen' ≡ h'.view.knowledge.seen → AreMarked refused' (joined_marks h.view.knowledge.marks (joined_marks (marks_of j) marked)) → IsPass h' main number txn' seen' refused' left
+  pub done-pass : {D : Type 0} (j k : LoggedView D) (entered : Option Entry) (marked : Flags) (found : Option (ℕ × ℕ)) (txn' : Bool) (seen' : ℕ) (refused' : Refused) → IsDone slots h.view h'.view j k entered marked found
+      → (GoesOnAs h.view h'.view entered found → txn' ≡ h'.view.knowledge.truth) → seen' ≡ h'.view.knowledge.seen → AreMarked refused' (joined_marks h.view.knowledge.marks (joined_marks (marks_of j) (marks_with marked (count_kept k)))) → IsPass h' main number txn' seen' refused' left
   done-pass j k entered marked found txn' seen' refused' d truth length_is counted =
       let c = done-comes slots h.view h'.view j k entered marked found d in
       let g = d.acts.goes_on in

@@ -1,5 +1,6 @@
 -- Answers of a client's call: what they enter, name and count.
 use Rattle.std.proofs.Common.{◌≡◌, ◌≢◌, ◌⊎◌, ℕ, Bool, true, false, List, Option, Some, None, refl, sym, ap, ◌∙◌, subst, eq-eqb, inr, ⊎_elim, arith}
+use Rattle.std.specs.Option.{option_or}
 use Rattle.std.specs.Prelude.{◌↔◌, ◌||◌, if◌then◌else◌, is_some, unwrap_or, IfSome, IsSome}
 use Rattle.plain_model.specs.declared.calls.Call.{Call as TransactionCall}
 use Rattle.plain_model.specs.declared.calls.Reply.{Reply}
@@ -16,14 +17,14 @@ use Rattle.latch_table.specs.Account.{Marks}
 use Rattle.latch_table.specs.Views.{joined_marks, met}
 use Rattle.latch_table.specs.Holds.{HasNone, IsAnother}
 use Rattle.journal_chronicle.specs.Clients.{speaker_of, begins_or_ends, has_after}
-use Rattle.journal_chronicle.specs.Steps.{entered_by_call, marked_by_call}
+use Rattle.journal_chronicle.specs.Steps.{disk_mark, trace_mark, log_mark, marks_with, entered_by_call, marked_by_call}
 use Rattle.shared_store.specs.declared.refused.Refused.{Refused}
 use Rattle.shared_store.specs.Passes.{Known, AreMarked}
 use Rattle.shared_store.specs.Acts.{Acts, IsToDrop, Takes}
 use Rattle.shared_store.specs.Calls.{GoesOnAs, DoesCallOn, found_by_call, refused_by_call}
 use Rattle.shared_store.specs.Holding.{HasJournal, pairs_of}
 use Rattle.shared_store.proofs.Acting.{acts-found, to-drop}
-use Rattle.shared_store.proofs.Goings.{found-log, marked-joined, or-left, truth-some}
+use Rattle.shared_store.proofs.Goings.{found-log, marked-joined, or-left, some-left, truth-some}
 
 pub not-found : (r : Reply) → ((word seat : ℕ) → r ≢ reply.Again word seat) → found_by_call r ≡ None
 not-found reply.Done n = refl
@@ -92,32 +93,37 @@ or-last true b = refl
 or-last false true = refl
 or-last false false = refl
 
-module _ (x : Refused) (a m : Marks) (h : AreMarked x a) where
-  pub marked-disk : (d : ℕ) → AreMarked (record { disk = d; trace = x.trace; log = x.log }) (joined_marks a (joined_marks m (true, false, false)))
-  marked-disk d = record { disk = λ p. or-last a.0 m.0; trace = λ p. or-left a.1 (m.1 || false) (h.trace p); log = λ p. or-left a.2 (m.2 || false) (h.log p) }
+some-last : (a b : Option ℕ) (n : ℕ) → IsSome (option_or a (option_or b (Some n)))
+some-last (Some k) b n = refl
+some-last None (Some k) n = refl
+some-last None None n = refl
 
-  pub marked-trace : (d : ℕ) → AreMarked (record { disk = x.disk; trace = d; log = x.log }) (joined_marks a (joined_marks m (false, true, false)))
-  marked-trace d = record { disk = λ p. or-left a.0 (m.0 || false) (h.disk p); trace = λ p. or-last a.1 m.1; log = λ p. or-left a.2 (m.2 || false) (h.log p) }
+module _ (x : Refused) (n : ℕ) (a m : Marks) (h : AreMarked x a) where
+  pub marked-disk : (d : ℕ) → AreMarked (record { disk = d; trace = x.trace; log = x.log }) (joined_marks a (joined_marks m (marks_with disk_mark n)))
+  marked-disk d = record { disk = λ p. some-last a.0 m.0 n; trace = λ p. or-left a.1 (m.1 || false) (h.trace p); log = λ p. or-left a.2 (m.2 || false) (h.log p) }
 
-  pub marked-log : (d : ℕ) → AreMarked (record { disk = x.disk; trace = x.trace; log = d }) (joined_marks a (joined_marks m (false, false, true)))
-  marked-log d = record { disk = λ p. or-left a.0 (m.0 || false) (h.disk p); trace = λ p. or-left a.1 (m.1 || false) (h.trace p); log = λ p. or-last a.2 m.2 }
+  pub marked-trace : (d : ℕ) → AreMarked (record { disk = x.disk; trace = d; log = x.log }) (joined_marks a (joined_marks m (marks_with trace_mark n)))
+  marked-trace d = record { disk = λ p. some-left a.0 (option_or m.0 None) (h.disk p); trace = λ p. or-last a.1 m.1; log = λ p. or-left a.2 (m.2 || false) (h.log p) }
 
-  pub marked-call : (r : Reply) → AreMarked (refused_by_call r x) (joined_marks a (joined_marks m (marked_by_call r)))
+  pub marked-log : (d : ℕ) → AreMarked (record { disk = x.disk; trace = x.trace; log = d }) (joined_marks a (joined_marks m (marks_with log_mark n)))
+  marked-log d = record { disk = λ p. some-left a.0 (option_or m.0 None) (h.disk p); trace = λ p. or-left a.1 (m.1 || false) (h.trace p); log = λ p. or-last a.2 m.2 }
+
+  pub marked-call : (r : Reply) → AreMarked (refused_by_call r x) (joined_marks a (joined_marks m (marks_with (marked_by_call r) n)))
   marked-call (reply.Stopped faults) = marked-disk (refused_by_call (reply.Stopped faults) x).disk
   marked-call reply.DiskFault = marked-disk (refused_by_call reply.DiskFault x).disk
   marked-call reply.TraceFull = marked-trace (refused_by_call reply.TraceFull x).trace
   marked-call reply.LogFull = marked-log (refused_by_call reply.LogFull x).log
-  marked-call reply.Done = marked-joined x a (joined_marks m (marked_by_call reply.Done)) h
-  marked-call (reply.Id id) = marked-joined x a (joined_marks m (marked_by_call (reply.Id id))) h
-  marked-call (reply.Pay value) = marked-joined x a (joined_marks m (marked_by_call (reply.Pay value))) h
-  marked-call (reply.Again word seat) = marked-joined x a (joined_marks m (marked_by_call (reply.Again word seat))) h
-  marked-call reply.Memory = marked-joined x a (joined_marks m (marked_by_call reply.Memory)) h
-  marked-call reply.NoTxn = marked-joined x a (joined_marks m (marked_by_call reply.NoTxn)) h
-  marked-call reply.HasTxn = marked-joined x a (joined_marks m (marked_by_call reply.HasTxn)) h
-  marked-call reply.Aborting = marked-joined x a (joined_marks m (marked_by_call reply.Aborting)) h
-  marked-call (reply.EmptyRegister reg) = marked-joined x a (joined_marks m (marked_by_call (reply.EmptyRegister reg))) h
-  marked-call (reply.Busy client) = marked-joined x a (joined_marks m (marked_by_call (reply.Busy client))) h
-  marked-call reply.Full = marked-joined x a (joined_marks m (marked_by_call reply.Full)) h
+  marked-call reply.Done = marked-joined x a (joined_marks m (marks_with (marked_by_call reply.Done) n)) h
+  marked-call (reply.Id id) = marked-joined x a (joined_marks m (marks_with (marked_by_call (reply.Id id)) n)) h
+  marked-call (reply.Pay value) = marked-joined x a (joined_marks m (marks_with (marked_by_call (reply.Pay value)) n)) h
+  marked-call (reply.Again word seat) = marked-joined x a (joined_marks m (marks_with (marked_by_call (reply.Again word seat)) n)) h
+  marked-call reply.Memory = marked-joined x a (joined_marks m (marks_with (marked_by_call reply.Memory) n)) h
+  marked-call reply.NoTxn = marked-joined x a (joined_marks m (marks_with (marked_by_call reply.NoTxn) n)) h
+  marked-call reply.HasTxn = marked-joined x a (joined_marks m (marks_with (marked_by_call reply.HasTxn) n)) h
+  marked-call reply.Aborting = marked-joined x a (joined_marks m (marks_with (marked_by_call reply.Aborting) n)) h
+  marked-call (reply.EmptyRegister reg) = marked-joined x a (joined_marks m (marks_with (marked_by_call (reply.EmptyRegister reg)) n)) h
+  marked-call (reply.Busy client) = marked-joined x a (joined_marks m (marks_with (marked_by_call (reply.Busy client)) n)) h
+  marked-call reply.Full = marked-joined x a (joined_marks m (marks_with (marked_by_call reply.Full) n)) h
 
 -- ---- the disk had failed a call
 
@@ -136,6 +142,7 @@ does-stopped {D} slots faults j client c f failed legal = record {
   untouched = λ never. record { disk = refl; durable = refl };
   fault = λ e. absurd (cc);
   later = omega arith;
+  count = λ other. refl;
 }
 
 -- ---- another pass had a word

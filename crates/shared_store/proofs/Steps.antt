@@ -16,6 +16,7 @@ use Rattle.latch_table.specs.Account.{Marks}
 use Rattle.latch_table.specs.Views.{joined_marks, met}
 use Rattle.latch_table.specs.Holds.{HasNone, IsAnother}
 use Rattle.journal_chronicle.specs.Clients.{speaker_of}
+use Rattle.journal_chronicle.specs.Steps.{marks_with}
 use Rattle.shared_store.specs.declared.answers.StepRefusal.{StepRefusal}
 use Rattle.shared_store.specs.declared.answers.StepRefusal.TheVariants.{Again, Stopped}
 use Rattle.shared_store.specs.declared.refused.Refused.{Refused}
@@ -43,10 +44,10 @@ txn-step v z client (Ok Ended) found had res own was is g =
     ∙ sym (truth-some v z (Call client Abort Done) g.entries))
 txn-step v z client (Err refusal) found had res own was is g = let k = g.entries in is ∙ (was ∙ sym k.has)
 
-pub marked-step : (x : Refused) (a m : Marks) → AreMarked x a → (r : Result AbortStep StepRefusal) → AreMarked (refused_by_step r x) (joined_marks a (joined_marks m (marked_by_step r)))
-marked-step x a m h (Ok s) = marked-joined x a (joined_marks m (marked_by_step (Ok s))) h
-marked-step x a m h (Err (Stopped faults)) = marked-disk x a m h (refused_by_step (Err (Stopped faults)) x).disk
-marked-step x a m h (Err (Again word seat)) = marked-joined x a (joined_marks m (marked_by_step (Err (Again word seat)))) h
+pub marked-step : (x : Refused) (n : ℕ) (a m : Marks) → AreMarked x a → (r : Result AbortStep StepRefusal) → AreMarked (refused_by_step r x) (joined_marks a (joined_marks m (marks_with (marked_by_step r) n)))
+marked-step x n a m h (Ok s) = marked-joined x a (joined_marks m (marks_with (marked_by_step (Ok s)) n)) h
+marked-step x n a m h (Err (Stopped faults)) = marked-disk x n a m h (refused_by_step (Err (Stopped faults)) x).disk
+marked-step x n a m h (Err (Again word seat)) = marked-joined x a (joined_marks m (marks_with (marked_by_step (Err (Again word seat))) n)) h
 
 -- the disk had failed a call
 pub step-stopped : {D : Type 0} (slots : ℕ) (j : LoggedView D) (client : ℕ) (f : FailedCall) → j.failed ≡ Some f → IsLegal (history_of j) → DoesStepOn slots j j client (Err (Stopped f.faults))

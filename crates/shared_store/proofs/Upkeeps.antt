@@ -13,15 +13,17 @@ use Rattle.logged_journal.specs.declared.upkeep.Upkeep.TheVariants as upkeep
 use Rattle.logged_journal.specs.View.{LoggedView, OnlyTakesRoom, history_of}
 use Rattle.logged_journal.specs.Calls.{KeepsDisk}
 use Rattle.logged_journal.specs.Opens.{OpensAfter}
-use Rattle.logged_journal.specs.Upkeep.{IsPastLogToClean, Cleans, Turns, TellsBusy, FailsUpkeep}
+use Rattle.logged_journal.specs.Upkeep.{IsPastLogToClean, IsPastLogToTurn, Cleans, Turns, TellsBusy, FailsUpkeep}
+use Rattle.logged_journal.proofs.OldLogs.{only-memory}
 use Rattle.latch_table.specs.declared.hold.Held.{Held}
 use Rattle.latch_table.specs.Holds.{IsAlone}
 use Rattle.latch_table.specs.Rule.{IsLater, KeepsEachOnce}
 use Rattle.journal_chronicle.specs.Steps.{entered_by_upkeep}
 use Rattle.journal_chronicle.specs.View.{account, notes_of}
-use Rattle.shared_store.specs.Calls.{Finds}
+use Rattle.shared_store.specs.Calls.{Finds, KeepsNoted}
 use Rattle.shared_store.specs.Passes.{Known}
-use Rattle.shared_store.specs.Upkeep.{DoesCleanOn, DoesTurnOn, MakesClean, MakesTurn}
+use Rattle.plain_model.specs.declared.calls.Entry.{Entry}
+use Rattle.shared_store.specs.Upkeep.{DoesCleanOn, DoesTurnOn, MakesClean, MakesTurn, entered_by_upkeep_of}
 
 -- the journal with its log, with this room taken
 abbrev pub with_room : {D : Type 0} → LoggedView D → Bool → ℕ → LoggedView D
@@ -174,8 +176,9 @@ module _ {D : Type 0} (slots : ℕ) (faults : D → ℕ) (may_leave : D → Area
   pub clean-behind : (j k w : LoggedView D) (page : ℕ) (r : Upkeep) → MayUpkeep j k → DoesCleanOn slots faults may_leave k w page r → DoesCleanOn slots faults may_leave j w page r
   clean-behind j k w page r m d = clean-in_room j w k.journal.reserved k.log.room page r m.running m.room (subst (λ (x : LoggedView D). DoesCleanOn slots faults may_leave x w page r) m.takes d)
 
-  -- ---- the log is turned
+-- ---- the log is turned
 
+module _ {D : Type 0} (slots : ℕ) (faults : D → ℕ) (content : D → Area → Option (List ℕ)) (may_leave : D → Area → List ℕ → Type 0) where
   stopped-is : (o : Option FailedCall) (u : Upkeep) (P : Type 0) → IfSome o (λ f. (Some u ≡ Some (upkeep.Stopped f.faults)) × P) → IfSome o (λ f. (u ≡ upkeep.Stopped f.faults) × P)
   stopped-is None u P s = tt
   stopped-is (Some f) u P s = (is-that u (upkeep.Stopped f.faults) s.0, s.1)
@@ -185,7 +188,7 @@ module _ {D : Type 0} (slots : ℕ) (faults : D → ℕ) (may_leave : D → Area
   either-is u v w (inr e) = inr (is-that u w e)
 
   -- it is refused before a page is looked at
-  pub turn-refused : (j k : LoggedView D) (u : Upkeep) → RefusesTurn slots j k (Some u) → IsLegal (history_of k) → DoesTurnOn slots faults may_leave j k u
+  pub turn-refused : (j k : LoggedView D) (u : Upkeep) → RefusesTurn slots j k (Some u) → IsLegal (history_of k) → DoesTurnOn slots faults content may_leave j k u
   turn-refused j k u r legal = record {
     legal = legal;
     stopped = stopped-is j.failed u (k ≡ j) r.stopped;
@@ -196,12 +199,19 @@ module _ {D : Type 0} (slots : ℕ) (faults : D → ℕ) (may_leave : D → Area
     only_busy = λ client e. r.only_busy client (ap Some e);
     told = λ client e. r.told client (ap Some e);
     log_full = λ e. absurd (r.never.1 (ap Some e));
+    too_long = λ e. absurd (r.never.1 (ap Some e));
+    only_too_long = λ past. inr (only-memory u (λ e. r.never.0 (ap Some e)) (λ e. r.never.1 (ap Some e)) (λ e. r.never.2 (ap Some e))
+        (λ e. let full = (r.full.0 (ap Some e)).1 in let room = past.room in absurd (let clash = sym full ∙ room in cc))
+        (λ n e. let some = r.only_stopped n (ap Some e) in let running = past.running in absurd (let clash = subst (λ (o : Option FailedCall). IsSome o) running some in cc))
+        (λ client e. let least = r.only_busy client (ap Some e) in let idle = past.idle in absurd (let clash = sym idle ∙ least in cc)));
     log_marked = λ e. absurd (r.never.1 (ap Some e));
     memory = λ e. subst (λ (x : LoggedView D). OnlyTakesRoom j x) (sym (r.memory (ap Some e))) refl;
     done = λ e. absurd (r.never.0 (ap Some e));
     turned = λ e. absurd (r.never.0 (ap Some e));
+    old_log = λ e. absurd (r.never.0 (ap Some e));
     fault = λ e. absurd (r.never.2 (ap Some e));
-    later = same-faults j k r.untouched.disk;
+    later = same-faults slots faults may_leave j k r.untouched.disk;
+    count = λ e. ap faults r.untouched.disk;
   }
 
   turns-in_room : (u w : LoggedView D) (reserved : Bool) (room : ℕ) → Turns slots (with_room u reserved room) w → Turns slots u w
@@ -212,7 +222,7 @@ module _ {D : Type 0} (slots : ℕ) (faults : D → ℕ) (may_leave : D → Area
     marks = t.marks;
   }
 
-  turn-in_room : (u w : LoggedView D) (reserved : Bool) (room : ℕ) (r : Upkeep) → u.failed ≡ None → is_past_limit u.journal 1 ≡ false → least_active (end_of u.journal.history).state ≡ None → DoesTurnOn slots faults may_leave (with_room u reserved room) w r → DoesTurnOn slots faults may_leave u w r
+  turn-in_room : (u w : LoggedView D) (reserved : Bool) (room : ℕ) (r : Upkeep) → u.failed ≡ None → is_past_limit u.journal 1 ≡ false → least_active (end_of u.journal.history).state ≡ None → DoesTurnOn slots faults content may_leave (with_room u reserved room) w r → DoesTurnOn slots faults content may_leave u w r
   turn-in_room u w reserved room r running free idle d = record {
     legal = d.legal;
     stopped = subst (λ (o : Option FailedCall). IfSome o (λ x. (r ≡ upkeep.Stopped x.faults) × (w ≡ u))) (sym running) tt;
@@ -223,19 +233,23 @@ module _ {D : Type 0} (slots : ℕ) (faults : D → ℕ) (may_leave : D → Area
     only_busy = d.only_busy;
     told = λ client e. absurd (let q = sym idle ∙ d.only_busy client e in cc);
     log_full = d.log_full;
+    too_long = λ e. let p = d.too_long e in record { running = p.running; room = p.room; idle = p.idle; past = p.past };
+    only_too_long = λ p. d.only_too_long (record { running = p.running; room = p.room; idle = p.idle; past = p.past });
     log_marked = d.log_marked;
     memory = d.memory;
     done = λ e. turns-in_room u w reserved room (d.done e);
     turned = d.turned;
-    fault = λ e. fails-in_room u w reserved room (d.fault e);
+    old_log = λ e. let f = d.old_log e in record { frames = f.frames; pages = f.pages; agree = f.agree; forced = f.forced };
+    fault = λ e. fails-in_room slots faults may_leave u w reserved room (d.fault e);
     later = d.later;
+    count = d.count;
   }
 
-  pub turn-behind : (j k w : LoggedView D) (r : Upkeep) → MayUpkeep j k → least_active (end_of j.journal.history).state ≡ None → DoesTurnOn slots faults may_leave k w r → DoesTurnOn slots faults may_leave j w r
-  turn-behind j k w r m idle d = turn-in_room j w k.journal.reserved k.log.room r m.running m.room idle (subst (λ (x : LoggedView D). DoesTurnOn slots faults may_leave x w r) m.takes d)
+  pub turn-behind : (j k w : LoggedView D) (r : Upkeep) → MayUpkeep j k → least_active (end_of j.journal.history).state ≡ None → DoesTurnOn slots faults content may_leave k w r → DoesTurnOn slots faults content may_leave j w r
+  turn-behind j k w r m idle d = turn-in_room j w k.journal.reserved k.log.room r m.running m.room idle (subst (λ (x : LoggedView D). DoesTurnOn slots faults content may_leave x w r) m.takes d)
 
   -- there was no memory for the frames
-  pub turn-no_memory : (j k : LoggedView D) → MayUpkeep j k → least_active (end_of j.journal.history).state ≡ None → IsLegal (history_of k) → DoesTurnOn slots faults may_leave j k upkeep.Memory
+  pub turn-no_memory : (j k : LoggedView D) → MayUpkeep j k → least_active (end_of j.journal.history).state ≡ None → IsLegal (history_of k) → DoesTurnOn slots faults content may_leave j k upkeep.Memory
   turn-no_memory j k m idle legal = record {
     legal = legal;
     stopped = subst (λ (o : Option FailedCall). IfSome o (λ x. (upkeep.Memory ≡ upkeep.Stopped x.faults) × (k ≡ j))) (sym m.running) tt;
@@ -246,30 +260,35 @@ module _ {D : Type 0} (slots : ℕ) (faults : D → ℕ) (may_leave : D → Area
     only_busy = λ client e. absurd (cc);
     told = λ client e. absurd (cc);
     log_full = λ e. absurd (cc);
+    too_long = λ e. absurd (cc);
+    only_too_long = λ p. inr refl;
     log_marked = λ e. absurd (cc);
     memory = λ e. m.takes;
     done = λ e. absurd (cc);
     turned = λ e. absurd (cc);
+    old_log = λ e. absurd (cc);
     fault = λ e. absurd (cc);
-    later = same-faults j k (ap (λ (x : LoggedView D). x.disk) m.takes);
+    later = same-faults slots faults may_leave j k (ap (λ (x : LoggedView D). x.disk) m.takes);
+    count = λ e. ap faults (ap (λ (x : LoggedView D). x.disk) m.takes);
   }
 
 -- ---- on the journal that the pass claimed
 
 -- what the pass knew of it, and keeps of it
-pub record KnewOf {D : Type 0} (slots : ℕ) (v z : Known slots) (j : LoggedView D) : Type 0 where
+pub record KnewOf {D : Type 0} (slots : ℕ) (v z : Known slots) (j k : LoggedView D) (entered : Option Entry) : Type 0 where
   pub later : IsLater (account D slots) v j
   pub covered : IsAlone v → KeepsEachOnce (notes_of j) v.knowledge.entries
   pub found : Finds v z j
+  pub kept : KeepsNoted v z j k entered
 
-pub makes-clean : {D : Type 0} (slots : ℕ) (faults : D → ℕ) (may_leave : D → Area → List ℕ → Type 0) (moment : D → ℕ) (left_since : D → ℕ → Bytes → Type 0) (v w z : Known slots) (j k : LoggedView D) (page : ℕ) (r : Result Upkeep Held) → v ≡ w → KnewOf slots v z j
+pub makes-clean : {D : Type 0} (slots : ℕ) (faults : D → ℕ) (may_leave : D → Area → List ℕ → Type 0) (moment : D → ℕ) (left_since : D → ℕ → Bytes → Type 0) (v w z : Known slots) (j k : LoggedView D) (page : ℕ) (r : Result Upkeep Held) → v ≡ w → KnewOf slots v z j k (entered_by_upkeep_of r)
     → IfOk r (λ u. DoesCleanOn slots faults may_leave j k page u) → IfOk r (λ _. LeavesOnlyImages moment left_since j.disk k.disk (OpensAfter slots (history_of j))) → IfOk r (λ u. MakesClean D slots faults may_leave moment left_since w z page u)
 makes-clean {D} slots faults may_leave moment left_since v w z j k page (Ok u) same knew made opens =
-    let n = subst (λ (x : Known slots). KnewOf slots x z j) same knew in record { before = j; after = k; later = n.later; covered = n.covered; found = n.found; made = made; opens = opens }
+    let n = subst (λ (x : Known slots). KnewOf slots x z j k (entered_by_upkeep u)) same knew in record { before = j; after = k; later = n.later; covered = n.covered; found = n.found; kept = n.kept; made = made; opens = opens }
 makes-clean slots faults may_leave moment left_since v w z j k page (Err h) same knew made opens = tt
 
-pub makes-turn : {D : Type 0} (slots : ℕ) (faults : D → ℕ) (may_leave : D → Area → List ℕ → Type 0) (moment : D → ℕ) (left_since : D → ℕ → Bytes → Type 0) (v w z : Known slots) (j k : LoggedView D) (r : Result Upkeep Held) → v ≡ w → KnewOf slots v z j
-    → IfOk r (λ u. DoesTurnOn slots faults may_leave j k u) → IfOk r (λ _. LeavesOnlyImages moment left_since j.disk k.disk (OpensAfter slots (history_of j))) → IfOk r (λ u. MakesTurn D slots faults may_leave moment left_since w z u)
-makes-turn {D} slots faults may_leave moment left_since v w z j k (Ok u) same knew made opens =
-    let n = subst (λ (x : Known slots). KnewOf slots x z j) same knew in record { before = j; after = k; later = n.later; covered = n.covered; found = n.found; made = made; opens = opens }
-makes-turn slots faults may_leave moment left_since v w z j k (Err h) same knew made opens = tt
+pub makes-turn : {D : Type 0} (slots : ℕ) (faults : D → ℕ) (content : D → Area → Option (List ℕ)) (may_leave : D → Area → List ℕ → Type 0) (moment : D → ℕ) (left_since : D → ℕ → Bytes → Type 0) (v w z : Known slots) (j k : LoggedView D) (r : Result Upkeep Held) → v ≡ w → KnewOf slots v z j k (entered_by_upkeep_of r)
+    → IfOk r (λ u. DoesTurnOn slots faults content may_leave j k u) → IfOk r (λ _. LeavesOnlyImages moment left_since j.disk k.disk (OpensAfter slots (history_of j))) → IfOk r (λ u. MakesTurn D slots faults content may_leave moment left_since w z u)
+makes-turn {D} slots faults content may_leave moment left_since v w z j k (Ok u) same knew made opens =
+    let n = subst (λ (x : Known slots). KnewOf slots x z j k (entered_by_upkeep u)) same knew in record { before = j; after = k; later = n.later; covered = n.covered; found = n.found; kept = n.kept; made = made; opens = opens }
+makes-turn slots faults content may_leave moment left_since v w z j k (Err h) same knew made opens = tt

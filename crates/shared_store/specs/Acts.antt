@@ -6,12 +6,11 @@ use Rattle.core_store.specs.declared.three.HeldFrame.{HeldFrame}
 use Rattle.core_store.specs.Frames.{AreOnce, is_held, pages_held}
 use Rattle.framed_journal.specs.Holding.{AreHeldOf}
 use Rattle.logged_journal.specs.View.{LoggedView}
-use Rattle.latch_table.specs.Account.{Marks}
 use Rattle.latch_table.specs.Views.{met, with_claims}
 use Rattle.latch_table.specs.Holds.{IsAnother}
 use Rattle.latch_table.specs.Rule.{IsInHand}
 use Rattle.latch_table.specs.Steps.{IsNext}
-use Rattle.journal_chronicle.specs.Steps.{GoesOnWith}
+use Rattle.journal_chronicle.specs.Steps.{Flags, GoesOnWith}
 use Rattle.journal_chronicle.specs.View.{account}
 use Rattle.shared_store.specs.Passes.{Known}
 use Rattle.shared_store.specs.Holding.{pairs_of, with_pages}
@@ -27,7 +26,7 @@ Takes old new pages found = (claims : List (Option ℕ × ℕ)) × (new ≡ met_
 
 -- Of a hold with the log word: it claimed pages, of which these frames are held now, and the journal went on from the first to
 -- the second with this entry and mark, if any. Or it found this number in a word.
-pub record Acts {D : Type 0} (slots : ℕ) (old new : Known slots) (before after : LoggedView D) (held : List (HeldFrame slots)) (entered : Option Entry) (marked : Marks) (found : Option (ℕ × ℕ)) : Type 0 where
+pub record Acts {D : Type 0} (slots : ℕ) (old new : Known slots) (before after : LoggedView D) (held : List (HeldFrame slots)) (entered : Option Entry) (marked : Flags) (found : Option (ℕ × ℕ)) : Type 0 where
   -- the frames as they were claimed
   pub first : List (HeldFrame slots)
   pub view : Takes old new (pairs_of first) found

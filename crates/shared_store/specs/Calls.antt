@@ -1,6 +1,7 @@
 -- What calls of a pass do.
 use Rattle.std.specs.Prelude.{◌≡◌, ◌≢◌, ◌⊎◌, ◌↔◌, ℕ, ◌+◌, ◌≤◌, Bool, true, false, List, [], ◌∷◌, ◌++◌, length, Option, Some, None, Result, Ok, Err, IfSome, IsSome, IfOk}
 use Rattle.std.specs.List.{Contains}
+use Rattle.disk_model.specs.declared.area.Area.{Area}
 use Rattle.disk_model.specs.Areas.{Bytes}
 use Rattle.disk_model.specs.Causes.{Rose}
 use Rattle.disk_model.specs.Time.{LeavesOnlyImages}
@@ -24,13 +25,12 @@ use Rattle.logged_journal.specs.declared.upkeep.Upkeep.{Upkeep}
 use Rattle.logged_journal.specs.declared.upkeep.Upkeep.TheVariants as upkeep
 use Rattle.logged_journal.specs.Opens.{OpensDuring}
 use Rattle.logged_journal.specs.View.{KeepsLog, LoggedView, history_of}
-use Rattle.logged_journal.specs.Calls.{IsOfJournal, IsGranted, IsPastLog, DoesCall, GoesOn, FailsCommit, DoesAbortStep, KeepsDisk}
+use Rattle.logged_journal.specs.Calls.{IsOfJournal, IsGranted, IsPastLog, DoesCall, GoesOn, OnlyForces, FailsCommit, DoesAbortStep, KeepsDisk}
 use Rattle.framed_journal.specs.Steps.{CollectsNext, CollectsOnFrames, FillsLog}
-use Rattle.latch_table.specs.Account.{Marks}
-use Rattle.latch_table.specs.Views.{KeepMarks, no_marks, story}
+use Rattle.latch_table.specs.Views.{KeepMarks, story}
 use Rattle.latch_table.specs.Holds.{HasNone, IsAlone, IsAnother}
 use Rattle.latch_table.specs.Rule.{IsLater, KeepsEachOnce}
-use Rattle.journal_chronicle.specs.Steps.{entered_by_abort_step, entered_by_collect_step, marked_by_collect_step, disk_mark, log_mark}
+use Rattle.journal_chronicle.specs.Steps.{Flags, entered_by_abort_step, entered_by_call, entered_by_collect_step, marked_by_collect_step, no_mark, disk_mark, log_mark}
 use Rattle.journal_chronicle.specs.View.{account, has_transaction, history_after, marks_of, notes_of, origin_of}
 use Rattle.shared_store.specs.declared.answers.StepRefusal.{StepRefusal}
 use Rattle.shared_store.specs.declared.answers.StepRefusal.TheVariants as step
@@ -117,9 +117,17 @@ pub record WasNoted {D : Type 0} (slots : ℕ) (v : LoggedView D) : Type 0 where
   pub led : AreLed slots (opening_of v.journal) v.journal.notes (core_of v.journal)
   pub history : history_after slots (origin_of v) (notes_of v) ≡ history_of v
 
--- the pass keeps the notes and the marks of this journal besides, and by the table's rule those are the store's
+-- the pass keeps the notes and the marks of this journal besides, and by the table's rule those are the store's: where the disk
+-- failed a call before, so is the count of faults that is kept
 abbrev pub Finds : {D : Type 0} {slots : ℕ} → Known slots → Known slots → LoggedView D → Type 0
 Finds old new before = new.knowledge.stories ≡ old.knowledge.stories ++ story (notes_of before) (marks_of before) ∷ []
+
+-- what the pass keeps besides is what the journal noted meanwhile: one note behind those that were found, at its place, where an
+-- entry was entered, and none else
+abbrev pub KeepsNoted : {D : Type 0} {slots : ℕ} → Known slots → Known slots → (before after : LoggedView D) → Option Entry → Type 0
+KeepsNoted old new before after (Some entry) =
+    (note : Note) × (notes_of after ≡ notes_of before ++ note ∷ []) × (new.knowledge.entries ≡ old.knowledge.entries ++ (length (notes_of before), note) ∷ [])
+KeepsNoted old new before after None = notes_of after ≡ notes_of before
 
 -- the journal does the call of this client and answers so
 pub record DoesCallOn {D : Type 0} (slots : ℕ) (faults : D → ℕ) (before after : LoggedView D) (client : ℕ) (c : TransactionCall) (result : Reply) : Type 0 where
@@ -137,11 +145,12 @@ pub record DoesCallOn {D : Type 0} (slots : ℕ) (faults : D → ℕ) (before af
   pub untouched : (c ≡ Commit → IsGranted before.journal client Commit → ⊥) → KeepsDisk before after
   pub fault : result ≡ reply.DiskFault → FailsCommit faults before after client c
   pub later : faults before.disk ≤ faults after.disk
+  pub count : result ≢ reply.DiskFault → faults after.disk ≡ faults before.disk
 
 -- The call was made on the store's journal as it was found, of which all holds that the pass knew, and this is what the journal
--- did. A pass that is alone keeps each note of it, once. Where the disk failed no call before, each image that a power loss
--- leaves meanwhile opens
-pub record MakesCall (D : Type 0) (slots : ℕ) (faults : D → ℕ) (moment : D → ℕ) (left_since : D → ℕ → Bytes → Type 0) (old new : Known slots) (c : TransactionCall) (result : Reply) : Type 0 where
+-- did. A pass that is alone keeps each note of it, once. No area of the disk changed but the log's. Where the disk failed no call
+-- before, each image that a power loss leaves meanwhile opens
+pub record MakesCall (D : Type 0) (slots : ℕ) (content : D → Area → Option (List ℕ)) (may_leave : D → Area → List ℕ → Type 0) (faults : D → ℕ) (moment : D → ℕ) (left_since : D → ℕ → Bytes → Type 0) (old new : Known slots) (c : TransactionCall) (result : Reply) : Type 0 where
   pub before : LoggedView D
   pub after : LoggedView D
   pub later : IsLater (account D slots) old before
@@ -150,7 +159,9 @@ pub record MakesCall (D : Type 0) (slots : ℕ) (faults : D → ℕ) (moment : D
   pub noted : WasNoted slots before
   -- the count that a failed call left is above that of the opening
   pub counted : IfSome before.failed (λ f. Rose before.opened f.faults)
+  pub kept : KeepsNoted old new before after (entered_by_call old.station.name c result)
   pub made : DoesCallOn slots faults before after old.station.name c result
+  pub areas : OnlyForces content may_leave before after c result
   pub opens : before.failed ≡ None → LeavesOnlyImages moment left_since before.disk after.disk (OpensDuring slots before old.station.name c)
 
 -- The page is one that the call needs, made on the store's journal as it was found: that of its object, of what the slot holds, or
@@ -169,9 +180,9 @@ abbrev pub entered_by_step : ℕ → Result AbortStep StepRefusal → Option Ent
 entered_by_step client (Ok s) = entered_by_abort_step client (Ok s)
 entered_by_step client (Err refusal) = None
 
-abbrev pub marked_by_step : Result AbortStep StepRefusal → Marks
+abbrev pub marked_by_step : Result AbortStep StepRefusal → Flags
 marked_by_step (Err (step.Stopped faults)) = disk_mark
-marked_by_step _ = no_marks
+marked_by_step _ = no_mark
 
 abbrev pub found_by_step : Result AbortStep StepRefusal → Option (ℕ × ℕ)
 found_by_step (Err (step.Again word seat)) = Some (word, seat)
@@ -195,24 +206,26 @@ pub record DoesStepOn {D : Type 0} (slots : ℕ) (before after : LoggedView D) (
   pub goes_on : IfOk result (λ _. GoesOn before after)
   pub untouched : KeepsDisk before after
 
--- The step was made on a journal of which all holds that the pass knew, and this is what the journal did. A pass that is alone
--- keeps each note of it, once
-pub record MakesStep (D : Type 0) (slots : ℕ) (old : Known slots) (result : Result AbortStep StepRefusal) : Type 0 where
+-- The step was made on the store's journal as it was found, of which all holds that the pass knew, and this is what the journal
+-- did. A pass that is alone keeps each note of it, once
+pub record MakesStep (D : Type 0) (slots : ℕ) (old new : Known slots) (result : Result AbortStep StepRefusal) : Type 0 where
   pub before : LoggedView D
   pub after : LoggedView D
   pub later : IsLater (account D slots) old before
   pub covered : IsAlone old → KeepsEachOnce (notes_of before) old.knowledge.entries
+  pub found : Finds old new before
+  pub kept : KeepsNoted old new before after (entered_by_step old.station.name result)
   pub made : DoesStepOn slots before after old.station.name result
 
 abbrev pub entered_by_collecting : Result Collect CollectRefusal → Option Entry
 entered_by_collecting (Ok s) = entered_by_collect_step (Ok s)
 entered_by_collecting (Err refusal) = None
 
-abbrev pub marked_by_collecting : Result Collect CollectRefusal → Marks
+abbrev pub marked_by_collecting : Result Collect CollectRefusal → Flags
 marked_by_collecting (Ok s) = marked_by_collect_step (Ok s)
 marked_by_collecting (Err (refusal.Stopped faults)) = disk_mark
 marked_by_collecting (Err refusal.LogFull) = log_mark
-marked_by_collecting (Err (refusal.Again word seat)) = no_marks
+marked_by_collecting (Err (refusal.Again word seat)) = no_mark
 
 abbrev pub found_by_collecting : Result Collect CollectRefusal → Option (ℕ × ℕ)
 found_by_collecting (Err (refusal.Again word seat)) = Some (word, seat)
@@ -239,11 +252,13 @@ pub record DoesCollectOn {D : Type 0} (slots : ℕ) (before after : LoggedView D
   pub goes_on : IfOk result (λ _. GoesOn before after)
   pub untouched : KeepsDisk before after
 
--- The event was made on a journal of which all holds that the pass knew, and this is what the journal did. A pass that is alone
--- keeps each note of it, once
-pub record MakesCollect (D : Type 0) (slots : ℕ) (old : Known slots) (result : Result Collect CollectRefusal) : Type 0 where
+-- The event was made on the store's journal as it was found, of which all holds that the pass knew, and this is what the journal
+-- did. A pass that is alone keeps each note of it, once
+pub record MakesCollect (D : Type 0) (slots : ℕ) (old new : Known slots) (result : Result Collect CollectRefusal) : Type 0 where
   pub before : LoggedView D
   pub after : LoggedView D
   pub later : IsLater (account D slots) old before
   pub covered : IsAlone old → KeepsEachOnce (notes_of before) old.knowledge.entries
+  pub found : Finds old new before
+  pub kept : KeepsNoted old new before after (entered_by_collecting result)
   pub made : DoesCollectOn slots before after result

@@ -1,5 +1,5 @@
 -- A pass as contracts see it, and what its fields keep.
-use Rattle.std.specs.Prelude.{◌≡◌, ℕ, ◌+◌, ◌*◌, ◌<◌, ◌≤◌, Bool, true, false, List, slice_index_or, Some, min}
+use Rattle.std.specs.Prelude.{◌≡◌, ℕ, ◌+◌, ◌*◌, ◌<◌, ◌≤◌, Bool, true, false, List, slice_index_or, Some, IsSome, min}
 use Rattle.atomic_table.specs.Seated.{TableId}
 use Rattle.cell_page.specs.Format.{IsSlotCount}
 use Rattle.core_store.specs.declared.note.Note.{Note}
@@ -37,7 +37,7 @@ joined_refusals a b = record { disk = both a.disk b.disk; trace = both a.trace b
 
 -- each count above 0 has its mark
 pub record AreMarked (r : Refused) (m : Marks) : Type 0 where
-  pub disk : 0 < r.disk → m.0 ≡ true
+  pub disk : 0 < r.disk → IsSome m.0
   pub trace : 0 < r.trace → m.1 ≡ true
   pub log : 0 < r.log → m.2 ≡ true
 

@@ -1,5 +1,5 @@
 -- What upkeep of a pass does: it cleans a page, or turns the log.
-use Rattle.std.specs.Prelude.{◌≡◌, ◌≢◌, ◌⊎◌, ◌↔◌, ℕ, ◌+◌, ◌<◌, ◌≤◌, true, false, List, [], ◌∷◌, Option, Some, None, Result, Ok, Err, IfSome, IsSome}
+use Rattle.std.specs.Prelude.{◌≡◌, ◌≢◌, ◌⊎◌, ◌↔◌, ℕ, ◌+◌, ◌*◌, ◌<◌, ◌≤◌, true, false, List, [], ◌∷◌, Option, Some, None, Result, Ok, Err, IfSome, IsSome}
 use Rattle.disk_model.specs.declared.area.Area.{Area}
 use Rattle.disk_model.specs.Areas.{Bytes}
 use Rattle.disk_model.specs.Time.{LeavesOnlyImages}
@@ -15,17 +15,15 @@ use Rattle.logged_journal.specs.declared.upkeep.Upkeep.{Upkeep}
 use Rattle.logged_journal.specs.declared.upkeep.Upkeep.TheVariants as upkeep
 use Rattle.logged_journal.specs.Opens.{OpensAfter}
 use Rattle.logged_journal.specs.View.{LoggedView, OnlyTakesRoom, bytes_counted, history_of}
-use Rattle.logged_journal.specs.Upkeep.{IsPastLogToClean, IsTurned, Turns, TellsBusy, FailsUpkeep}
-use Rattle.framed_journal.specs.Upkeep.{CleansPage}
-use Rattle.latch_table.specs.Account.{Marks}
+use Rattle.logged_journal.specs.Upkeep.{IsPastLogToClean, IsPastLogToTurn, IsTurned, Turns, TellsBusy, FailsUpkeep}
+use Rattle.framed_journal.specs.Upkeep.{CleansPage, ForcesPages}
 use Rattle.latch_table.specs.declared.hold.Held.{Held}
-use Rattle.latch_table.specs.Views.{no_marks}
 use Rattle.latch_table.specs.Holds.{IsAlone}
 use Rattle.latch_table.specs.Rule.{IsLater, KeepsEachOnce}
-use Rattle.journal_chronicle.specs.Steps.{entered_by_upkeep, marked_by_upkeep}
+use Rattle.journal_chronicle.specs.Steps.{Flags, no_mark, entered_by_upkeep, marked_by_upkeep}
 use Rattle.journal_chronicle.specs.View.{account, notes_of}
 use Rattle.shared_store.specs.declared.refused.Refused.{Refused}
-use Rattle.shared_store.specs.Calls.{Finds, refused_by_upkeep}
+use Rattle.shared_store.specs.Calls.{Finds, KeepsNoted, refused_by_upkeep}
 use Rattle.shared_store.specs.Passes.{Known}
 
 -- ---- answers
@@ -34,9 +32,9 @@ abbrev pub entered_by_upkeep_of : Result Upkeep Held → Option Entry
 entered_by_upkeep_of (Ok u) = entered_by_upkeep u
 entered_by_upkeep_of (Err h) = None
 
-abbrev pub marked_by_upkeep_of : Result Upkeep Held → Marks
+abbrev pub marked_by_upkeep_of : Result Upkeep Held → Flags
 marked_by_upkeep_of (Ok u) = marked_by_upkeep u
-marked_by_upkeep_of (Err h) = no_marks
+marked_by_upkeep_of (Err h) = no_mark
 
 abbrev pub found_by_upkeep : Result Upkeep Held → Option (ℕ × ℕ)
 found_by_upkeep (Ok u) = None
@@ -76,12 +74,14 @@ pub record MakesClean (D : Type 0) (slots : ℕ) (faults : D → ℕ) (may_leave
   pub later : IsLater (account D slots) old before
   pub covered : IsAlone old → KeepsEachOnce (notes_of before) old.knowledge.entries
   pub found : Finds old new before
+  pub kept : KeepsNoted old new before after (entered_by_upkeep result)
   pub made : DoesCleanOn slots faults may_leave before after page result
   pub opens : LeavesOnlyImages moment left_since before.disk after.disk (OpensAfter slots (history_of before))
 
--- the journal turns its log, or refuses to, and answers so; where it was done, each image of the disk has every page in place and
--- names the other log area
-pub record DoesTurnOn {D : Type 0} (slots : ℕ) (faults : D → ℕ) (may_leave : D → Area → List ℕ → Type 0) (before after : LoggedView D) (result : Upkeep) : Type 0 where
+-- The journal turns its log, or refuses to, and answers so. Where it was done, each image of the disk has every page in place and
+-- names the other log area, which has the first batch and nothing more; the log area that was in use has one batch more; and of
+-- the super area the first byte alone changed, as whatever is answered
+pub record DoesTurnOn {D : Type 0} (slots : ℕ) (faults : D → ℕ) (content : D → Area → Option (List ℕ)) (may_leave : D → Area → List ℕ → Type 0) (before after : LoggedView D) (result : Upkeep) : Type 0 where
   pub legal : IsLegal (history_of after)
   pub stopped : IfSome before.failed (λ f. (result ≡ upkeep.Stopped f.faults) × (after ≡ before))
   pub only_stopped : (n : ℕ) → result ≡ upkeep.Stopped n → IsSome before.failed
@@ -91,20 +91,25 @@ pub record DoesTurnOn {D : Type 0} (slots : ℕ) (faults : D → ℕ) (may_leave
   pub only_busy : (client : ℕ) → result ≡ upkeep.Busy client → least_active (end_of before.journal.history).state ≡ Some client
   pub told : (client : ℕ) → result ≡ upkeep.Busy client → TellsBusy slots before after client
   pub log_full : result ≡ upkeep.LogFull → before.journal.limits.log < bytes_counted before
+  pub too_long : result ≡ upkeep.LogFull → IsPastLogToTurn slots before
+  pub only_too_long : IsPastLogToTurn slots before → (result ≡ upkeep.LogFull) ⊎ (result ≡ upkeep.Memory)
   pub log_marked : result ≡ upkeep.LogFull → OnlyTakesRoom (record before { log_full = true }) after
   pub memory : result ≡ upkeep.Memory → OnlyTakesRoom before after
   pub done : result ≡ upkeep.Done → Turns slots before after
   pub turned : result ≡ upkeep.Done → EachImage may_leave after.disk (IsTurned slots (cells_of before.journal) (other_log before.log.area))
+  pub old_log : result ≡ upkeep.Done → ForcesPages slots content before after
   pub fault : result ≡ upkeep.DiskFault → FailsUpkeep faults before after
   pub later : faults before.disk ≤ faults after.disk
+  pub count : result ≢ upkeep.DiskFault → faults after.disk ≡ faults before.disk
 
 -- The log was turned on a journal of which all holds that the pass knew, and this is what the journal did. A pass that is alone
 -- keeps each note of it, once. Each image that a power loss leaves meanwhile opens
-pub record MakesTurn (D : Type 0) (slots : ℕ) (faults : D → ℕ) (may_leave : D → Area → List ℕ → Type 0) (moment : D → ℕ) (left_since : D → ℕ → Bytes → Type 0) (old new : Known slots) (result : Upkeep) : Type 0 where
+pub record MakesTurn (D : Type 0) (slots : ℕ) (faults : D → ℕ) (content : D → Area → Option (List ℕ)) (may_leave : D → Area → List ℕ → Type 0) (moment : D → ℕ) (left_since : D → ℕ → Bytes → Type 0) (old new : Known slots) (result : Upkeep) : Type 0 where
   pub before : LoggedView D
   pub after : LoggedView D
   pub later : IsLater (account D slots) old before
   pub covered : IsAlone old → KeepsEachOnce (notes_of before) old.knowledge.entries
   pub found : Finds old new before
-  pub made : DoesTurnOn slots faults may_leave before after result
+  pub kept : KeepsNoted old new before after (entered_by_upkeep result)
+  pub made : DoesTurnOn slots faults content may_leave before after result
   pub opens : LeavesOnlyImages moment left_since before.disk after.disk (OpensAfter slots (history_of before))

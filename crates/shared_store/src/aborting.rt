@@ -102,7 +102,7 @@ impl<const SLOTS: usize, D: Disk> Store<SLOTS, D> {
         ensures of { pass.new.table ≡ self.now.table }
         ensures knows { GoesOnAs pass.old.view pass.new.view (entered_by_step pass.old.view.station.name result) (found_by_step result) }
         ensures refused { pass.new.refused ≡ refused_by_step result pass.old.refused }
-        ensures made { found_by_step result ≡ None → MakesStep D SLOTS pass.old.view result }
+        ensures made { found_by_step result ≡ None → MakesStep D SLOTS pass.old.view pass.new.view result }
     {
         let mut journal = match self.latches.claim_log(&mut pass.hold) {
             Ok(journal) => journal,

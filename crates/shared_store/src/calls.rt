@@ -5,6 +5,7 @@ ghost use Rattle.disk_model.specs.Time.{LeavesOnlyImages};
 ghost use Rattle.plain_model.specs.Machine.{IsInRange};
 ghost use Rattle.core_store.specs.Limited.{pages_for_call};
 ghost use Rattle.logged_journal.specs.Opens.{OpensDuring};
+ghost use Rattle.logged_journal.specs.Calls.{OnlyForces};
 ghost use Rattle.journal_chronicle.specs.Clients.{begins_or_ends};
 ghost use Rattle.journal_chronicle.specs.Steps.{entered_by_call, marked_by_call};
 ghost use Rattle.journal_chronicle.specs.View.{has_transaction, notes_of};
@@ -92,6 +93,7 @@ impl<const SLOTS: usize, D: Disk> Store<SLOTS, D> {
         ensures noted { WasNoted SLOTS journal.old }
         ensures counted { IfSome journal.old.failed (λ f. Rose journal.old.opened f.faults) }
         ensures made { found_by_call result ≡ None → DoesCallOn SLOTS D.faults journal.old journal.new client call.now result }
+        ensures areas { found_by_call result ≡ None → OnlyForces D.content D.may_leave journal.old journal.new call.now result }
         ensures opens { journal.old.failed ≡ None → found_by_call result ≡ None → LeavesOnlyImages D.moment D.left_since journal.old.disk journal.new.disk (OpensDuring SLOTS journal.old client call.now) }
         ensures again { (word seat : ℕ) → result ≡ Reply.Again word seat → (journal.old.failed ≡ None) × Contains (pages_for_call journal.old.journal client call.now) word }
     {
@@ -126,7 +128,7 @@ impl<const SLOTS: usize, D: Disk> Store<SLOTS, D> {
         ensures of { pass.new.table ≡ self.now.table }
         ensures knows { GoesOnAs pass.old.view pass.new.view (entered_by_call pass.old.view.station.name call.now result) (found_by_call result) }
         ensures refused { pass.new.refused ≡ refused_by_call result pass.old.refused }
-        ensures made { found_by_call result ≡ None → MakesCall D SLOTS D.faults D.moment D.left_since pass.old.view pass.new.view call.now result }
+        ensures made { found_by_call result ≡ None → MakesCall D SLOTS D.content D.may_leave D.faults D.moment D.left_since pass.old.view pass.new.view call.now result }
         ensures again { (word seat : ℕ) → result ≡ Reply.Again word seat → (word ≡ self.now.pages) ⊎ NeedsPage D SLOTS pass.old.view pass.new.view call.now word }
     {
         let mut journal = match self.latches.claim_log(&mut pass.hold) {

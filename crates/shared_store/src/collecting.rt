@@ -1,5 +1,5 @@
 //! Steps of the collector.
-ghost use Rattle.std.specs.Prelude.{◌≡◌, ◌↔◌, [], true, None, IsSome};
+ghost use Rattle.std.specs.Prelude.{◌≡◌, ◌≢◌, ◌↔◌, ℕ, [], ◌∷◌, ◌++◌, true, None, IsSome};
 ghost use Rattle.shared_store.specs.Acts.{Acts};
 ghost use Rattle.shared_store.specs.Calls.{GoesOnAs, DoesCollectOn, MakesCollect, entered_by_collecting, marked_by_collecting, found_by_collecting, refused_by_collecting};
 ghost use Rattle.shared_store.specs.Holding.{HasJournal};
@@ -9,7 +9,7 @@ use crate::counting::{count_disk, count_log, count_trace};
 use crate::pass::Pass;
 use crate::refused::Refused;
 use crate::store::Store;
-use core_store::{Collect, Frame, Three};
+use core_store::{Act, Collect, Frame, Note, Three};
 use disk_model::Disk;
 use journal_chronicle::JournalChronicle;
 use latch_table::{Held, Hold};
@@ -89,7 +89,10 @@ impl<const SLOTS: usize, D: Disk> Store<SLOTS, D> {
         ensures of { pass.new.table ≡ self.now.table }
         ensures knows { GoesOnAs pass.old.view pass.new.view (entered_by_collecting result) (found_by_collecting result) }
         ensures refused { pass.new.refused ≡ refused_by_collecting result pass.old.refused }
-        ensures made { found_by_collecting result ≡ None → MakesCollect D SLOTS pass.old.view result }
+        ensures made { found_by_collecting result ≡ None → MakesCollect D SLOTS pass.old.view pass.new.view result }
+
+        // What the pass keeps besides is a note of one of the collector's events.
+        ensures act { (kept : ℕ × Note) → pass.new.view.knowledge.entries ≡ pass.old.view.knowledge.entries ++ kept ∷ [] → kept.1.act ≢ Act.Other }
     {
         let mut journal = match self.latches.claim_log(&mut pass.hold) {
             Ok(journal) => journal,

@@ -5,9 +5,9 @@ ghost use Rattle.core_store.specs.JournalView.{cells_of};
 ghost use Rattle.core_store.specs.Logged.{want_of};
 ghost use Rattle.core_store.specs.Steppings.{IsReadyForCollector, OnlyLooks};
 ghost use Rattle.core_store.specs.Work.{IsWorkIn, pages_of_work};
-ghost use Rattle.latch_table.specs.Views.{met, no_marks, page_claimed};
+ghost use Rattle.latch_table.specs.Views.{met, page_claimed};
 ghost use Rattle.latch_table.specs.Holds.{IsAnother};
-ghost use Rattle.journal_chronicle.specs.Steps.{GoesOnWith, no_page};
+ghost use Rattle.journal_chronicle.specs.Steps.{GoesOnWith, no_mark, no_page};
 ghost use Rattle.framed_journal.specs.Holding.{AreHeldOf};
 ghost use Rattle.shared_store.specs.Acts.{Takes};
 ghost use Rattle.shared_store.specs.Holding.{HasJournal, pairs_of, with_pages};
@@ -88,7 +88,7 @@ impl<const SLOTS: usize, D: Disk> Store<SLOTS, D> {
         ensures ready { IfOk result (λ _. IsReadyForCollector journal.new.journal held.new) }
         ensures looks { OnlyLooks SLOTS journal.old.journal journal.new.journal }
         ensures same { journal.new ≡ record journal.old { journal = journal.new.journal } }
-        ensures chronicle { GoesOnWith SLOTS no_page journal.old journal.new None no_marks }
+        ensures chronicle { GoesOnWith SLOTS no_page journal.old journal.new None no_mark }
         ensures ok { IfOk result (λ _. Takes hold.old.view hold.new.view (pairs_of held.new) None) }
         ensures met { IfErr result (λ h. IsAnother hold.old.view h.seat × Takes hold.old.view hold.new.view (pairs_of held.new) (Some (h.word, h.seat))) }
     {

@@ -6,7 +6,7 @@ ghost use Rattle.plain_model.specs.History.{end_of};
 ghost use Rattle.logged_journal.specs.View.{KeepsLog};
 ghost use Rattle.logged_journal.specs.Records.{MayHave};
 ghost use Rattle.logged_journal.specs.Opens.{OpensDuring};
-ghost use Rattle.logged_journal.specs.Calls.{IsOfJournal, IsGranted, IsPastLog, DoesCall, KeepsDisk, GoesOn, FailsCommit, DoesAbortStep};
+ghost use Rattle.logged_journal.specs.Calls.{IsOfJournal, IsGranted, IsPastLog, DoesCall, KeepsDisk, GoesOn, OnlyForces, FailsCommit, DoesAbortStep};
 ghost use Rattle.framed_journal.specs.Steps.{CollectsNext, CollectsOnFrames, FillsLog};
 
 use crate::lone::LoneStore;
@@ -44,6 +44,10 @@ impl<const SLOTS: usize, D: Disk> LoneStore<SLOTS, D> {
         ensures untouched { (call.now ≡ Call.Commit → IsGranted self.old.journal client Call.Commit → ⊥) → KeepsDisk self.old self.new }
         ensures fault { result ≡ Reply.DiskFault → FailsCommit D.faults self.old self.new client call.now }
         ensures later { D.faults self.old.disk ≤ D.faults self.new.disk }
+        ensures count { result ≢ Reply.DiskFault → D.faults self.new.disk ≡ D.faults self.old.disk }
+
+        // No area but the log's changes; a commit that was done adds one batch to it, of the tail and the commit's own record.
+        ensures areas { OnlyForces D.content D.may_leave self.old self.new call.now result }
 
         // At each moment of the call a power loss leaves a log of what was there for good before, or, where it is a commit,
         // of all that was done and this commit.

@@ -84,7 +84,7 @@ impl<const SLOTS: usize, D: Disk> LoneStore<SLOTS, D> {
     /// Turns the log, where the store has more than three pages.
     fn turn_of_many(&mut self) -> Upkeep
         requires many { 24 < self.old.journal.history.ids }
-        ensures does { DoesTurnOn SLOTS D.faults D.may_leave self.old self.new result }
+        ensures does { DoesTurnOn SLOTS D.faults D.content D.may_leave self.old self.new result }
         ensures moments { LeavesOnlyImages D.moment D.left_since self.old.disk self.new.disk (MayHaveAll self.old) }
         ensures opens { LeavesOnlyImages D.moment D.left_since self.old.disk self.new.disk (OpensAfter SLOTS (history_of self.old)) }
     {
@@ -105,7 +105,7 @@ impl<const SLOTS: usize, D: Disk> LoneStore<SLOTS, D> {
     /// Turns the log, where the store has three pages at most. Their words are given back for that long.
     fn turn_of_few(&mut self, alloc: Global) -> Upkeep
         requires few { self.old.journal.history.ids ≤ 24 }
-        ensures does { DoesTurnOn SLOTS D.faults D.may_leave self.old self.new result }
+        ensures does { DoesTurnOn SLOTS D.faults D.content D.may_leave self.old self.new result }
         ensures moments { LeavesOnlyImages D.moment D.left_since self.old.disk self.new.disk (MayHaveAll self.old) }
         ensures opens { LeavesOnlyImages D.moment D.left_since self.old.disk self.new.disk (OpensAfter SLOTS (history_of self.old)) }
     {
@@ -125,7 +125,7 @@ impl<const SLOTS: usize, D: Disk> LoneStore<SLOTS, D> {
     /// a journal with its frames does. In a store of at most three pages it takes memory for their frames, and the page words are
     /// given back for that long.
     pub fn turn(&mut self, alloc: Global) -> Upkeep
-        ensures does { DoesTurnOn SLOTS D.faults D.may_leave self.old self.new result }
+        ensures does { DoesTurnOn SLOTS D.faults D.content D.may_leave self.old self.new result }
 
         // At each moment of the call a power loss leaves a log of what was there for good before, or of all that was done. So
         // at each of them the store opens, to a graph that a crash before the call may leave.

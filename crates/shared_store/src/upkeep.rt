@@ -189,7 +189,7 @@ impl<const SLOTS: usize, D: Disk> Store<SLOTS, D> {
         requires none { hold.old.view.hands.pages ≡ [] }
         ensures of { hold.new.table ≡ self.now.table }
         ensures acts { Acts SLOTS hold.old.view hold.new.view journal.old journal.new [] (entered_by_upkeep_of result) (marked_by_upkeep_of result) (found_by_upkeep result) }
-        ensures made { IfOk result (λ u. DoesTurnOn SLOTS D.faults D.may_leave journal.old journal.new u) }
+        ensures made { IfOk result (λ u. DoesTurnOn SLOTS D.faults D.content D.may_leave journal.old journal.new u) }
         ensures moments { IfOk result (λ _. LeavesOnlyImages D.moment D.left_since journal.old.disk journal.new.disk (MayHaveAll journal.old)) }
         ensures opens { IfOk result (λ _. LeavesOnlyImages D.moment D.left_since journal.old.disk journal.new.disk (OpensAfter SLOTS (history_of journal.old))) }
     {
@@ -222,7 +222,7 @@ impl<const SLOTS: usize, D: Disk> Store<SLOTS, D> {
         ensures of { pass.new.table ≡ self.now.table }
         ensures knows { GoesOnAs pass.old.view pass.new.view (entered_by_upkeep_of result) (found_by_upkeep result) }
         ensures refused { pass.new.refused ≡ refused_by_upkeep_of result pass.old.refused }
-        ensures made { IfOk result (λ u. MakesTurn D SLOTS D.faults D.may_leave D.moment D.left_since pass.old.view pass.new.view u) }
+        ensures made { IfOk result (λ u. MakesTurn D SLOTS D.faults D.content D.may_leave D.moment D.left_since pass.old.view pass.new.view u) }
     {
         let mut journal = match self.latches.claim_log(&mut pass.hold) {
             Ok(journal) => journal,

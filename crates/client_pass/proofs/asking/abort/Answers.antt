@@ -46,7 +46,7 @@ returns-in-Err-Stopped-clause-err g c =
     let i = c.steps.invariant in
     let more = step-stopped c.steps.pass.view c.abort_step.new.pass.view c.abort_step.result c.in-Err-Stopped.field-0 c.in-Err-Stopped.faults c.in-Err-Stopped.is c.in-Err-Stopped.field-0-is c.abort_step.ensures.knows in
     let none = undos-behind c.args.pass.now.view c.steps.pass.view c.abort_step.new.pass.view i.3 more in
-    (none, stopped-ends g.row.D.Denot g.D.Disk.faults g.D.Disk.moment g.D.Disk.left_since c.steps.pass.view c.abort_step.new.pass.view c.abort_step.result c.in-Err-Stopped.field-0 c.in-Err-Stopped.faults c.in-Err-Stopped.is c.in-Err-Stopped.field-0-is c.abort_step.ensures.knows c.abort_step.ensures.made)
+    (none, stopped-ends g.row.D.Denot g.D.Disk.content g.D.Disk.may_leave g.D.Disk.faults g.D.Disk.moment g.D.Disk.left_since c.steps.pass.view c.abort_step.new.pass.view c.abort_step.result c.in-Err-Stopped.field-0 c.in-Err-Stopped.faults c.in-Err-Stopped.is c.in-Err-Stopped.field-0-is c.abort_step.ensures.knows c.abort_step.ensures.made)
 
 pub returns-in-Err-Stopped-clause-refused : goal.returns-in-Err-Stopped-clause-refused
 returns-in-Err-Stopped-clause-refused g c =

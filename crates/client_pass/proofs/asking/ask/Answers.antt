@@ -33,5 +33,5 @@ returns-in_default g c =
     let none = unfound c.call.result (λ word seat e. c.in_default.not-Again word seat e) in
     let now = asked c.tries.pass.view c.call.new.pass.view c.args.call.now c.call.result c.told.result c.tries.pass.refused c.call.new.pass.refused none c.told.ensures.ok c.told.ensures.err c.call.ensures.knows c.call.ensures.refused in
     let all = asked-behind c.args.pass.now.view c.tries.pass.view c.call.new.pass.view c.args.call.now c.told.result c.tries.pass.refused c.call.new.pass.refused i.3 now in
-    let told = told-ends g.row.D.Denot g.D.Disk.faults g.D.Disk.moment g.D.Disk.left_since c.args.pass.now.view c.tries.pass.view c.call.new.pass.view c.args.call.now c.call.result c.told.result c.told.ensures.err c.call.ensures.knows (c.call.ensures.made none) all.err in
+    let told = told-ends g.row.D.Denot g.D.Disk.content g.D.Disk.may_leave g.D.Disk.faults g.D.Disk.moment g.D.Disk.left_since c.args.pass.now.view c.tries.pass.view c.call.new.pass.view c.args.call.now c.call.result c.told.result c.told.ensures.err c.call.ensures.knows (c.call.ensures.made none) all.err in
     record { of = c.call.ensures.of; ok = all.ok; err = told; refused = all.refused ∙ ap (refused_after c.told.result) i.4 }

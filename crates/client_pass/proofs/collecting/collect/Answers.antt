@@ -5,22 +5,22 @@ use Rattle.client_pass.proofs.Events.{collects-step, did-longer, deleted-longer,
 use Rattle.client_pass.proofs.collecting.collect.Goals as goal
 
 pub returns-in-Ok-Did-clause-collects : goal.returns-in-Ok-Did-clause-collects
-returns-in-Ok-Did-clause-collects g c = collects-step c.args.main.now.view c.collect_step.new.pass.view c.collect_step.result c.collect_step.ensures.knows
+returns-in-Ok-Did-clause-collects g c = collects-step c.args.main.now.view c.collect_step.new.pass.view c.collect_step.result c.collect_step.ensures.knows c.collect_step.ensures.act
 
 pub returns-in-Ok-Idle-clause-collects : goal.returns-in-Ok-Idle-clause-collects
-returns-in-Ok-Idle-clause-collects g c = collects-step c.args.main.now.view c.collect_step.new.pass.view c.collect_step.result c.collect_step.ensures.knows
+returns-in-Ok-Idle-clause-collects g c = collects-step c.args.main.now.view c.collect_step.new.pass.view c.collect_step.result c.collect_step.ensures.knows c.collect_step.ensures.act
 
 pub returns-in-Ok-TraceFull-clause-collects : goal.returns-in-Ok-TraceFull-clause-collects
-returns-in-Ok-TraceFull-clause-collects g c = collects-step c.args.main.now.view c.collect_step.new.pass.view c.collect_step.result c.collect_step.ensures.knows
+returns-in-Ok-TraceFull-clause-collects g c = collects-step c.args.main.now.view c.collect_step.new.pass.view c.collect_step.result c.collect_step.ensures.knows c.collect_step.ensures.act
 
 pub returns-in-Ok-Memory-clause-collects : goal.returns-in-Ok-Memory-clause-collects
-returns-in-Ok-Memory-clause-collects g c = collects-step c.args.main.now.view c.collect_step.new.pass.view c.collect_step.result c.collect_step.ensures.knows
+returns-in-Ok-Memory-clause-collects g c = collects-step c.args.main.now.view c.collect_step.new.pass.view c.collect_step.result c.collect_step.ensures.knows c.collect_step.ensures.act
 
 pub returns-in-Err-Stopped-clause-collects : goal.returns-in-Err-Stopped-clause-collects
-returns-in-Err-Stopped-clause-collects g c = collects-step c.args.main.now.view c.collect_step.new.pass.view c.collect_step.result c.collect_step.ensures.knows
+returns-in-Err-Stopped-clause-collects g c = collects-step c.args.main.now.view c.collect_step.new.pass.view c.collect_step.result c.collect_step.ensures.knows c.collect_step.ensures.act
 
 pub returns-in-Err-LogFull-clause-collects : goal.returns-in-Err-LogFull-clause-collects
-returns-in-Err-LogFull-clause-collects g c = collects-step c.args.main.now.view c.collect_step.new.pass.view c.collect_step.result c.collect_step.ensures.knows
+returns-in-Err-LogFull-clause-collects g c = collects-step c.args.main.now.view c.collect_step.new.pass.view c.collect_step.result c.collect_step.ensures.knows c.collect_step.ensures.act
 
 pub returns-in-Ok-TraceFull-clause-err : goal.returns-in-Ok-TraceFull-clause-err
 returns-in-Ok-TraceFull-clause-err g c =
@@ -47,7 +47,7 @@ returns-in-Ok-Did-clause-longer g c told =
     did-longer c.args.main.now.view c.collect_step.new.pass.view c.collect_step.result c.in-Ok-Did.field-0 _ _ c.in-Ok-Did.is c.in-Ok-Did.field-0-is c.collect_step.ensures.knows
 
 pub returns-in-Ok-Deleted-clause-collects : goal.returns-in-Ok-Deleted-clause-collects
-returns-in-Ok-Deleted-clause-collects g c = collects-step c.args.main.now.view c.collect_step.new.pass.view c.collect_step.result c.collect_step.ensures.knows
+returns-in-Ok-Deleted-clause-collects g c = collects-step c.args.main.now.view c.collect_step.new.pass.view c.collect_step.result c.collect_step.ensures.knows c.collect_step.ensures.act
 
 pub returns-in-Ok-Deleted-clause-longer : goal.returns-in-Ok-Deleted-clause-longer
 returns-in-Ok-Deleted-clause-longer g c told =
@@ -59,3 +59,6 @@ returns-in-Err-Again-clause-never_again g c alone told = alone-never c.args.main
 pub returns-in-Ok-Idle-clause-idle : goal.returns-in-Ok-Idle-clause-idle
 returns-in-Ok-Idle-clause-idle g c told =
     idle-collected g.row.D.Denot c.args.main.now.view c.collect_step.new.pass.view c.collect_step.result c.in-Ok-Idle.field-0 c.in-Ok-Idle.is c.in-Ok-Idle.field-0-is c.collect_step.ensures.knows c.collect_step.ensures.made
+
+pub returns-in-Err-Again-clause-collects : goal.returns-in-Err-Again-clause-collects
+returns-in-Err-Again-clause-collects g c = collects-step c.args.main.now.view c.collect_step.new.pass.view c.collect_step.result c.collect_step.ensures.knows c.collect_step.ensures.act

@@ -26,12 +26,12 @@ run_beside-returns-clause-runs g t c =
 pub run_beside-returns-clause-end : goal.run_beside-returns-clause-end
 run_beside-returns-clause-end g t c =
     let views = c.share-pass.ensures.views in
-    ends-joined g.row.D.Denot g.D.Disk.faults g.D.Disk.moment g.D.Disk.left_since c.args.main.now.view c.share-pass.new.main.view c.share-pass.result.view c.run_first-rest.new.pass.view c.in-Some.script.now.pass
+    ends-joined g.row.D.Denot g.D.Disk.content g.D.Disk.may_leave g.D.Disk.faults g.D.Disk.moment g.D.Disk.left_since c.args.main.now.view c.share-pass.new.main.view c.share-pass.result.view c.run_first-rest.new.pass.view c.in-Some.script.now.pass
     c.run_first-rest.result.1 c.run_first-rest.result.0 c.with.result views.0 views.1 c.run_first-rest.ensures.does.keeps.fixed c.run_first-rest.ensures.ends.1 c.run_first-rest.ensures.ends.0 c.with.ensures.one
 
 pub run_beside-returns-in_default-clause-end : goal.run_beside-returns-in_default-clause-end
 run_beside-returns-in_default-clause-end g t c =
-    λ ne. ends-collecting g.row.D.Denot g.D.Disk.faults g.D.Disk.moment g.D.Disk.left_since c.args.main.now.view c.collect_beside.new.main.view c.collect_beside.result c.collect_beside.ensures.collects.keeps.fixed (c.collect_beside.ensures.end ne)
+    λ ne. ends-collecting g.row.D.Denot g.D.Disk.content g.D.Disk.may_leave g.D.Disk.faults g.D.Disk.moment g.D.Disk.left_since c.args.main.now.view c.collect_beside.new.main.view c.collect_beside.result c.collect_beside.ensures.collects.keeps.fixed (c.collect_beside.ensures.end ne)
 
 pub run_beside-returns-clause-refused : goal.run_beside-returns-clause-refused
 run_beside-returns-clause-refused g t c =

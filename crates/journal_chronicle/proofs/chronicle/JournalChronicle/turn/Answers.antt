@@ -1,4 +1,4 @@
-use Rattle.std.proofs.Common.{◌≡◌, ◌≢◌, ◌⊎◌, ◌≤◌, subst, rules, sym, ◌∙◌}
+use Rattle.std.proofs.Common.{◌≡◌, ◌≢◌, ◌⊎◌, ◌≤◌, length, subst, rules, sym, ◌∙◌}
 use Rattle.logged_journal.specs.declared.upkeep.Upkeep.TheVariants.{Done, LogFull, Memory, DiskFault}
 use Rattle.logged_journal.specs.View.{LoggedView}
 use Rattle.logged_journal.specs.Checkpoints.{ForcesImages}

@@ -65,3 +65,9 @@ returns-clause-fault g c = λ e. rw (← c.self.view_is) (c.apply-reply.ensures.
 
 pub returns-clause-opens : goal.returns-clause-opens
 returns-clause-opens g c = rw (← c.self.view_is) c.apply-reply.ensures.opens
+
+pub returns-clause-areas : goal.returns-clause-areas
+returns-clause-areas g c = rw (← c.self.view_is) c.apply-reply.ensures.areas
+
+pub returns-clause-count : goal.returns-clause-count
+returns-clause-count g c = rw (← c.self.view_is) c.apply-reply.ensures.count

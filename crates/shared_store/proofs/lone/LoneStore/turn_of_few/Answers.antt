@@ -53,7 +53,7 @@ invariant_of-self g c =
 
 pub returns-clause-does : goal.returns-clause-does
 returns-clause-does g c =
-    subst (λ (v : LoggedView g.row.D.Denot). DoesTurnOn g.row.SLOTS g.D.Disk.faults g.D.Disk.may_leave v c.act_turn-answer.new.journal c.in-Ok.answer) c.self.view_is c.in-Ok.ensures.made
+    subst (λ (v : LoggedView g.row.D.Denot). DoesTurnOn g.row.SLOTS g.D.Disk.faults g.D.Disk.content g.D.Disk.may_leave v c.act_turn-answer.new.journal c.in-Ok.answer) c.self.view_is c.in-Ok.ensures.made
 
 pub returns-clause-moments : goal.returns-clause-moments
 returns-clause-moments g c =

@@ -1,4 +1,4 @@
-use Rattle.std.proofs.Common.{◌≤◌, ◌<◌, refl, sym, subst, arith, rules}
+use Rattle.std.proofs.Common.{ℕ, ◌≤◌, ◌<◌, refl, sym, subst, arith, rules}
 use Rattle.core_store.proofs.MapLaws.{none_from}
 use Rattle.disk_model.specs.Time.{LeavesOnlyImages}
 use Rattle.logged_journal.specs.Opens.{OpensAfter}
@@ -73,7 +73,9 @@ invariant_of-self g c =
 pub returns-clause-does : goal.returns-clause-does
 returns-clause-does g c =
     let e = c.turn-answer.ensures in
-    subst (λ (v : LoggedView g.row.D.Denot). DoesTurnOn g.row.SLOTS g.D.Disk.faults g.D.Disk.may_leave v c.turn-answer.new.self c.turn-answer.result) c.self.view_is
+    let all = lone-frames g.row.SLOTS c.self.inside.store c.self.inside.hold c.self.inside.journal c.self.inside.held c.in-Some.frames.now c.logged.ensures.slots c.self.invariant c.in-Some.ensures.all in
+    let pages = all.pages in
+    subst (λ (v : LoggedView g.row.D.Denot). DoesTurnOn g.row.SLOTS g.D.Disk.faults g.D.Disk.content g.D.Disk.may_leave v c.turn-answer.new.self c.turn-answer.result) c.self.view_is
     (record {
       legal = c.know_history.ensures.legal;
       stopped = e.stopped;
@@ -84,12 +86,16 @@ returns-clause-does g c =
       only_busy = e.only_busy;
       told = e.told;
       log_full = e.log_full;
+      too_long = e.too_long;
+      only_too_long = e.only_too_long;
       log_marked = e.log_marked;
       memory = e.memory;
       done = e.done;
       turned = e.turned;
+      old_log = λ done. record { frames = c.in-Some.frames.now; pages = all.pages; agree = all.agree; forced = e.old_log done };
       fault = e.fault;
       later = e.later;
+      count = e.count;
     })
 
 pub returns-clause-moments : goal.returns-clause-moments

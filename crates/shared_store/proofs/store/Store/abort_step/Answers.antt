@@ -1,10 +1,11 @@
 use Rattle.std.proofs.Common.{◌≡◌, ◌≤◌, ℕ, ◌+◌, Err, sym, ap, subst, ◌∙◌, rules}
 use Rattle.latch_table.specs.Views.{joined_marks, met}
 use Rattle.framed_journal.proofs.HoldLaws.{slots-few}
+use Rattle.journal_chronicle.specs.Steps.{marks_with, count_kept}
 use Rattle.journal_chronicle.specs.View.{has_transaction, marks_of, notes_of}
 use Rattle.shared_store.specs.declared.refused.Refused.{Refused}
 use Rattle.shared_store.specs.Passes.{Known, AreMarked}
-use Rattle.shared_store.specs.Calls.{GoesOnAs, DoesStepOn, MakesStep, entered_by_step, marked_by_step, found_by_step, refused_by_step}
+use Rattle.shared_store.specs.Calls.{GoesOnAs, DoesStepOn, KeepsNoted, MakesStep, entered_by_step, marked_by_step, found_by_step, refused_by_step}
 use Rattle.shared_store.proofs.Acting.{acts-seen, has-journal}
 use Rattle.shared_store.proofs.Passing.{IsDone, done-comes, done-pass, met-pass}
 use Rattle.shared_store.proofs.Steps.{again-stepped, again-unrefused, again-met, step-drop, marked-step, txn-step}
@@ -129,8 +130,8 @@ invariant_of-pass-2 g c =
     c.in-Ok.journal c.act_abort_step-step.new.journal (entered_by_step c.pass.inside.number r) (marked_by_step r) (found_by_step r) c.has_after-pass-inside.result c.finish-pass-inside.result c.count_step.new.refused d
     (λ goes. txn-step c.pass.inside.hold.view c.finish-pass-inside.new.hold.view c.pass.inside.number r (found_by_step r) c.pass.inside.has_txn c.has_after-pass-inside.result p.number_is p.txn_is c.has_after-pass-inside.ensures goes)
     c.finish-pass-inside.ensures.seen
-    (subst (λ (x : Refused). AreMarked x (joined_marks c.pass.inside.hold.view.knowledge.marks (joined_marks (marks_of c.in-Ok.journal) (marked_by_step r)))) (sym c.count_step.ensures)
-    (marked-step c.pass.inside.refused c.pass.inside.hold.view.knowledge.marks (marks_of c.in-Ok.journal) p.marked r))
+    (subst (λ (x : Refused). AreMarked x (joined_marks c.pass.inside.hold.view.knowledge.marks (joined_marks (marks_of c.in-Ok.journal) (marks_with (marked_by_step r) (count_kept c.act_abort_step-step.new.journal))))) (sym c.count_step.ensures)
+    (marked-step c.pass.inside.refused (count_kept c.act_abort_step-step.new.journal) c.pass.inside.hold.view.knowledge.marks (marks_of c.in-Ok.journal) p.marked r))
 
 pub returns-clause-knows : goal.returns-clause-knows
 returns-clause-knows g c =
@@ -160,11 +161,27 @@ pub returns-clause-made : goal.returns-clause-made
 returns-clause-made g c = λ none.
     let r = c.act_abort_step-step.result in
     let is : c.pass.inside.hold.view ≡ c.args.pass.now.view = ap (λ z. z.view) c.pass.view_is in
-    subst (λ (v : Known g.row.SLOTS). MakesStep g.row.D.Denot g.row.SLOTS v r) is
+    let d : IsDone g.row.SLOTS c.pass.inside.hold.view c.finish-pass-inside.new.hold.view c.in-Ok.journal c.act_abort_step-step.new.journal (entered_by_step c.pass.inside.number r) (marked_by_step r) (found_by_step r)
+    = record {
+      claimed = c.claim_log.new.hold.view;
+      worked = c.act_abort_step-step.new.hold.view;
+      held = c.act_abort_step-step.new.held;
+      tells = c.is_entered-entered.result;
+      claim = c.in-Ok.ensures.ok.0;
+      later = c.in-Ok.ensures.ok.1;
+      acts = c.act_abort_step-step.ensures.acts;
+      iff = c.is_entered-entered.ensures c.pass.inside.number;
+      told = c.finish-pass-inside.ensures.told;
+      same = c.finish-pass-inside.ensures.same;
+    } in
+    let comes = done-comes g.row.SLOTS c.pass.inside.hold.view c.finish-pass-inside.new.hold.view c.in-Ok.journal c.act_abort_step-step.new.journal (entered_by_step c.pass.inside.number r) (marked_by_step r) (found_by_step r) d in
+    subst (λ (v : Known g.row.SLOTS). MakesStep g.row.D.Denot g.row.SLOTS v c.finish-pass-inside.new.hold.view r) is
     (record {
       before = c.in-Ok.journal;
       after = c.act_abort_step-step.new.journal;
       later = c.in-Ok.ensures.ok.1;
       covered = c.in-Ok.ensures.once;
+      found = comes.stories;
+      kept = subst (λ (n : ℕ). KeepsNoted c.pass.inside.hold.view c.finish-pass-inside.new.hold.view c.in-Ok.journal c.act_abort_step-step.new.journal (entered_by_step n r)) c.pass.invariant.number_is comes.noted;
       made = subst (λ (n : ℕ). DoesStepOn g.row.SLOTS c.in-Ok.journal c.act_abort_step-step.new.journal n r) c.pass.invariant.number_is (c.act_abort_step-step.ensures.made none);
     })

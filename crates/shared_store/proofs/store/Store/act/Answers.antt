@@ -1,5 +1,5 @@
-use Rattle.std.proofs.Common.{◌≡◌, ◌≤◌, ℕ, List, Option, None, sym, ap, subst, ◌∙◌, rules}
-use Rattle.std.specs.Prelude.{IfSome, is_some}
+use Rattle.std.proofs.Common.{◌≡◌, ◌≤◌, ℕ, List, Option, None, refl, sym, ap, subst, ◌∙◌, rules}
+use Rattle.std.specs.Prelude.{IfSome}
 use Rattle.std.specs.List.{Contains}
 use Rattle.disk_model.specs.Causes.{Rose}
 use Rattle.plain_model.specs.declared.calls.Reply.TheVariants as reply
@@ -15,6 +15,7 @@ use Rattle.core_store.specs.Work.{IsWorkIn, pages_of_work}
 use Rattle.framed_journal.proofs.HoldLaws.{slots-few}
 use Rattle.logged_journal.specs.declared.failed.FailedCall.{FailedCall}
 use Rattle.logged_journal.specs.View.{LoggedView}
+use Rattle.logged_journal.proofs.Areas.{areas-kept}
 use Rattle.journal_chronicle.specs.Steps.{entered_by_call, marked_by_call}
 use Rattle.shared_store.specs.Calls.{found_by_call}
 use Rattle.shared_store.proofs.Active.{none-active, was-noted}
@@ -25,8 +26,8 @@ use Rattle.shared_store.proofs.store.Store.act.Goals as goal
 
 pub returns-in-Some-clause-acts : goal.returns-in-Some-clause-acts
 returns-in-Some-clause-acts g c =
-    let failed = ap is_some (sym (ap (λ (v : LoggedView g.row.D.Denot). v.failed) c.logged-2.ensures.logged) ∙ (sym c.failed.ensures.failed ∙ c.in-Some.is)) in
-    acts-stopped g.row.SLOTS c.args.hold.now.view c.args.journal.now c.args.held.now c.requires.none.1 c.requires.journal.idle c.requires.none.0 failed
+    let failed = sym (ap (λ (v : LoggedView g.row.D.Denot). v.failed) c.logged-2.ensures.logged) ∙ (sym c.failed.ensures.failed ∙ c.in-Some.is) in
+    acts-stopped g.row.SLOTS c.args.hold.now.view c.args.journal.now c.args.held.now c.requires.none.1 c.requires.journal.idle c.requires.none.0 c.in-Some.failed failed
 
 pub returns-in-Some-clause-made : goal.returns-in-Some-clause-made
 returns-in-Some-clause-made g c = λ none.
@@ -117,6 +118,7 @@ returns-clause-made g c = λ none.
       untouched = e.untouched;
       fault = λ f. let x = e.fault f in x.0;
       later = e.later;
+      count = e.count;
     }
 
 -- ---- what the journal was, and what a power loss leaves
@@ -169,3 +171,14 @@ pub returns-clause-counted : goal.returns-clause-counted
 returns-clause-counted g c =
     subst (λ (v : LoggedView g.row.D.Denot). IfSome v.failed (λ f. Rose v.opened f.faults)) c.logged-2.ensures.logged
     (subst (λ (o : Option FailedCall). IfSome o (λ f. Rose c.logged-2.result.now.opened f.faults)) c.failed.ensures.failed c.failed.ensures.counted)
+
+-- ---- the areas
+
+pub returns-in-Some-clause-areas : goal.returns-in-Some-clause-areas
+returns-in-Some-clause-areas g c = λ none. areas-kept g.D.Disk.content g.D.Disk.may_leave c.args.journal.now c.args.journal.now c.args.call.now (reply.Stopped c.in-Some.failed.faults) refl (λ is done. cc (done))
+
+pub returns-in-Err-clause-areas : goal.returns-in-Err-clause-areas
+returns-in-Err-clause-areas g c = λ none. absurd (again-found c.args.client c.args.call.now c.again.result c.in-Err.found.word c.in-Err.found.seat c.again.ensures none)
+
+pub returns-clause-areas : goal.returns-clause-areas
+returns-clause-areas g c = λ none. c.apply-reply.ensures.areas

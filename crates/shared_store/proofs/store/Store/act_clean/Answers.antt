@@ -2,13 +2,13 @@ use Rattle.std.proofs.Common.{◌≤◌, ◌*◌, ◌<◌, None, Some, Option, s
 use Rattle.plain_model.specs.declared.calls.Entry.{Entry}
 use Rattle.core_store.proofs.MapLaws.{none_from}
 use Rattle.framed_journal.proofs.HoldLaws.{slots-few}
-use Rattle.latch_table.specs.Views.{met, no_marks}
+use Rattle.latch_table.specs.Views.{met}
 use Rattle.logged_journal.specs.declared.upkeep.Upkeep.{Upkeep}
 use Rattle.disk_model.specs.Told.{EachImage}
 use Rattle.logged_journal.specs.Opens.{OpensAfter}
 use Rattle.logged_journal.specs.Records.{MayBeLeft}
 use Rattle.logged_journal.specs.View.{LoggedView, history_of}
-use Rattle.journal_chronicle.specs.Steps.{GoesOnWith, no_page, entered_by_upkeep, marked_by_refusal, marked_by_upkeep}
+use Rattle.journal_chronicle.specs.Steps.{GoesOnWith, no_mark, no_page, entered_by_upkeep, marked_by_refusal, marked_by_upkeep}
 use Rattle.shared_store.specs.Passes.{Known}
 use Rattle.shared_store.proofs.Kept.{acts-none, dropped-alone}
 use Rattle.shared_store.proofs.Looks.{goes-behind, still-journal}
@@ -44,7 +44,7 @@ returns-in-Err-clause-acts g c =
     let held = c.in-Err.ensures.held in
     let look = subst (λ (o : Option Upkeep). GoesOnWith g.row.SLOTS no_page j k None (marked_by_refusal o)) (none_from c.refuse_clean.result (λ x is. c.in_default.not-Some x is)) c.refuse_clean.ensures.chronicle in
     let none = with_none v c.requires.none c.requires.journal.idle in
-    acts-none g.row.SLOTS v c.claim_page.new.hold.view j k None no_marks (Some (f.word, f.seat))
+    acts-none g.row.SLOTS v c.claim_page.new.hold.view j k None no_mark (Some (f.word, f.seat))
     (none.0, held.2 ∙ (ap (λ n. met v n f.seat) (sym held.0) ∙ ap (λ (z : Known g.row.SLOTS). met z f.word f.seat) none.1)) held.1 look
 
 pub clean-answer-requires-after_bounds : goal.clean-answer-requires-after_bounds

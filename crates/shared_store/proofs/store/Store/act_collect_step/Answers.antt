@@ -1,5 +1,4 @@
 use Rattle.std.proofs.Common.{◌≡◌, None, Ok, Err, refl, sym, ap, subst, ◌∙◌}
-use Rattle.std.specs.Prelude.{is_some}
 use Rattle.store_model.specs.Sound.{IsSound}
 use Rattle.core_store.specs.JournalView.{JournalView, core_of, opening_of}
 use Rattle.core_store.specs.Leads.{AreLed}
@@ -14,8 +13,8 @@ use Rattle.shared_store.proofs.store.Store.act_collect_step.Goals as goal
 
 pub returns-in-Some-clause-acts : goal.returns-in-Some-clause-acts
 returns-in-Some-clause-acts g c =
-    let failed = sym (ap (λ (v : LoggedView g.row.D.Denot). is_some v.failed) c.logged-2.ensures.logged) ∙ ap is_some (sym c.in-Some.ensures.failed) in
-    acts-stopped g.row.SLOTS c.args.hold.now.view c.args.journal.now c.args.held.now c.requires.none.1 c.requires.journal.idle c.requires.none.0 failed
+    let failed = sym (ap (λ (v : LoggedView g.row.D.Denot). v.failed) c.logged-2.ensures.logged) ∙ sym c.in-Some.ensures.failed in
+    acts-stopped g.row.SLOTS c.args.hold.now.view c.args.journal.now c.args.held.now c.requires.none.1 c.requires.journal.idle c.requires.none.0 c.in-Some.failed failed
 
 pub returns-in-Some-clause-made : goal.returns-in-Some-clause-made
 returns-in-Some-clause-made g c = λ _.

@@ -1,16 +1,15 @@
-use Rattle.std.proofs.Common.{◌≡◌, ◌≤◌, List, [], None, Some, Option, length, sym, ap, subst, ◌∙◌, arith, rules}
+use Rattle.std.proofs.Common.{◌≡◌, ◌≤◌, ◌*◌, ℕ, List, [], None, Some, Option, length, sym, ap, subst, ◌∙◌, arith, rules}
 use Rattle.core_store.specs.declared.frame.Frame.{Frame}
 use Rattle.core_store.specs.Frames.{AllAgree}
 use Rattle.core_store.specs.JournalView.{JournalView, cells_of}
 use Rattle.core_store.proofs.MapLaws.{none_from}
 use Rattle.framed_journal.proofs.HoldLaws.{slots-few}
-use Rattle.latch_table.specs.Views.{no_marks}
 use Rattle.logged_journal.specs.declared.upkeep.Upkeep.{Upkeep}
 use Rattle.disk_model.specs.Told.{EachImage}
 use Rattle.logged_journal.specs.Opens.{OpensAfter}
 use Rattle.logged_journal.specs.Records.{MayBeLeft}
 use Rattle.logged_journal.specs.View.{LoggedView, history_of}
-use Rattle.journal_chronicle.specs.Steps.{GoesOnWith, no_page, entered_by_refusal, entered_by_upkeep, marked_by_refusal, marked_by_upkeep}
+use Rattle.journal_chronicle.specs.Steps.{GoesOnWith, no_mark, no_page, entered_by_refusal, entered_by_upkeep, marked_by_refusal, marked_by_upkeep}
 use Rattle.shared_store.specs.Passes.{Known}
 use Rattle.shared_store.specs.Holding.{with_pages}
 use Rattle.shared_store.proofs.Kept.{acts-none}
@@ -31,7 +30,7 @@ returns-in-Some-clause-acts g c =
 pub returns-in-Some-clause-made : goal.returns-in-Some-clause-made
 returns-in-Some-clause-made g c =
     let e = c.in-Some.ensures in
-    turn-refused g.row.SLOTS g.D.Disk.faults g.D.Disk.may_leave c.args.journal.now c.refuse_turn.new.self c.in-Some.answer
+    turn-refused g.row.SLOTS g.D.Disk.faults g.D.Disk.content g.D.Disk.may_leave c.args.journal.now c.refuse_turn.new.self c.in-Some.answer
     (record { stopped = e.stopped; only_stopped = e.only_stopped; full = e.full; marked = e.marked; busy = e.busy; only_busy = e.only_busy; told = e.told; memory = e.memory; never = e.never; free = e.free; untouched = e.untouched })
     c.know_history.ensures.legal
 
@@ -43,7 +42,7 @@ returns-in_default-with_capacity-clause-acts g c =
     let j = c.args.journal.now in
     let k = c.refuse_turn.new.self in
     let look = subst (λ (o : Option Upkeep). GoesOnWith g.row.SLOTS no_page j k (entered_by_refusal o) (marked_by_refusal o)) (none_from c.refuse_turn.result (λ x is. c.in_default.not-Some x is)) c.refuse_turn.ensures.chronicle in
-    acts-none g.row.SLOTS v v j k None no_marks None (with_none v c.requires.none c.requires.journal.idle) tt look
+    acts-none g.row.SLOTS v v j k None no_mark None (with_none v c.requires.none c.requires.journal.idle) tt look
 
 pub returns-in_default-with_capacity-clause-made : goal.returns-in_default-with_capacity-clause-made
 returns-in_default-with_capacity-clause-made g c =
@@ -53,7 +52,7 @@ returns-in_default-with_capacity-clause-made g c =
     let none = none_from c.refuse_turn.result (λ x is. c.in_default.not-Some x is) in
     let refuses = subst (λ (o : Option Upkeep). RefusesTurn g.row.SLOTS j k o) none
     (record { stopped = n.stopped; only_stopped = n.only_stopped; full = n.full; marked = n.marked; busy = n.busy; only_busy = n.only_busy; told = n.told; memory = n.memory; never = n.never; free = n.free; untouched = n.untouched }) in
-    turn-no_memory g.row.SLOTS g.D.Disk.faults g.D.Disk.may_leave j k (turn-free g.row.SLOTS j k refuses) (n.free none).1 c.know_history-2.ensures.legal
+    turn-no_memory g.row.SLOTS g.D.Disk.faults g.D.Disk.content g.D.Disk.may_leave j k (turn-free g.row.SLOTS j k refuses) (n.free none).1 c.know_history-2.ensures.legal
 
 pub returns-in-Err-clause-acts : goal.returns-in-Err-clause-acts
 returns-in-Err-clause-acts g c =
@@ -63,7 +62,7 @@ returns-in-Err-clause-acts g c =
     let f = c.in-Err.found in
     let met = c.in-Err.ensures.met in
     let look = subst (λ (o : Option Upkeep). GoesOnWith g.row.SLOTS no_page j k (entered_by_refusal o) (marked_by_refusal o)) (none_from c.refuse_turn.result (λ x is. c.in_default.not-Some x is)) c.refuse_turn.ensures.chronicle in
-    acts-none g.row.SLOTS v c.drop_all.new.hold.view j k None no_marks (Some (f.word, f.seat)) (met.1.0, c.drop_all.ensures.view ∙ ap (λ (z : Known g.row.SLOTS). with_pages z []) met.1.1) met.0 look
+    acts-none g.row.SLOTS v c.drop_all.new.hold.view j k None no_mark (Some (f.word, f.seat)) (met.1.0, c.drop_all.ensures.view ∙ ap (λ (z : Known g.row.SLOTS). with_pages z []) met.1.1) met.0 look
 
 pub turn-answer-requires-after_bounds : goal.turn-answer-requires-after_bounds
 turn-answer-requires-after_bounds g c κs within =
@@ -101,7 +100,18 @@ returns-clause-made g c =
     let none = none_from c.refuse_turn.result (λ x is. c.in_default.not-Some x is) in
     let refuses = subst (λ (o : Option Upkeep). RefusesTurn g.row.SLOTS j k o) none
     (record { stopped = n.stopped; only_stopped = n.only_stopped; full = n.full; marked = n.marked; busy = n.busy; only_busy = n.only_busy; told = n.told; memory = n.memory; never = n.never; free = n.free; untouched = n.untouched }) in
-    turn-behind g.row.SLOTS g.D.Disk.faults g.D.Disk.may_leave j k c.turn-answer.new.self c.turn-answer.result (turn-free g.row.SLOTS j k refuses) (n.free none).1
+    let v = c.args.hold.now.view in
+    let look = subst (λ (o : Option Upkeep). GoesOnWith g.row.SLOTS no_page j k (entered_by_refusal o) (marked_by_refusal o)) (none_from c.refuse_turn.result (λ x is. c.in_default.not-Some x is)) c.refuse_turn.ensures.chronicle in
+    let has = still-journal g.row.SLOTS j k c.args.self.now.pages v look c.requires.journal in
+    let same : c.journal.result.now ≡ k.journal = c.journal.ensures.journal ∙ ap (λ (z : LoggedView g.row.D.Denot). z.journal) c.logged-2.ensures.logged in
+    let ids = ap (λ (x : JournalView). x.history.ids) same in
+    let count = c.opening.ensures.by_ids.count in
+    let many = c.in_default-claim_all.ensures.ok.0 in
+    let items : c.as_slice.result.now ≡ c.claim_all.new.frames.items = c.as_slice.ensures.value in
+    let long : length c.as_slice.result.now ≡ length c.claim_all.new.frames.items = ap length items in
+    let pages : 8 * length c.as_slice.result.now ≡ k.journal.history.ids = omega (arith, has.ids, ids, count, many, long) in
+    let agree = subst (λ (fs : List (Frame g.row.SLOTS)). AllAgree (cells_of k.journal) fs) (sym items) c.claim_all.ensures.agree in
+    turn-behind g.row.SLOTS g.D.Disk.faults g.D.Disk.content g.D.Disk.may_leave j k c.turn-answer.new.self c.turn-answer.result (turn-free g.row.SLOTS j k refuses) (n.free none).1
     (record {
       legal = c.know_history-3.ensures.legal;
       stopped = e.stopped;
@@ -112,12 +122,16 @@ returns-clause-made g c =
       only_busy = e.only_busy;
       told = e.told;
       log_full = e.log_full;
+      too_long = e.too_long;
+      only_too_long = e.only_too_long;
       log_marked = e.log_marked;
       memory = e.memory;
       done = e.done;
       turned = e.turned;
+      old_log = λ done. record { frames = c.as_slice.result.now; pages = pages; agree = agree; forced = e.old_log done };
       fault = e.fault;
       later = e.later;
+      count = e.count;
     })
 
 -- ---- what a power loss leaves

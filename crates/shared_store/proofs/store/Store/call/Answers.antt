@@ -5,11 +5,12 @@ use Rattle.core_store.specs.Limited.{pages_for_call}
 use Rattle.logged_journal.specs.Opens.{OpensDuring}
 use Rattle.latch_table.specs.Views.{joined_marks, met}
 use Rattle.framed_journal.proofs.HoldLaws.{slots-few}
+use Rattle.journal_chronicle.specs.Steps.{marks_with, count_kept}
 use Rattle.journal_chronicle.specs.View.{has_transaction, marks_of, notes_of}
 use Rattle.journal_chronicle.specs.Steps.{entered_by_call, marked_by_call}
 use Rattle.shared_store.specs.declared.refused.Refused.{Refused}
 use Rattle.shared_store.specs.Passes.{Known, AreMarked}
-use Rattle.shared_store.specs.Calls.{GoesOnAs, DoesCallOn, MakesCall, NeedsPage, found_by_call, refused_by_call}
+use Rattle.shared_store.specs.Calls.{GoesOnAs, DoesCallOn, MakesCall, KeepsNoted, NeedsPage, found_by_call, refused_by_call}
 use Rattle.shared_store.proofs.Acting.{acts-seen, has-journal}
 use Rattle.shared_store.proofs.Passing.{IsDone, done-comes, done-pass, met-pass}
 use Rattle.shared_store.proofs.Replies.{again-goes, again-refused, again-found, call-drop, marked-call, txn-after}
@@ -142,8 +143,8 @@ invariant_of-pass-2 g c =
     (λ goes. txn-after c.pass.inside.hold.view c.finish-pass-inside.new.hold.view c.pass.inside.number c.args.call.now r (found_by_call r) c.is_entered-entered.result c.pass.inside.has_txn c.has_after-pass-inside.result p.number_is p.txn_is
     (c.is_entered-entered.ensures c.pass.inside.number c.args.call.now) c.has_after-pass-inside.ensures.entered c.has_after-pass-inside.ensures.same goes)
     c.finish-pass-inside.ensures.seen
-    (subst (λ (x : Refused). AreMarked x (joined_marks c.pass.inside.hold.view.knowledge.marks (joined_marks (marks_of c.in-Ok.journal) (marked_by_call r)))) (sym c.count_call.ensures)
-    (marked-call c.pass.inside.refused c.pass.inside.hold.view.knowledge.marks (marks_of c.in-Ok.journal) p.marked r))
+    (subst (λ (x : Refused). AreMarked x (joined_marks c.pass.inside.hold.view.knowledge.marks (joined_marks (marks_of c.in-Ok.journal) (marks_with (marked_by_call r) (count_kept c.act-reply.new.journal))))) (sym c.count_call.ensures)
+    (marked-call c.pass.inside.refused (count_kept c.act-reply.new.journal) c.pass.inside.hold.view.knowledge.marks (marks_of c.in-Ok.journal) p.marked r))
 
 pub returns-clause-knows : goal.returns-clause-knows
 returns-clause-knows g c =
@@ -187,7 +188,7 @@ returns-clause-made g c = λ none.
       same = c.finish-pass-inside.ensures.same;
     } in
     let comes = done-comes g.row.SLOTS c.pass.inside.hold.view c.finish-pass-inside.new.hold.view c.in-Ok.journal c.act-reply.new.journal (entered_by_call c.pass.inside.number c.args.call.now r) (marked_by_call r) (found_by_call r) d in
-    subst (λ (v : Known g.row.SLOTS). MakesCall g.row.D.Denot g.row.SLOTS g.D.Disk.faults g.D.Disk.moment g.D.Disk.left_since v c.finish-pass-inside.new.hold.view c.args.call.now r) is
+    subst (λ (v : Known g.row.SLOTS). MakesCall g.row.D.Denot g.row.SLOTS g.D.Disk.content g.D.Disk.may_leave g.D.Disk.faults g.D.Disk.moment g.D.Disk.left_since v c.finish-pass-inside.new.hold.view c.args.call.now r) is
     (record {
       before = c.in-Ok.journal;
       after = c.act-reply.new.journal;
@@ -197,6 +198,8 @@ returns-clause-made g c = λ none.
       noted = c.act-reply.ensures.noted;
       counted = c.act-reply.ensures.counted;
       made = subst (λ (n : ℕ). DoesCallOn g.row.SLOTS g.D.Disk.faults c.in-Ok.journal c.act-reply.new.journal n c.args.call.now r) c.pass.invariant.number_is (c.act-reply.ensures.made none);
+      kept = subst (λ (n : ℕ). KeepsNoted c.pass.inside.hold.view c.finish-pass-inside.new.hold.view c.in-Ok.journal c.act-reply.new.journal (entered_by_call n c.args.call.now r)) c.pass.invariant.number_is comes.noted;
+      areas = c.act-reply.ensures.areas none;
       opens = λ running. subst (λ (n : ℕ). LeavesOnlyImages g.D.Disk.moment g.D.Disk.left_since c.in-Ok.journal.disk c.act-reply.new.journal.disk (OpensDuring g.row.SLOTS c.in-Ok.journal n c.args.call.now)) c.pass.invariant.number_is (c.act-reply.ensures.opens running none);
     })
 

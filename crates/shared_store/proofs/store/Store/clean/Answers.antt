@@ -2,6 +2,7 @@ use Rattle.std.proofs.Common.{◌≡◌, ◌≤◌, ◌+◌, List, [], sym, ap, 
 use Rattle.core_store.specs.declared.three.HeldFrame.{HeldFrame}
 use Rattle.latch_table.specs.Views.{joined_marks}
 use Rattle.framed_journal.proofs.HoldLaws.{slots-few}
+use Rattle.journal_chronicle.specs.Steps.{marks_with, count_kept}
 use Rattle.journal_chronicle.specs.View.{marks_of}
 use Rattle.shared_store.specs.declared.refused.Refused.{Refused}
 use Rattle.shared_store.specs.Passes.{Known, AreMarked}
@@ -48,8 +49,8 @@ invariant_of-pass-2 g c =
     c.in-Ok.journal c.act_clean-answer.new.journal (entered_by_upkeep_of r) (marked_by_upkeep_of r) (found_by_upkeep r) c.pass.inside.has_txn c.finish-pass-inside.result c.count_answer.new.refused (record { claimed = c.claim_log.new.hold.view; worked = c.act_clean-answer.new.hold.view; held = []; tells = c.is_entered-entered.result; claim = c.in-Ok.ensures.ok.0; later = c.in-Ok.ensures.ok.1; acts = c.act_clean-answer.ensures.acts; iff = c.is_entered-entered.ensures; told = c.finish-pass-inside.ensures.told; same = c.finish-pass-inside.ensures.same })
     (λ goes. txn-upkeep c.pass.inside.hold.view c.finish-pass-inside.new.hold.view r (found_by_upkeep r) c.pass.inside.has_txn p.txn_is goes)
     c.finish-pass-inside.ensures.seen
-    (subst (λ (x : Refused). AreMarked x (joined_marks c.pass.inside.hold.view.knowledge.marks (joined_marks (marks_of c.in-Ok.journal) (marked_by_upkeep_of r)))) (sym c.count_answer.ensures)
-    (marked-upkeep c.pass.inside.refused c.pass.inside.hold.view.knowledge.marks (marks_of c.in-Ok.journal) p.marked r))
+    (subst (λ (x : Refused). AreMarked x (joined_marks c.pass.inside.hold.view.knowledge.marks (joined_marks (marks_of c.in-Ok.journal) (marks_with (marked_by_upkeep_of r) (count_kept c.act_clean-answer.new.journal))))) (sym c.count_answer.ensures)
+    (marked-upkeep c.pass.inside.refused (count_kept c.act_clean-answer.new.journal) c.pass.inside.hold.view.knowledge.marks (marks_of c.in-Ok.journal) p.marked r))
 
 pub returns-clause-knows : goal.returns-clause-knows
 returns-clause-knows g c =
@@ -63,4 +64,4 @@ returns-clause-made g c =
     let r = c.act_clean-answer.result in
     let is : c.pass.inside.hold.view ≡ c.args.pass.now.view = ap (λ z. z.view) c.pass.view_is in
     let comes = done-comes g.row.SLOTS c.pass.inside.hold.view c.finish-pass-inside.new.hold.view c.in-Ok.journal c.act_clean-answer.new.journal (entered_by_upkeep_of r) (marked_by_upkeep_of r) (found_by_upkeep r) (record { claimed = c.claim_log.new.hold.view; worked = c.act_clean-answer.new.hold.view; held = []; tells = c.is_entered-entered.result; claim = c.in-Ok.ensures.ok.0; later = c.in-Ok.ensures.ok.1; acts = c.act_clean-answer.ensures.acts; iff = c.is_entered-entered.ensures; told = c.finish-pass-inside.ensures.told; same = c.finish-pass-inside.ensures.same }) in
-    makes-clean g.row.SLOTS g.D.Disk.faults g.D.Disk.may_leave g.D.Disk.moment g.D.Disk.left_since c.pass.inside.hold.view c.args.pass.now.view c.finish-pass-inside.new.hold.view c.in-Ok.journal c.act_clean-answer.new.journal c.args.page r is (record { later = c.in-Ok.ensures.ok.1; covered = c.in-Ok.ensures.once; found = comes.stories }) c.act_clean-answer.ensures.made c.act_clean-answer.ensures.opens
+    makes-clean g.row.SLOTS g.D.Disk.faults g.D.Disk.may_leave g.D.Disk.moment g.D.Disk.left_since c.pass.inside.hold.view c.args.pass.now.view c.finish-pass-inside.new.hold.view c.in-Ok.journal c.act_clean-answer.new.journal c.args.page r is (record { later = c.in-Ok.ensures.ok.1; covered = c.in-Ok.ensures.once; found = comes.stories; kept = comes.noted }) c.act_clean-answer.ensures.made c.act_clean-answer.ensures.opens

@@ -1,5 +1,5 @@
-use Rattle.std.proofs.Common.{◌≡◌, ℕ, ◌*◌, ◌<◌, ◌≤◌, length, sym, ap, subst, ◌∙◌, arith}
-use Rattle.std.specs.Prelude.{◌↔◌, is_some}
+use Rattle.std.proofs.Common.{◌≡◌, ℕ, ◌*◌, ◌<◌, ◌≤◌, length, refl, sym, ap, subst, ◌∙◌, arith}
+use Rattle.std.specs.Prelude.{◌↔◌, is_some, IsSome, Option, Some, None}
 use Rattle.plain_model.specs.History.{end_of}
 use Rattle.plain_model.specs.Machine.{transaction_of}
 use Rattle.cell_page.specs.Stored.{HoldsPage}
@@ -12,6 +12,10 @@ use Rattle.journal_chronicle.specs.View.{Origin, origin_of, notes_of, marks_of, 
 use Rattle.shared_store.specs.declared.refused.Refused.{Refused}
 use Rattle.shared_store.specs.Passes.{AreMarked}
 use Rattle.shared_store.proofs.store.Store.close.Goals as goal
+
+some-kept : (a b : Option ℕ) → ((n : ℕ) → a ≡ Some n → b ≡ Some n) → IsSome a → IsSome b
+some-kept (Some n) b kept s = ap is_some (kept n refl)
+some-kept None b kept s = absurd (cc)
 
 pub returns-clause-agree : goal.returns-clause-agree
 returns-clause-agree g c =
@@ -30,7 +34,7 @@ pub returns-clause-marked : goal.returns-clause-marked
 returns-clause-marked g c =
     let m : AreMarked c.args.main.refused c.main.inside.hold.view.knowledge.marks = subst (λ (r : Refused). AreMarked r c.main.inside.hold.view.knowledge.marks) (ap (λ z. z.refused) c.main.view_is) c.main.invariant.marked in
     let w = c.close-journal.ensures.whole.later.marked in
-    subst (λ (v : LoggedView g.row.D.Denot). AreMarked c.args.main.refused (marks_of v)) (sym c.into_logged.ensures) (record { disk = λ p. w.0 (m.disk p); trace = λ p. w.1 (m.trace p); log = λ p. w.2 (m.log p) })
+    subst (λ (v : LoggedView g.row.D.Denot). AreMarked c.args.main.refused (marks_of v)) (sym c.into_logged.ensures) (record { disk = λ p. some-kept c.main.inside.hold.view.knowledge.marks.0 _ w.0 (m.disk p); trace = λ p. w.1 (m.trace p); log = λ p. w.2 (m.log p) })
 
 pub returns-clause-history : goal.returns-clause-history
 returns-clause-history g c = subst (λ (v : LoggedView g.row.D.Denot). history_after g.row.SLOTS (origin_of v) (notes_of v) ≡ history_of v) (sym c.into_logged.ensures) c.know_history.ensures.history

@@ -1,12 +1,13 @@
-use Rattle.std.proofs.Common.{◌≡◌, ◌≤◌, ◌+◌, sym, ap, subst, ◌∙◌, rules}
+use Rattle.std.proofs.Common.{◌≡◌, ◌≤◌, ◌+◌, [], ◌∷◌, ◌++◌, sym, ap, subst, ◌∙◌, rules}
 use Rattle.latch_table.specs.Views.{joined_marks}
 use Rattle.framed_journal.proofs.HoldLaws.{slots-few}
+use Rattle.journal_chronicle.specs.Steps.{marks_with, count_kept}
 use Rattle.journal_chronicle.specs.View.{marks_of}
 use Rattle.shared_store.specs.declared.refused.Refused.{Refused}
 use Rattle.shared_store.specs.Passes.{Known, AreMarked}
 use Rattle.shared_store.specs.Calls.{GoesOnAs, MakesCollect, entered_by_collecting, marked_by_collecting, found_by_collecting}
 use Rattle.shared_store.proofs.Acting.{has-journal, to-drop}
-use Rattle.shared_store.proofs.Collects.{collect-speaks, txn-collect, marked-collect}
+use Rattle.shared_store.proofs.Collects.{collect-act, collect-speaks, keeps-more, txn-collect, marked-collect}
 use Rattle.shared_store.proofs.Kept.{act-seen}
 use Rattle.shared_store.proofs.Passing.{done-comes, done-pass}
 use Rattle.shared_store.proofs.store.Store.collect_step.Goals as goal
@@ -44,8 +45,8 @@ invariant_of-pass-2 g c =
     c.in-Ok.journal c.act_collect_step-step.new.journal (entered_by_collecting r) (marked_by_collecting r) (found_by_collecting r) c.pass.inside.has_txn c.finish-pass-inside.result c.count_step.new.refused (record { claimed = c.claim_log.new.hold.view; worked = c.act_collect_step-step.new.hold.view; held = c.act_collect_step-step.new.held; tells = c.is_entered-entered.result; claim = c.in-Ok.ensures.ok.0; later = c.in-Ok.ensures.ok.1; acts = c.act_collect_step-step.ensures.acts; iff = c.is_entered-entered.ensures; told = c.finish-pass-inside.ensures.told; same = c.finish-pass-inside.ensures.same })
     (λ goes. txn-collect c.pass.inside.hold.view c.finish-pass-inside.new.hold.view r (found_by_collecting r) c.pass.inside.has_txn p.txn_is goes)
     c.finish-pass-inside.ensures.seen
-    (subst (λ (x : Refused). AreMarked x (joined_marks c.pass.inside.hold.view.knowledge.marks (joined_marks (marks_of c.in-Ok.journal) (marked_by_collecting r)))) (sym c.count_step.ensures)
-    (marked-collect c.pass.inside.refused c.pass.inside.hold.view.knowledge.marks (marks_of c.in-Ok.journal) p.marked r))
+    (subst (λ (x : Refused). AreMarked x (joined_marks c.pass.inside.hold.view.knowledge.marks (joined_marks (marks_of c.in-Ok.journal) (marks_with (marked_by_collecting r) (count_kept c.act_collect_step-step.new.journal))))) (sym c.count_step.ensures)
+    (marked-collect c.pass.inside.refused (count_kept c.act_collect_step-step.new.journal) c.pass.inside.hold.view.knowledge.marks (marks_of c.in-Ok.journal) p.marked r))
 
 pub returns-clause-knows : goal.returns-clause-knows
 returns-clause-knows g c =
@@ -58,11 +59,31 @@ pub returns-clause-made : goal.returns-clause-made
 returns-clause-made g c = λ none.
     let r = c.act_collect_step-step.result in
     let is : c.pass.inside.hold.view ≡ c.args.pass.now.view = ap (λ z. z.view) c.pass.view_is in
-    subst (λ (v : Known g.row.SLOTS). MakesCollect g.row.D.Denot g.row.SLOTS v r) is
+    let comes = done-comes g.row.SLOTS c.pass.inside.hold.view c.finish-pass-inside.new.hold.view c.in-Ok.journal c.act_collect_step-step.new.journal (entered_by_collecting r) (marked_by_collecting r) (found_by_collecting r) (record { claimed = c.claim_log.new.hold.view; worked = c.act_collect_step-step.new.hold.view; held = c.act_collect_step-step.new.held; tells = c.is_entered-entered.result; claim = c.in-Ok.ensures.ok.0; later = c.in-Ok.ensures.ok.1; acts = c.act_collect_step-step.ensures.acts; iff = c.is_entered-entered.ensures; told = c.finish-pass-inside.ensures.told; same = c.finish-pass-inside.ensures.same }) in
+    subst (λ (v : Known g.row.SLOTS). MakesCollect g.row.D.Denot g.row.SLOTS v c.finish-pass-inside.new.hold.view r) is
     (record {
       before = c.in-Ok.journal;
       after = c.act_collect_step-step.new.journal;
       later = c.in-Ok.ensures.ok.1;
       covered = c.in-Ok.ensures.once;
+      found = comes.stories;
+      kept = comes.noted;
       made = c.act_collect_step-step.ensures.made none;
     })
+
+-- ---- the note that it entered
+
+pub returns-in-Err-clause-act : goal.returns-in-Err-clause-act
+returns-in-Err-clause-act g c = λ kept more other.
+    let held = c.in-Err.ensures.held in
+    let same = ap (λ (v : Known g.row.SLOTS). v.knowledge.entries) held.2 ∙ ap (λ z. z.view.knowledge.entries) c.pass.view_is in
+    keeps-more c.args.pass.now.view.knowledge.entries c.claim_log.new.hold.view.knowledge.entries kept same more
+
+pub returns-clause-act : goal.returns-clause-act
+returns-clause-act g c = λ kept more other.
+    let r = c.act_collect_step-step.result in
+    let is : c.pass.inside.hold.view ≡ c.args.pass.now.view = ap (λ z. z.view) c.pass.view_is in
+    let comes = done-comes g.row.SLOTS c.pass.inside.hold.view c.finish-pass-inside.new.hold.view c.in-Ok.journal c.act_collect_step-step.new.journal (entered_by_collecting r) (marked_by_collecting r) (found_by_collecting r) (record { claimed = c.claim_log.new.hold.view; worked = c.act_collect_step-step.new.hold.view; held = c.act_collect_step-step.new.held; tells = c.is_entered-entered.result; claim = c.in-Ok.ensures.ok.0; later = c.in-Ok.ensures.ok.1; acts = c.act_collect_step-step.ensures.acts; iff = c.is_entered-entered.ensures; told = c.finish-pass-inside.ensures.told; same = c.finish-pass-inside.ensures.same }) in
+    collect-act g.row.SLOTS c.pass.inside.hold.view c.finish-pass-inside.new.hold.view c.in-Ok.journal c.act_collect_step-step.new.journal kept
+    (more ∙ ap (λ (v : Known g.row.SLOTS). v.knowledge.entries ++ kept ∷ []) (sym is))
+    r (found_by_collecting r) comes.goes comes.noted c.act_collect_step-step.ensures.made other
