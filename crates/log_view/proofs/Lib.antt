@@ -1,0 +1,5 @@
+mod AreaLaws
+mod TestLaws
+mod LineLaws
+mod PrintLaws
+mod ViewLaws
