@@ -1,0 +1,12 @@
+pub mod Results
+pub mod RecordLaws
+pub mod GatherLaws
+pub mod TakingLaws
+pub mod FeedingLaws
+pub mod BaseLaws
+pub mod StoredLaws
+pub mod MadeStores
+pub mod CutStores
+pub mod PageFacts
+pub mod Undamaged
+pub mod MadeDisks
