@@ -12,7 +12,7 @@ use Rattle.disk_model.proofs.Moments.{no_call}
 use Rattle.store_opening.specs.Looks.{IsLookedAt}
 use Rattle.script_lines.specs.Numbers.{object_slots, number_of, pages_of}
 use Rattle.brahma_shell.specs.declared.commands.Command.{Command}
-use Rattle.brahma_shell.specs.declared.commands.Command.TheVariants.{Init, Replay, Run, Gen, Audit, ParAudit, Migrate}
+use Rattle.brahma_shell.specs.declared.commands.Command.TheVariants.{Init, Replay, Run, Gen, Audit, ParAudit, Migrate, Backup, Ship}
 use Rattle.gen_options.specs.declared.reading.Asked.{Asked}
 use Rattle.brahma_shell.specs.declared.ended.Ended.{Ended}
 use Rattle.brahma_shell.specs.declared.ended.Ended.TheVariants.{Shut, Kept}
@@ -23,6 +23,9 @@ use Rattle.brahma_shell.specs.Ended.{disk_in, shut_in}
 use Rattle.brahma_shell.specs.Top.{IsStatusOfReplay, GoesLater, Outside, Ends, AlwaysOpens, Unopened, Replayed, Audited, Generated, Made}
 use Rattle.brahma_shell.specs.Ran.{Ran}
 use Rattle.brahma_shell.specs.ParAudited.{ParAudited}
+use Rattle.brahma_shell.specs.BackedUp.{BackedUp}
+use Rattle.brahma_shell.specs.Shipped.{Shipped}
+use Rattle.brahma_shell.proofs.ShippedLemmas.{shipped-images, shipped-closed, shipped-done, backed_up-open, backed_up-done, backed_up-opened}
 use Rattle.brahma_shell.specs.Answered.{CanBeDone, Answered}
 use Rattle.brahma_shell.specs.Migrated.{AlwaysOpensAtEither, Migrated, Unmigrated}
 use Rattle.brahma_shell.proofs.CompleteLemmas.{at-either, made-open, unopened-open, unopened-either, unopened-closed, unopened-memory, replayed-open, replayed-done, audited-open, audited-done, par_audited-open, par_audited-done, generated-open, generated-done, ran-open, ran-done}
@@ -124,6 +127,11 @@ of-init status is = ⊎_elim (λ h. inl h) (λ is. ⊎_elim (λ h. inr (inr (inr
 of-gen : (status : ℕ) → (status ≡ 0) ⊎ ((status ≡ 5) ⊎ ((status ≡ 6) ⊎ ((status ≡ 7) ⊎ ((status ≡ 8) ⊎ (status ≡ 9))))) → IsStatusOfReplay status
 of-gen status is = ⊎_elim (λ h. inl h) (λ is. inr (inr (inr is))) is
 
+of-ship : (status : ℕ) → (status ≡ 0) ⊎ ((status ≡ 5) ⊎ ((status ≡ 6) ⊎ ((status ≡ 7) ⊎ (status ≡ 8)))) → IsStatusOfReplay status
+of-ship status is =
+    ⊎_elim (λ h. inl h)
+    (λ is. inr (inr (inr (⊎_elim (λ h. inl h) (λ is. inr (⊎_elim (λ h. inl h) (λ is. inr (⊎_elim (λ h. inl h) (λ h. inr (inl h)) is)) is)) is)))) is
+
 same-command : (o : Option Command) (c d : Command) → o ≡ Some c → o ≡ Some d → c ≡ d
 same-command o c d e f = let h : Some c ≡ Some d = sym e ∙ f in cc (h)
 
@@ -174,12 +182,14 @@ mapped : (o : Option ℕ) (p : ℕ) → option_map Init o ≡ Some (Init p) → 
 mapped None p e = absurd (cc (e))
 mapped (Some n) p e = cc (e)
 
-one-word : (a b c d : Bool) (p : ℕ) → (if a then Some Replay else if b then Some Run else if c then Some Audit else if d then Some Migrate else None) ≡ Some (Init p) → ⊥
-one-word true b c d p e = absurd (cc (e))
-one-word false true c d p e = absurd (cc (e))
-one-word false false true d p e = absurd (cc (e))
-one-word false false false true p e = absurd (cc (e))
-one-word false false false false p e = absurd (cc (e))
+one-word : (a b c d e f : Bool) (p : ℕ) → (if a then Some Replay else if b then Some Run else if c then Some Audit else if d then Some Migrate else if e then Some Backup else if f then Some Ship else None) ≡ Some (Init p) → ⊥
+one-word true b c d e f p is = absurd (cc (is))
+one-word false true c d e f p is = absurd (cc (is))
+one-word false false true d e f p is = absurd (cc (is))
+one-word false false false true e f p is = absurd (cc (is))
+one-word false false false false true f p is = absurd (cc (is))
+one-word false false false false false true p is = absurd (cc (is))
+one-word false false false false false false p is = absurd (cc (is))
 
 two-words : (a b : Bool) (o : Option ℕ) (p : ℕ) → (if a then option_map Init o else if b then option_map ParAudit o else None) ≡ Some (Init p) → o ≡ Some p
 two-words true b o p e = mapped o p e
@@ -197,12 +207,14 @@ two-pieces true b (Some n) p e = absurd (cc (e))
 two-pieces false true o p e = pieces-mapped o p e
 two-pieces false false o p e = absurd (cc (e))
 
-one-pieces : (a b c d : Bool) (p : ℕ) → (if a then Some Replay else if b then Some Run else if c then Some Audit else if d then Some Migrate else None) ≡ Some (ParAudit p) → ⊥
-one-pieces true b c d p e = absurd (cc (e))
-one-pieces false true c d p e = absurd (cc (e))
-one-pieces false false true d p e = absurd (cc (e))
-one-pieces false false false true p e = absurd (cc (e))
-one-pieces false false false false p e = absurd (cc (e))
+one-pieces : (a b c d e f : Bool) (p : ℕ) → (if a then Some Replay else if b then Some Run else if c then Some Audit else if d then Some Migrate else if e then Some Backup else if f then Some Ship else None) ≡ Some (ParAudit p) → ⊥
+one-pieces true b c d e f p is = absurd (cc (is))
+one-pieces false true c d e f p is = absurd (cc (is))
+one-pieces false false true d e f p is = absurd (cc (is))
+one-pieces false false false true e f p is = absurd (cc (is))
+one-pieces false false false false true f p is = absurd (cc (is))
+one-pieces false false false false false true p is = absurd (cc (is))
+one-pieces false false false false false false p is = absurd (cc (is))
 
 more-pieces : (a : Bool) (o : Option Asked) (p : ℕ) → (if a then option_map Gen o else None) ≡ Some (ParAudit p) → ⊥
 more-pieces true None p e = absurd (cc (e))
@@ -217,14 +229,14 @@ more-words false o p e = absurd (cc (e))
 -- `init` is asked with a number of pages from 1 to 1,024
 pub pages-within : (words : List (List ℕ)) (p : ℕ) → Some (Init p) ≡ command_of words → (1 ≤ p) × (p ≤ 1024)
 pages-within [] p e = absurd (cc (e))
-pages-within (word ∷ []) p e = absurd (one-word (bytes_eq word (codes "replay")) (bytes_eq word (codes "run")) (bytes_eq word (codes "audit")) (bytes_eq word (codes "migrate")) p (sym e))
+pages-within (word ∷ []) p e = absurd (one-word (bytes_eq word (codes "replay")) (bytes_eq word (codes "run")) (bytes_eq word (codes "audit")) (bytes_eq word (codes "migrate")) (bytes_eq word (codes "backup")) (bytes_eq word (codes "ship")) p (sym e))
 pages-within (word ∷ number ∷ []) p e = within (number_of number) p (two-words (bytes_eq word (codes "init")) (bytes_eq word (codes "paudit")) (pages_of number) p (sym e))
 pages-within (word ∷ number ∷ other ∷ words) p e = absurd (more-words (bytes_eq word (codes "gen")) (asked_of (number ∷ other ∷ words)) p (sym e))
 
 -- `paudit` is asked with a number of pieces from 1 to 1,024
 pub pieces-within : (words : List (List ℕ)) (p : ℕ) → Some (ParAudit p) ≡ command_of words → (1 ≤ p) × (p ≤ 1024)
 pieces-within [] p e = absurd (cc (e))
-pieces-within (word ∷ []) p e = absurd (one-pieces (bytes_eq word (codes "replay")) (bytes_eq word (codes "run")) (bytes_eq word (codes "audit")) (bytes_eq word (codes "migrate")) p (sym e))
+pieces-within (word ∷ []) p e = absurd (one-pieces (bytes_eq word (codes "replay")) (bytes_eq word (codes "run")) (bytes_eq word (codes "audit")) (bytes_eq word (codes "migrate")) (bytes_eq word (codes "backup")) (bytes_eq word (codes "ship")) p (sym e))
 pieces-within (word ∷ number ∷ []) p e = within (number_of number) p (two-pieces (bytes_eq word (codes "init")) (bytes_eq word (codes "paudit")) (pages_of number) p (sym e))
 pieces-within (word ∷ number ∷ other ∷ words) p e = absurd (more-pieces (bytes_eq word (codes "gen")) (asked_of (number ∷ other ∷ words)) p (sym e))
 
@@ -257,6 +269,12 @@ options-audit words ask e = let g = options-gen words Audit ask e in absurd (cc 
 pub options-par_audit : (words : List (List ℕ)) (n : ℕ) → AskOptions words → command_of words ≡ Some (ParAudit n) → ⊥
 options-par_audit words n ask e = let g = options-gen words (ParAudit n) ask e in absurd (cc (g.1))
 
+options-backup : (words : List (List ℕ)) → AskOptions words → command_of words ≡ Some Backup → ⊥
+options-backup words ask e = let g = options-gen words Backup ask e in absurd (cc (g.1))
+
+options-ship : (words : List (List ℕ)) → AskOptions words → command_of words ≡ Some Ship → ⊥
+options-ship words ask e = let g = options-gen words Ship ask e in absurd (cc (g.1))
+
 options-migrate : (words : List (List ℕ)) → AskOptions words → command_of words ≡ Some Migrate → ⊥
 options-migrate words ask e = let g = options-gen words Migrate ask e in absurd (cc (g.1))
 
@@ -283,12 +301,14 @@ module _ {S D : Type 0} (content : D → Area → Option (List ℕ)) (may_leave 
     par_audited = λ n e. absurd (none-some (command_of words) (ParAudit n) none e);
     generated = λ a e. absurd (none-some (command_of words) (Gen a) none e);
     migrated = λ e. absurd (none-some (command_of words) Migrate none e);
+    backed_up = λ e. absurd (none-some (command_of words) Backup none e);
+    shipped = λ e. absurd (none-some (command_of words) Ship none e);
     makes_open = λ pages e. absurd (none-some (command_of words) (Init pages) none e);
     stays_open = λ tell ids opens other. subst (λ (e : Ended D). AlwaysOpens may_leave ids (disk_in e)) (sym back) opens;
     stays_either = λ tell ids opens other. subst (λ (e : Ended D). AlwaysOpensAtEither may_leave ids (disk_in e)) (sym back) opens;
     migrates = λ tell ids opens e. absurd (none-some (command_of words) Migrate none e);
     complete = λ tell command e. absurd (none-some (command_of words) command none e);
-    refuses = λ image reads closed ask. absurd (⊎_elim (none-some (command_of words) Replay none) (λ h. ⊎_elim (none-some (command_of words) Run none) (λ h. ⊎_elim (none-some (command_of words) Audit none) (λ h. ⊎_elim (λ n. none-some (command_of words) (ParAudit n.0) none n.1) (λ g. none-some (command_of words) (Gen g.0) none g.1) h) h) h) ask);
+    refuses = λ image reads closed ask. absurd (⊎_elim (none-some (command_of words) Replay none) (λ h. ⊎_elim (none-some (command_of words) Run none) (λ h. ⊎_elim (none-some (command_of words) Audit none) (λ h. ⊎_elim (λ n. none-some (command_of words) (ParAudit n.0) none n.1) (λ h. ⊎_elim (λ g. none-some (command_of words) (Gen g.0) none g.1) (none-some (command_of words) Backup none) h) h) h) h) ask);
     refuses_to_migrate = λ image reads closed e. absurd (none-some (command_of words) Migrate none e);
     only_refused = λ tell seven. absurd (omega (arith, two, seven));
   }
@@ -325,6 +345,8 @@ module _ {S D : Type 0} (content : D → Area → Option (List ℕ)) (may_leave 
         par_audited = λ n e. absurd (options-par_audit words n ask e);
         generated = λ a e. (same, inl unopened);
         migrated = λ e. absurd (options-migrate words ask e);
+        backed_up = λ e. absurd (options-backup words ask e);
+        shipped = λ e. absurd (options-ship words ask e);
         makes_open = λ pages e. absurd (options-init words pages ask e);
         stays_open = λ tell ids opens other. subst (λ (e : Ended D). AlwaysOpens may_leave ids (disk_in e)) (sym back) opens;
         stays_either = λ tell ids opens other. subst (λ (e : Ended D). AlwaysOpensAtEither may_leave ids (disk_in e)) (sym back) opens;
@@ -352,12 +374,14 @@ module _ {S D : Type 0} (content : D → Area → Option (List ℕ)) (may_leave 
         par_audited = λ n e. absurd (init-par_audit (command_of words) pages n asked e);
         generated = λ a e. absurd (init-gen (command_of words) pages a asked e);
         migrated = λ e. absurd (init-migrate (command_of words) pages asked e);
+        backed_up = λ e. absurd (cc (same-command (command_of words) (Init pages) Backup asked e));
+        shipped = λ e. absurd (cc (same-command (command_of words) (Init pages) Ship asked e));
         makes_open = λ other e not_six. subst (λ (n : ℕ). AlwaysOpens may_leave (8 * n) (disk_in ended)) (same-pages (command_of words) pages other asked e) (made-open may_leave (disk_in ended) pages (pages-within words pages (sym asked)).0 (made.opens not_six));
         stays_open = λ tell ids opens other. absurd (other pages asked);
         stays_either = λ tell ids opens other. absurd (other pages asked);
         migrates = λ tell ids opens e. absurd (init-migrate (command_of words) pages asked e);
         complete = λ tell command e can reads writes faults. ⊎_elim (λ zero. inl zero) (λ h. ⊎_elim (λ five. absurd (writes (made.write five).0)) (λ six. absurd (faults (made.failed six).0)) h) made.statuses;
-        refuses = λ image reads closed ask. absurd (⊎_elim (init-replay (command_of words) pages asked) (λ h. ⊎_elim (init-run (command_of words) pages asked) (λ h. ⊎_elim (init-audit (command_of words) pages asked) (λ h. ⊎_elim (λ n. init-par_audit (command_of words) pages n.0 asked n.1) (λ g. init-gen (command_of words) pages g.0 asked g.1) h) h) h) ask);
+        refuses = λ image reads closed ask. absurd (⊎_elim (init-replay (command_of words) pages asked) (λ h. ⊎_elim (init-run (command_of words) pages asked) (λ h. ⊎_elim (init-audit (command_of words) pages asked) (λ h. ⊎_elim (λ n. init-par_audit (command_of words) pages n.0 asked n.1) (λ h. ⊎_elim (λ g. init-gen (command_of words) pages g.0 asked g.1) (λ e. cc (same-command (command_of words) (Init pages) Backup asked e)) h) h) h) h) ask);
         refuses_to_migrate = λ image reads closed e. absurd (init-migrate (command_of words) pages asked e);
         only_refused = λ tell seven. absurd (not-refused status made.statuses seven);
       }
@@ -378,6 +402,8 @@ module _ {S D : Type 0} (content : D → Area → Option (List ℕ)) (may_leave 
     par_audited = λ n e. absurd (replay-par_audit (command_of words) n asked e);
     generated = λ a e. absurd (replay-gen (command_of words) a asked e);
     migrated = λ e. absurd (replay-migrate (command_of words) asked e);
+    backed_up = λ e. absurd (cc (same-command (command_of words) Replay Backup asked e));
+    shipped = λ e. absurd (cc (same-command (command_of words) Replay Ship asked e));
     makes_open = λ pages e. absurd (init-replay (command_of words) pages e asked);
     stays_open = λ tell ids opens other. ⊎_elim (λ u. unopened-open content may_leave moment left_since disk before after status ended u.1 stay counts tell ids opens) (λ r. replayed-open content may_leave script later disk before after status ended r stay tell ids (at-either may_leave ids disk opens)) replayed;
     stays_either = λ tell ids opens other. ⊎_elim (λ u. unopened-either content may_leave moment left_since disk before after status ended u.1 stay counts tell ids opens) (λ r. at-either may_leave ids (disk_in ended) (replayed-open content may_leave script later disk before after status ended r stay tell ids opens)) replayed;
@@ -408,6 +434,8 @@ module _ {S D : Type 0} (content : D → Area → Option (List ℕ)) (may_leave 
         par_audited = λ n e. absurd (audit-par_audit (command_of words) n asked e);
         generated = λ a e. absurd (audit-gen (command_of words) a asked e);
         migrated = λ e. absurd (audit-migrate (command_of words) asked e);
+        backed_up = λ e. absurd (cc (same-command (command_of words) Audit Backup asked e));
+        shipped = λ e. absurd (cc (same-command (command_of words) Audit Ship asked e));
         makes_open = λ pages e. absurd (init-audit (command_of words) pages e asked);
         stays_open = λ tell ids opens other. ⊎_elim (λ u. unopened-open content may_leave moment left_since disk before after status ended u stay counts tell ids opens) (λ a. audited-open content may_leave disk before after status ended a stay tell ids (at-either may_leave ids disk opens)) audited;
         stays_either = λ tell ids opens other. ⊎_elim (λ u. unopened-either content may_leave moment left_since disk before after status ended u stay counts tell ids opens) (λ a. at-either may_leave ids (disk_in ended) (audited-open content may_leave disk before after status ended a stay tell ids opens)) audited;
@@ -438,6 +466,8 @@ module _ {S D : Type 0} (content : D → Area → Option (List ℕ)) (may_leave 
         par_audited = λ m e. (same, audited);
         generated = λ a e. absurd (gen-par_audit (command_of words) a n e asked);
         migrated = λ e. absurd (par_audit-migrate (command_of words) n asked e);
+        backed_up = λ e. absurd (cc (same-command (command_of words) (ParAudit n) Backup asked e));
+        shipped = λ e. absurd (cc (same-command (command_of words) (ParAudit n) Ship asked e));
         makes_open = λ pages e. absurd (init-par_audit (command_of words) pages n e asked);
         stays_open = λ tell ids opens other. ⊎_elim (λ u. unopened-open content may_leave moment left_since disk before after status ended u stay counts tell ids opens) (λ a. par_audited-open content may_leave disk before after status ended a stay tell ids (at-either may_leave ids disk opens)) audited;
         stays_either = λ tell ids opens other. ⊎_elim (λ u. unopened-either content may_leave moment left_since disk before after status ended u stay counts tell ids opens) (λ a. at-either may_leave ids (disk_in ended) (par_audited-open content may_leave disk before after status ended a stay tell ids opens)) audited;
@@ -469,6 +499,8 @@ module _ {S D : Type 0} (content : D → Area → Option (List ℕ)) (may_leave 
         par_audited = λ n e. absurd (gen-par_audit (command_of words) a n asked e);
         generated = λ b e. (same, subst (λ (x : Asked). Unopened content may_leave moment left_since disk before after status ended ⊎ ((v : LoggedView D) × (ended ≡ Kept v) × Generated content may_leave x disk before after status v)) (same-asked (command_of words) a b asked e) generated);
         migrated = λ e. absurd (gen-migrate (command_of words) a asked e);
+        backed_up = λ e. absurd (cc (same-command (command_of words) (Gen a) Backup asked e));
+        shipped = λ e. absurd (cc (same-command (command_of words) (Gen a) Ship asked e));
         makes_open = λ pages e. absurd (init-gen (command_of words) pages a e asked);
         stays_open = λ tell ids opens other. ⊎_elim (λ u. unopened-open content may_leave moment left_since disk before after status ended u stay counts tell ids opens) (λ g. generated-open content may_leave a disk before after status g.0 g.2 ended g.1 stay tell ids (at-either may_leave ids disk opens)) generated;
         stays_either = λ tell ids opens other. ⊎_elim (λ u. unopened-either content may_leave moment left_since disk before after status ended u stay counts tell ids opens) (λ g. at-either may_leave ids (disk_in ended) (generated-open content may_leave a disk before after status g.0 g.2 ended g.1 stay tell ids opens)) generated;
@@ -497,6 +529,8 @@ module _ {S D : Type 0} (content : D → Area → Option (List ℕ)) (may_leave 
     par_audited = λ n e. absurd (run-par_audit (command_of words) n asked e);
     generated = λ a e. absurd (gen-run (command_of words) a e asked);
     migrated = λ e. absurd (run-migrate (command_of words) asked e);
+    backed_up = λ e. absurd (cc (same-command (command_of words) Run Backup asked e));
+    shipped = λ e. absurd (cc (same-command (command_of words) Run Ship asked e));
     makes_open = λ pages e. absurd (init-run (command_of words) pages e asked);
     stays_open = λ tell ids opens other. ⊎_elim (λ u. unopened-open content may_leave moment left_since disk before after status ended u.1 stay counts tell ids opens) (λ r. ran-open content may_leave disk before after status r.0 r.2 stay tell ids (at-either may_leave ids disk opens) ended r.1) ran;
     stays_either = λ tell ids opens other. ⊎_elim (λ u. unopened-either content may_leave moment left_since disk before after status ended u.1 stay counts tell ids opens) (λ r. at-either may_leave ids (disk_in ended) (ran-open content may_leave disk before after status r.0 r.2 stay tell ids opens ended r.1)) ran;
@@ -530,6 +564,8 @@ module _ {S D : Type 0} (content : D → Area → Option (List ℕ)) (may_leave 
         par_audited = λ n e. absurd (par_audit-migrate (command_of words) n e asked);
         generated = λ a e. absurd (gen-migrate (command_of words) a e asked);
         migrated = λ _. (same, migrated);
+        backed_up = λ e. absurd (cc (same-command (command_of words) Migrate Backup asked e));
+        shipped = λ e. absurd (cc (same-command (command_of words) Migrate Ship asked e));
         makes_open = λ pages e. absurd (init-migrate (command_of words) pages e asked);
         stays_open = λ tell ids opens other. goes-on-open content may_leave moment left_since disk before after status ended migrated stay tell ids counts opens;
         stays_either = λ tell ids opens other. goes-on-either content may_leave moment left_since disk before after status ended migrated stay tell ids counts opens;
@@ -538,11 +574,79 @@ module _ {S D : Type 0} (content : D → Area → Option (List ℕ)) (may_leave 
             let c = subst (CanBeDone may_leave disk before.left) (same-command (command_of words) command Migrate e asked) can in
             migration-done content may_leave moment left_since disk before after status ended migrated stay tell c.0 c.1 writes faults;
         refuses = λ image reads closed ask.
-            absurd (⊎_elim (λ e. replay-migrate (command_of words) e asked) (λ h. ⊎_elim (λ e. run-migrate (command_of words) e asked) (λ h. ⊎_elim (λ e. audit-migrate (command_of words) e asked) (λ h. ⊎_elim (λ n. par_audit-migrate (command_of words) n.0 n.1 asked) (λ g. gen-migrate (command_of words) g.0 g.1 asked) h) h) h) ask);
+            absurd (⊎_elim (λ e. replay-migrate (command_of words) e asked) (λ h. ⊎_elim (λ e. run-migrate (command_of words) e asked) (λ h. ⊎_elim (λ e. audit-migrate (command_of words) e asked) (λ h. ⊎_elim (λ n. par_audit-migrate (command_of words) n.0 n.1 asked) (λ h. ⊎_elim (λ g. gen-migrate (command_of words) g.0 g.1 asked) (λ e. cc (same-command (command_of words) Migrate Backup asked e)) h) h) h) h) ask);
         refuses_to_migrate = λ image reads closed e. closed-unmigrated content may_leave moment left_since disk before after status ended migrated image reads closed.0 (closed.1 asked);
         only_refused = λ tell seven image reads.
             let closed = unmigrated-closed content may_leave moment left_since disk before after status ended migrated seven image reads in
             (closed.0, λ e. closed.1);
+      }
+
+  pub asks-backup : command_of words ≡ Some Backup → (status ≡ 0) ⊎ ((status ≡ 5) ⊎ ((status ≡ 6) ⊎ ((status ≡ 7) ⊎ ((status ≡ 8) ⊎ (status ≡ 9))))) → later ≡ script → Unopened content may_leave moment left_since disk before after status ended ⊎ BackedUp content may_leave disk before after status ended
+      → Answered content may_leave moment left_since words script later disk before after status ended
+  asks-backup asked statuses same backed_up =
+      let is = of-gen status statuses in
+      record {
+        usage = λ two. absurd (not-usage status is two);
+        no_reading = λ none. absurd (none-some (command_of words) Backup none asked);
+        statuses = inr is;
+        goes_later = goes;
+        only_looks = λ other image reads closed. ⊎_elim (λ u. u.refused.only_looks image reads closed.0) (λ b. absurd (closed.0 b.cells (b.opened image reads))) backed_up;
+        unread = λ two. absurd (not-usage status is two);
+        made = λ pages e. absurd (cc (same-command (command_of words) (Init pages) Backup e asked));
+        replayed = λ e. absurd (cc (same-command (command_of words) Replay Backup e asked));
+        ran = λ e. absurd (cc (same-command (command_of words) Run Backup e asked));
+        audited = λ e. absurd (cc (same-command (command_of words) Audit Backup e asked));
+        par_audited = λ n e. absurd (cc (same-command (command_of words) (ParAudit n) Backup e asked));
+        generated = λ a e. absurd (cc (same-command (command_of words) (Gen a) Backup e asked));
+        migrated = λ e. absurd (cc (same-command (command_of words) Migrate Backup e asked));
+        backed_up = λ _. (same, backed_up);
+        shipped = λ e. absurd (cc (same-command (command_of words) Ship Backup e asked));
+        makes_open = λ pages e. absurd (cc (same-command (command_of words) (Init pages) Backup e asked));
+        stays_open = λ tell ids opens other. ⊎_elim (λ u. unopened-open content may_leave moment left_since disk before after status ended u stay counts tell ids opens) (λ b. backed_up-open content may_leave disk before after status ended b stay tell ids (at-either may_leave ids disk opens)) backed_up;
+        stays_either = λ tell ids opens other. ⊎_elim (λ u. unopened-either content may_leave moment left_since disk before after status ended u stay counts tell ids opens) (λ b. at-either may_leave ids (disk_in ended) (backed_up-open content may_leave disk before after status ended b stay tell ids opens)) backed_up;
+        migrates = λ tell ids opens e. absurd (cc (same-command (command_of words) Migrate Backup e asked));
+        complete = λ tell command e can reads writes faults.
+            let c = subst (CanBeDone may_leave disk before.left) (same-command (command_of words) command Backup e asked) can in
+            ⊎_elim (λ u. unopened-memory content may_leave moment left_since disk before after status ended u stay tell c.0 c.1 faults) (λ b. backed_up-done content may_leave disk before after status ended b writes faults) backed_up;
+        refuses = λ image reads closed ask. ⊎_elim (λ u. u) (λ b. absurd (closed b.cells (b.opened image reads))) backed_up;
+        refuses_to_migrate = λ image reads closed e. absurd (cc (same-command (command_of words) Migrate Backup e asked));
+        only_refused = λ tell seven image reads. (
+          ⊎_elim (λ u. unopened-closed content may_leave moment left_since disk before after status ended u seven image reads) (λ b. absurd (backed_up-opened content may_leave disk before after status ended b seven)) backed_up,
+          λ e. absurd (cc (same-command (command_of words) Migrate Backup e asked)),
+        );
+      }
+
+  pub asks-ship : command_of words ≡ Some Ship → later ≡ script → Shipped content may_leave moment left_since disk before after status ended
+      → Answered content may_leave moment left_since words script later disk before after status ended
+  asks-ship asked same shipped =
+      let is = of-ship status shipped.statuses in
+      record {
+        usage = λ two. absurd (not-usage status is two);
+        no_reading = λ none. absurd (none-some (command_of words) Ship none asked);
+        statuses = inr is;
+        goes_later = goes;
+        only_looks = λ other image reads closed. shipped.looks;
+        unread = λ two. absurd (not-usage status is two);
+        made = λ pages e. absurd (cc (same-command (command_of words) (Init pages) Ship e asked));
+        replayed = λ e. absurd (cc (same-command (command_of words) Replay Ship e asked));
+        ran = λ e. absurd (cc (same-command (command_of words) Run Ship e asked));
+        audited = λ e. absurd (cc (same-command (command_of words) Audit Ship e asked));
+        par_audited = λ n e. absurd (cc (same-command (command_of words) (ParAudit n) Ship e asked));
+        generated = λ a e. absurd (cc (same-command (command_of words) (Gen a) Ship e asked));
+        migrated = λ e. absurd (cc (same-command (command_of words) Migrate Ship e asked));
+        backed_up = λ e. absurd (cc (same-command (command_of words) Backup Ship e asked));
+        shipped = λ _. (same, shipped);
+        makes_open = λ pages e. absurd (cc (same-command (command_of words) (Init pages) Ship e asked));
+        stays_open = λ tell ids opens other. shipped-images content may_leave moment left_since disk before after status ended shipped _ opens;
+        stays_either = λ tell ids opens other. shipped-images content may_leave moment left_since disk before after status ended shipped _ opens;
+        migrates = λ tell ids opens e. absurd (cc (same-command (command_of words) Migrate Ship e asked));
+        complete = λ tell command e can reads writes faults.
+            let c = subst (CanBeDone may_leave disk before.left) (same-command (command_of words) command Ship e asked) can in
+            shipped-done content may_leave moment left_since disk before after status ended shipped stay tell c.0 c.1 writes faults;
+        refuses = λ image reads closed ask.
+            absurd (⊎_elim (λ e. cc (same-command (command_of words) Replay Ship e asked)) (λ h. ⊎_elim (λ e. cc (same-command (command_of words) Run Ship e asked)) (λ h. ⊎_elim (λ e. cc (same-command (command_of words) Audit Ship e asked)) (λ h. ⊎_elim (λ n. cc (same-command (command_of words) (ParAudit n.0) Ship n.1 asked)) (λ h. ⊎_elim (λ g. cc (same-command (command_of words) (Gen g.0) Ship g.1 asked)) (λ e. cc (same-command (command_of words) Backup Ship e asked)) h) h) h) h) ask);
+        refuses_to_migrate = λ image reads closed e. absurd (cc (same-command (command_of words) Migrate Ship e asked));
+        only_refused = λ tell seven image reads. (shipped-closed content may_leave moment left_since disk before after status ended shipped seven image reads, λ e. absurd (cc (same-command (command_of words) Migrate Ship e asked)));
       }
 
 -- ---- the command that was read

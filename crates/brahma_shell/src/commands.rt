@@ -28,6 +28,10 @@ pub enum Command {
     /// `migrate`: makes a store of version 1, whose objects have six slots, one of version 2, in which they have fourteen, and prints how
     /// many pages it has.
     Migrate,
+    /// `backup`: makes a checkpoint, and writes the base of a stream: the number of pages, and the pages.
+    Backup,
+    /// `ship`: writes the bytes of the current log, which follow a base in a stream. It doesn't open the store.
+    Ship,
 }
 
 /// The command that one word names.
@@ -39,6 +43,8 @@ fn command_of_word(word: &[u8]) -> Option<Command>
         b"run" => Some(Command::Run),
         b"audit" => Some(Command::Audit),
         b"migrate" => Some(Command::Migrate),
+        b"backup" => Some(Command::Backup),
+        b"ship" => Some(Command::Ship),
         _ => None,
     }
 }

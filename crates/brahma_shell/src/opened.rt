@@ -1,26 +1,32 @@
 //! A store that was just opened: it is audited, or handed to clients on threads or to a replay.
 
-ghost use Rattle.std.specs.Prelude.{◌≡◌, ◌<◌, ◌≤◌, ◌*◌, [], true, false, IfOk, IfErr};
-ghost use Rattle.plain_model.specs.History.{IsLegal, end_of, is_stopped};
+ghost use Rattle.std.specs.Prelude.{◌≡◌, ◌⊎◌, ◌<◌, ◌≤◌, ◌*◌, ℕ, List, [], None, true, false, IfOk, IfErr, IsErrOf, OnOk};
+ghost use Rattle.std.specs.Io.KnownBytes.{Appends};
+ghost use Rattle.plain_model.specs.History.{IsLegal, end_of, is_stopped, least_active};
 ghost use Rattle.plain_laws.specs.Serializable.{IsSerializable};
 ghost use Rattle.std.specs.List.{range_with_len};
 ghost use Rattle.disk_model.specs.Told.{EachImage};
+ghost use Rattle.disk_model.specs.Time.{LeavesOnlyImages};
 ghost use Rattle.store_model.specs.Sound.{IsSound};
 ghost use Rattle.journal_opening.specs.Openings.{OpensAs, RefusesToOpen, OpensMeanwhile, HasFault};
 ghost use Rattle.auditor.specs.Recount.{live_in, zero_in};
 ghost use Rattle.par_audit.specs.Garbage.{IsGarbage};
 ghost use Rattle.framed_journal.specs.Holding.{AreFramesOf};
-ghost use Rattle.logged_journal.specs.View.{history_of};
+ghost use Rattle.logged_journal.specs.View.{history_of, OnlyTakesRoom};
+ghost use Rattle.logged_journal.specs.Upkeep.{FailsUpkeep};
 ghost use Rattle.logged_journal.specs.Opens.{OpensAfter};
 ghost use Rattle.core_store.specs.JournalView.{cells_of, core_of, opening_of};
 ghost use Rattle.core_store.specs.Leads.{AreLed};
 ghost use Rattle.cell_model.specs.Graph.{graph_of};
-ghost use Rattle.core_store.specs.Limited.{WasFull};
+ghost use Rattle.core_store.specs.Limited.{WasFull, is_past_limit};
 ghost use Rattle.core_store.specs.Safe.{IsDurable};
 ghost use Rattle.logged_journal.specs.Records.{MayBeLeft, durable_notes};
 ghost use Rattle.brahma_shell.specs.Points.{entries_in};
 ghost use Rattle.brahma_shell.specs.Log.{WasLogFull};
 ghost use Rattle.script_lines.specs.Numbers.{object_slots};
+ghost use Rattle.script_lines.specs.Output.{AppendsFront};
+ghost use Rattle.store_backup.specs.declared.refusal.BackupRefusal.TheVariants.{Disk, LogFull, Memory as Starved, Write};
+ghost use Rattle.store_backup.specs.Backups.{IsBaseOf, HasTurned, HasSinkCause};
 
 use auditor::{Report, audit_journal};
 use cell_page::CELLS_OF_PAGE;
@@ -29,12 +35,14 @@ use disk_model::Disk;
 use framed_journal::FramedJournal;
 use journal_opening::open;
 use logged_journal::LoggedJournal;
+use outside_io::Sink;
 use par_audit::{Wide, par_audit_journal};
 use plain_model::Memory;
 use script_lines::SLOTS;
 use std::alloc::Global;
 use std::marker::Model;
 use std::thread::Threads;
+use store_backup::{BackupRefusal, back_up};
 use store_opening::OpenRefusal;
 
 /// A store that was opened: a journal with its log and all its frames, on one thread.
@@ -117,6 +125,28 @@ impl<D: Disk> OpenedStore<D> {
         ensures garbage { IfOk result (λ w. IsGarbage (cells_of self.now.journal) (range_with_len 1 self.now.journal.history.ids) w.garbage) }
     {
         par_audit_journal(rt, alloc, &self.framed, pieces)
+    }
+
+    /// Makes a checkpoint, and writes the base of a stream.
+    pub(crate) fn back_up<W: Sink>(&mut self, out: &mut W) -> Result<(), BackupRefusal>
+        requires running { self.old.failed ≡ None }
+        requires idle { least_active (end_of self.old.journal.history).state ≡ None }
+        requires room { is_past_limit self.old.journal 1 ≡ false }
+        ensures base { OnOk result ((bytes : List ℕ) × IsBaseOf object_slots self.new.journal.history.ids (cells_of self.new.journal) bytes
+            × Appends (W.written out.old) (W.written out.new) bytes) }
+        ensures write { IsErrOf result Write → (bytes : List ℕ) × IsBaseOf object_slots self.new.journal.history.ids (cells_of self.new.journal) bytes
+            × AppendsFront (W.written out.old) (W.written out.new) bytes }
+        ensures turned { OnOk result (HasTurned object_slots D.may_leave self.old self.new) }
+        ensures turned_too { IsErrOf result Write → HasTurned object_slots D.may_leave self.old self.new }
+        ensures failed { IsErrOf result Disk → FailsUpkeep D.faults self.old self.new }
+        ensures full { IsErrOf result LogFull → OnlyTakesRoom (record self.old { log_full = true }) self.new }
+        ensures starved { IsErrOf result Starved → OnlyTakesRoom self.old self.new }
+        ensures unwritten { IfErr result (λ e. (e ≡ Write) ⊎ (out.new ≡ out.old)) }
+        ensures sink { HasSinkCause (W.faults out.old) (W.faults out.new) result }
+        ensures disk_later { D.faults self.old.disk ≤ D.faults self.new.disk }
+        ensures opens { LeavesOnlyImages D.moment D.left_since self.old.disk self.new.disk (OpensAfter object_slots (history_of self.old)) }
+    {
+        back_up(&mut self.framed, out)
     }
 
     /// How many pages the store has.

@@ -11,3 +11,13 @@ pub returns-in-migrate : goal.returns-in-migrate
 returns-in-migrate c =
     let e : c.args.word.now ≡ codes "migrate" = search (rules, text_from_reads) in
     rw e
+
+pub returns-in-backup : goal.returns-in-backup
+returns-in-backup c =
+    let e : c.args.word.now ≡ codes "backup" = search (rules, text_from_reads) in
+    rw e
+
+pub returns-in-ship : goal.returns-in-ship
+returns-in-ship c =
+    let e : c.args.word.now ≡ codes "ship" = search (rules, text_from_reads) in
+    rw e

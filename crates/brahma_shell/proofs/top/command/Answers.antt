@@ -1,8 +1,8 @@
 use Rattle.std.proofs.Common.{refl, sym, ◌∙◌, arith}
 use mir.Syntax.{of_param}
-use Rattle.brahma_shell.specs.declared.commands.Command.TheVariants.{Init, Replay, Gen, Audit, Migrate}
+use Rattle.brahma_shell.specs.declared.commands.Command.TheVariants.{Init, Replay, Gen, Audit, Migrate, Backup, Ship}
 use Rattle.brahma_shell.specs.Commands.{command_of}
-use Rattle.brahma_shell.proofs.AnswerLemmas.{asks-nothing, asks-starved, asks-init, asks-replay, asks-gen, asks-audit, asks-migrate, pages-within, named}
+use Rattle.brahma_shell.proofs.AnswerLemmas.{asks-nothing, asks-starved, asks-init, asks-replay, asks-gen, asks-audit, asks-migrate, asks-backup, asks-ship, pages-within, named}
 use Rattle.brahma_shell.proofs.FewLemmas.{gen-few}
 use Rattle.brahma_shell.proofs.top.command.Goals as goal
 
@@ -56,6 +56,22 @@ returns-in-Ok-Some-Migrate g c =
     let m = c.migrate_store.ensures in
     asks-migrate g.D.Disk.content g.D.Disk.may_leave g.D.Disk.moment g.D.Disk.left_since _ _ _ _ _ _ _ _ (record { reads = omega arith; writes = m.out_later; disk = m.disk_later }) g.D.Disk.reads_may_stay g.D.Disk.counts_now asked m.statuses refl
     (m.migrated (g.R.Source.left c.args.script.now) (g.R.Source.faults c.args.script.now))
+
+pub returns-in-Ok-Some-Backup : goal.returns-in-Ok-Some-Backup
+returns-in-Ok-Some-Backup g c =
+    let at = c.in-Ok-Some-Backup in
+    let asked = named at.field-0 (command_of c.args.words.now) at.field-0-0 Backup at.ensures.value at.field-0-is at.field-0-0-is in
+    let b = c.back_up_store.ensures in
+    asks-backup g.D.Disk.content g.D.Disk.may_leave g.D.Disk.moment g.D.Disk.left_since _ _ _ _ _ _ _ _ (record { reads = omega arith; writes = b.out_later; disk = b.disk_later }) g.D.Disk.reads_may_stay g.D.Disk.counts_now asked b.statuses refl
+    (b.backed_up (g.R.Source.left c.args.script.now) (g.R.Source.faults c.args.script.now))
+
+pub returns-in-Ok-Some-Ship : goal.returns-in-Ok-Some-Ship
+returns-in-Ok-Some-Ship g c =
+    let at = c.in-Ok-Some-Ship in
+    let asked = named at.field-0 (command_of c.args.words.now) at.field-0-0 Ship at.ensures.value at.field-0-is at.field-0-0-is in
+    let s = c.ship_log.ensures in
+    asks-ship g.D.Disk.content g.D.Disk.may_leave g.D.Disk.moment g.D.Disk.left_since _ _ _ _ _ _ _ _ (record { reads = omega arith; writes = s.out_later; disk = s.disk_later }) g.D.Disk.reads_may_stay g.D.Disk.counts_now asked refl
+    (s.shipped (g.R.Source.left c.args.script.now) (g.R.Source.faults c.args.script.now))
 
 pub returns-in-Ok-None : goal.returns-in-Ok-None
 returns-in-Ok-None g c =
