@@ -7,8 +7,8 @@ A library that is loaded before the C library's own keeps a trace of the calls t
 is to take the place of one of them, and on their folder: reads, writes, cuts, syncs, new names and removals. It ends the program at the Kth
 of them, for K from 1 on until the program ends by itself: while a store is made from nothing and over another one, while a script is
 replayed that has every line, while a store is opened whose last transactions had not ended, while one is opened on which another run did
-not end well, while an audit is made, while a store of version 1 is migrated, and one of version 2, while a client works on a thread, while generated calls are done, and while M (five, without it)
-scripts are replayed that are drawn as those of damage.py are.
+not end well, while an audit or a backup is made, while a store of version 1 is migrated, and one of version 2, while a client works on a
+thread, while generated calls are done, and while M (five, without it) scripts are replayed that are drawn as those of damage.py are.
 
 From the trace N (ten, without it) contents of the four files are drawn as a power loss at that call may leave them. What the last sync of a
 file made last is there. Of the writes and cuts behind it, and of the call at which power was lost, each is done, not done or done in part,
@@ -270,7 +270,7 @@ class Losses:
             self.runs.lay(areas)
             seen = self.runs.seen(True)
             return lambda _: [seen]
-        if words[0] == "audit":
+        if words[0] in ("audit", "backup"):
             script = b""
         fronts = self.fronts(areas, script)
         seen = [now for _, now in fronts]
@@ -388,6 +388,7 @@ def lose_all(words, runs):
         losses.try_each({**unended, MARK: b"", SPARE_NAME: b"left"}, ["replay"], UNDER_A_MARK),
         losses.lie_each(unended, stores.SCRIPT),
         losses.try_each(unended, ["audit"], b""),
+        losses.try_each(unended, ["backup"], b""),
         # At each call in the short form too.
         Losses(runs, words.losses, words.seed, 1).try_each(of_version_1(unended), ["migrate"], b""),
         0 if words.short else losses.try_each(unended, ["migrate"], b""),

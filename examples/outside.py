@@ -26,7 +26,7 @@ from places import PAGE, places
 HERE = os.path.dirname(os.path.abspath(__file__))
 BENCH = os.path.join(HERE, "..", "bench")
 GENERATED = ["gen", "--seed", "1", "--clients", "1", "--txns", "1"]
-COMMANDS = (["init", "2"], ["replay"], ["run"], ["audit"], ["migrate"], GENERATED, ["nothing"])
+COMMANDS = (["init", "2"], ["replay"], ["run"], ["audit"], ["migrate"], ["backup"], ["ship"], GENERATED, ["nothing"])
 
 # A copy of the process is made before its first data sync, and holds what it holds until it is ended.
 FORKS = r"""
@@ -109,7 +109,10 @@ def streams(attacks):
                 attacks.expect(what + ", output", b"", output)
             elif wanted == INPUT:
                 attacks.expect(what + ", output", b"refused: read\n", output)
-            attacks.expect(what + ", super area", b"\0" if words[0] == "init" else attacks.base["brahma.super"], attacks.held()["brahma.super"])
+            named = attacks.base["brahma.super"]
+            # A backup makes a checkpoint, so that the log begins anew in the other area.
+            names = {"init": b"\0", "backup": bytes(1 - it for it in named)}.get(words[0], named)
+            attacks.expect(what + ", super area", names, attacks.held()["brahma.super"])
             if words[0] == "gen":
                 attacks.expect(what + ", opens", 0, attacks.run(["replay"])[0])
             else:
@@ -157,7 +160,7 @@ def locks(attacks):
     attacks.fresh()
     first = attacks.hold()
     before = attacks.held()
-    for words in (["init", "2"], ["replay"], ["run"], ["audit"], ["migrate"], GENERATED):
+    for words in (["init", "2"], ["replay"], ["run"], ["audit"], ["migrate"], ["backup"], ["ship"], GENERATED):
         attacks.expect_refused("%s beside a run" % words[0], attacks.run(words))
     attacks.expect("files beside a run", before, attacks.held())
     attacks.tell(first, one(3), 3)
