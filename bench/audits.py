@@ -12,8 +12,8 @@ processor time. The works are
 - the marking alone, on the same two.
 
 In the random graph each of the fourteen slots of an object names an object drawn at random. In the chain each object names the
-next one alone. Plain is one thread without pieces: the plain audit, on cells alone its count of pointers without the marking, or
-a marking that follows one object after another.
+next one alone. Plain is one thread without pieces, which finds the same: the plain audit (on cells alone its count of pointers),
+and a marking that follows one object after another.
 """
 import argparse
 import os
@@ -46,7 +46,7 @@ def row(program, runs, words):
             found[how], took, used = times(program, [*words, how])
             wall[how] = min(wall.get(how, took), took)
             processor[how] = min(processor.get(how, used), used)
-    if len({found[how] for how in HOWS[1:]}) != 1:
+    if len(set(found.values())) != 1:
         sys.exit("%s found otherwise by another number of pieces: %s" % (" ".join(words), found))
     return wall, processor
 

@@ -70,6 +70,7 @@ fn follow(
 /// Marks what the root reaches, one object after another.
 fn mark_all(alloc: Global, cells: &[Cell<SLOTS>], marks: &mut [bool]) -> Result<(), Memory>
     requires { length marks.old ≡ length cells.now }
+    ensures { length marks.new ≡ length marks.old }
 {
     let mut listed = Vec::new(alloc);
     visit(cells, marks, &mut listed, ROOT)?;
@@ -83,8 +84,26 @@ fn mark_all(alloc: Global, cells: &[Cell<SLOTS>], marks: &mut [bool]) -> Result<
 }
 
 /// Marks what the root reaches.
-pub(crate) fn marks_of(alloc: Global, cells: &[Cell<SLOTS>]) -> Result<Vec<bool>, Memory> {
+pub(crate) fn marks_of(alloc: Global, cells: &[Cell<SLOTS>]) -> Result<Vec<bool>, Memory>
+    ensures { IfOk result (λ marks. length marks.items ≡ length cells.now) }
+{
     let mut marks = vec![in alloc; false; cells.len()]?;
     mark_all(alloc, cells, marks.as_mut_slice())?;
     Ok(marks)
+}
+
+/// One if so, else none.
+fn one_if(so: bool) -> u32 {
+    if so { 1 } else { 0 }
+}
+
+/// How many live cells have no mark.
+pub(crate) fn garbage_of(cells: &[Cell<SLOTS>], marks: &[bool]) -> u32
+    requires { length marks.now ≡ length cells.now }
+{
+    let mut count = 0u32;
+    for id in 0..cells.len() {
+        count = count.saturating_add(one_if(cells[id].live && !marks[id]));
+    }
+    count
 }

@@ -4,7 +4,7 @@ ghost use Rattle.auditor.specs.Recount.{ArePages};
 
 use crate::made::{SLOTS, cells_alone, store_made};
 use crate::order::{How, Order, Store, Work};
-use crate::plain::{counts_of, marks_of};
+use crate::plain::{counts_of, garbage_of, marks_of};
 use crate::tally::{Beginning, Tally};
 use anyhow::Result;
 use auditor::recount;
@@ -25,7 +25,8 @@ fn last_of(numbers: &[u32]) -> u32 {
     }
 }
 
-/// The audit of a store, after the replay of its log. How many objects no strong pointer leads to.
+/// The audit of a store, after the replay of its log, and its marking. How many objects no strong pointer leads to, and how
+/// many the root doesn't reach.
 fn audit_pages<R: Threads + AllocGlobal + Sync>(
     rt: &R,
     cells: &[Cell<SLOTS>],
@@ -37,18 +38,24 @@ fn audit_pages<R: Threads + AllocGlobal + Sync>(
     requires pages { ArePages frames.now }
 {
     match how.pieces() {
-        None => Ok(recount(rt.alloc(), cells, frames)?.zero),
-        Some(pieces) => {
+        None => {
+            let report = recount(rt.alloc(), cells, frames)?;
+            let marks = marks_of(rt.alloc(), cells)?;
             Ok(
-                recount_by_pieces(rt, rt.alloc(), cells, frames, pieces)?
-                    .report
-                    .zero,
+                report
+                    .zero
+                    .saturating_add(garbage_of(cells, marks.as_slice())),
             )
+        }
+        Some(pieces) => {
+            let wide = recount_by_pieces(rt, rt.alloc(), cells, frames, pieces)?;
+            Ok(wide.report.zero.saturating_add(wide.garbage))
         }
     }
 }
 
-/// The count of all pointers and the marking, of cells alone. How many pointers lead to the last id. The plain one counts only.
+/// The count of all pointers and the marking, of cells alone. How many pointers lead to the last id, and how many objects the
+/// root doesn't reach.
 fn audit_cells<R: Threads + AllocGlobal + Sync>(
     rt: &R,
     cells: &[Cell<SLOTS>],
@@ -62,11 +69,14 @@ fn audit_cells<R: Threads + AllocGlobal + Sync>(
         None => {
             let zeros = counts_of(rt.alloc(), cells, false)?;
             let ones = counts_of(rt.alloc(), cells, true)?;
-            Ok(last_of(zeros.as_slice()).saturating_add(last_of(ones.as_slice())))
+            let marks = marks_of(rt.alloc(), cells)?;
+            let garbage = garbage_of(cells, marks.as_slice());
+            let pointers = last_of(zeros.as_slice()).saturating_add(last_of(ones.as_slice()));
+            Ok(pointers.saturating_add(garbage))
         }
         Some(pieces) => {
             let found = find(rt, rt.alloc(), cells, pieces)?;
-            let garbage = garbage_in(cells, found.marks.as_slice(), ids);
+            let garbage = garbage_in(found.unreached.as_slice(), ids);
             let zeros = last_of(found.tables.zeros.as_slice());
             let ones = last_of(found.tables.ones.as_slice());
             Ok(zeros.saturating_add(ones).saturating_add(garbage))
@@ -74,7 +84,15 @@ fn audit_cells<R: Threads + AllocGlobal + Sync>(
     }
 }
 
-/// The marking. Whether the last id is marked, as a number.
+/// Whether the last place of a table is marked, as a number.
+fn last_mark(table: &[bool]) -> u32 {
+    match table.last() {
+        Some(last) => u32::from(*last),
+        None => 0,
+    }
+}
+
+/// The marking. Whether the root reaches the last id, as a number.
 fn mark_cells<R: Threads + AllocGlobal + Sync>(
     rt: &R,
     cells: &[Cell<SLOTS>],
@@ -82,13 +100,12 @@ fn mark_cells<R: Threads + AllocGlobal + Sync>(
 ) -> Result<u32>
     requires { length cells.now ≤ 16777216 }
 {
-    let marks = match how.pieces() {
-        None => marks_of(rt.alloc(), cells)?,
-        Some(pieces) => mark(rt, rt.alloc(), cells, pieces)?,
-    };
-    match marks.as_slice().last() {
-        Some(last) => Ok(u32::from(*last)),
-        None => Ok(0),
+    match how.pieces() {
+        None => Ok(last_mark(marks_of(rt.alloc(), cells)?.as_slice())),
+        Some(pieces) => {
+            let unreached = mark(rt, rt.alloc(), cells, pieces)?;
+            Ok(1u32.saturating_sub(last_mark(unreached.as_slice())))
+        }
     }
 }
 

@@ -12,8 +12,8 @@ use Rattle.cell_page.specs.declared.cell.Cell.{Cell as PageCell}
 use Rattle.cell_page.specs.Stored.{cell_of, pointers_from}
 use Rattle.std.proofs.Math.Seq.{drop-append_seam}
 use Rattle.restart_laws.proofs.GraphLaws.{graph-object, graph-live}
-use Rattle.par_audit.specs.Marks.{is_marked, is_object, is_in, is_named, slots_at, Follows}
-use Rattle.par_audit.specs.Garbage.{IsReach}
+use Rattle.par_audit.specs.Marks.{is_marked, is_object, is_reached, is_in, is_named, slots_at, AreObjects, Follows}
+use Rattle.par_audit.specs.Garbage.{IsUnreached}
 
 -- an object of the level names this object of the graph in a slot
 pub record IsNamedBy (g : List Object) (level : List ℕ) (y : ℕ) : Type 0 where
@@ -160,20 +160,70 @@ object-live cells y e =
 
 -- ---- the levels of the code
 
--- who follows a level of marked objects goes to the next level
-pub next-level : {slots : ℕ} (cells : List (PageCell slots)) (a b : List Bool) (level xs ys : List ℕ) → ((x : ℕ) → Contains level x → is_live (map cell_of cells) x ≡ true)
-    → (f : Follows (map cell_of cells) (is_named cells level) a b xs ys) → IsNextLevel (graph_of (map cell_of cells)) (is_marked a) level (is_marked b) f.found
-next-level cells a b level xs ys live f = record {
-  kept = λ x e. f.marked x ∙ or-left (is_marked a x) _ e;
+-- from what is reached to what is reached after objects with these names were followed; what is newly reached is found
+pub record Reaches (cells : List Cell) (has_name m n : ℕ → Bool) (found : List ℕ) : Type 0 where
+  pub marked : (id : ℕ) → n id ≡ (m id || (has_name id && is_object cells id))
+  pub new : (id : ℕ) → Contains found id ↔ ((m id ≡ false) × (n id ≡ true))
+
+reached-after : (o a f : Bool) → (o && not (a && not f)) ≡ ((o && not a) || (f && o))
+reached-after true true true = refl
+reached-after true true false = refl
+reached-after true false true = refl
+reached-after true false false = refl
+reached-after false a true = refl
+reached-after false a false = refl
+
+not-reached : (o a : Bool) → a ≡ true → (o && not a) ≡ false
+not-reached true true e = refl
+not-reached true false e = absurd (cc)
+not-reached false a e = refl
+
+is-reached : (o a : Bool) → o ≡ true → a ≡ false → (o && not a) ≡ true
+is-reached true false e f = refl
+is-reached true true e f = absurd (cc)
+is-reached false a e f = absurd (cc)
+
+was-unreached : (o a : Bool) → o ≡ true → (o && not a) ≡ false → a ≡ true
+was-unreached true true e f = refl
+was-unreached true false e f = absurd (cc)
+was-unreached false a e f = absurd (cc)
+
+of-not : (a : Bool) → not a ≡ true → a ≡ false
+of-not true e = absurd (cc)
+of-not false e = refl
+
+-- who follows names reaches what they name
+reaches : (cells : List Cell) (f : ℕ → Bool) (a b : List Bool) (xs ys : List ℕ) → AreObjects cells a → (s : Follows f a b xs ys) → Reaches cells f (is_reached cells a) (is_reached cells b) s.found
+reaches cells f a b xs ys objects s = record {
+  marked = λ id. ap (λ (m : Bool). is_object cells id && not m) (s.kept id) ∙ reached-after (is_object cells id) (is_marked a id) (f id);
+  new = λ id. (
+    λ h.
+        let was = (s.new id).0 h in
+        (not-reached (is_object cells id) (is_marked a id) was.0, is-reached (is_object cells id) (is_marked b id) (objects id was.0) was.1),
+    λ h.
+        let now = and-split (is_object cells id) (not (is_marked b id)) h.1 in
+        (s.new id).1 (was-unreached (is_object cells id) (is_marked a id) now.0 h.0, of-not (is_marked b id) now.1),
+  );
+}
+
+-- what is unreached stays of objects
+pub objects-kept : (cells : List Cell) (f : ℕ → Bool) (a b : List Bool) (xs ys : List ℕ) → AreObjects cells a → Follows f a b xs ys → AreObjects cells b
+objects-kept cells f a b xs ys objects s = λ id still. objects id (and-split (is_marked a id) (not (f id)) (sym (s.kept id) ∙ still)).0
+
+-- who follows a level of reached objects goes to the next level
+pub next-level : {slots : ℕ} (cells : List (PageCell slots)) (m n : ℕ → Bool) (level found : List ℕ) → ((x : ℕ) → Contains level x → is_live (map cell_of cells) x ≡ true)
+    → (f : Reaches (map cell_of cells) (is_named cells level) m n found) → IsNextLevel (graph_of (map cell_of cells)) m level n found
+next-level cells m n level found live f = record {
+  kept = λ x e. f.marked x ∙ or-left (m x) _ e;
   all = λ y n.
       let held = graph-held stored n.namer n.object n.is in
       let slots : n.object.slots ≡ slots_at cells n.namer = sym (ap (λ (o : Object). o.slots) held.1) ∙ slots-named cells n.namer in
       let inside = held-in (slots_at cells n.namer) y (subst (λ (l : List ℕ). Contains l y) slots n.named) in
       let named = any-held (λ x. is_in (slots_at cells x) y) level n.namer n.held inside in
       let object = object-of stored y n.nonzero (graph-held stored y n.target n.there).0 in
-      f.marked y ∙ or-right (is_marked a y) _ (ap (λ (c : Bool). c && is_object stored y) named ∙ object);
+      f.marked y ∙ or-right (m y) _ (ap (λ (c : Bool). c && is_object stored y) named ∙ object);
   new = λ y was now.
-      let split = and-split (is_named cells level y) (is_object stored y) (or-second (is_marked a y) _ (sym (f.marked y) ∙ now) was) in
+      let split = and-split (is_named cells level y) (is_object stored y) (or-second (m y) _ (sym (f.marked y) ∙ now) was) in
       let namer = any-true (λ x. is_in (slots_at cells x) y) level split.0 in
       let there = object-live stored y split.1 in (
         record {
@@ -194,34 +244,51 @@ next-level cells a b level xs ys live f = record {
     stored : List Cell
     stored = map cell_of cells
 
+unreached-all : (o a : Bool) → a ≡ o → (o && not a) ≡ false
+unreached-all true true e = refl
+unreached-all true false e = absurd (cc)
+unreached-all false a e = refl
+
+-- all objects are unreached
+pub objects-all : (cells : List Cell) (table : List Bool) → ((id : ℕ) → is_marked table id ≡ is_object cells id) → AreObjects cells table
+objects-all cells table all = λ id e. sym (all id) ∙ e
+
 -- the root alone, where it is live
-pub marking-begins : (cells : List Cell) (a b : List Bool) (ys : List ℕ) → ((x : ℕ) → is_marked a x ≡ false) → Follows cells (λ x. root == x) a b [] ys
-    → IsMarking (graph_of cells) (root ∷ []) (is_marked b) (drop 0 ys)
-marking-begins cells a b ys blank f = subst (λ (l : List ℕ). IsMarking (graph_of cells) (root ∷ []) (is_marked b) l) (sym f.appended) (record {
+pub marking-begins : (cells : List Cell) (a b : List Bool) (ys : List ℕ) → ((id : ℕ) → is_marked a id ≡ is_object cells id) → Follows (λ x. root == x) a b [] ys
+    → IsMarking (graph_of cells) (root ∷ []) (is_reached cells b) (drop 0 ys)
+marking-begins cells a b ys all s = subst (λ (l : List ℕ). IsMarking (graph_of cells) (root ∷ []) (is_reached cells b) l) (sym s.appended) (record {
   begun = λ x o start there.
       let e = single x start in
       let live = (graph-held cells x o there).0 in
-      f.marked x ∙ or-right (is_marked a x) _ (ap (λ (c : Bool). c && is_object cells x) (eq-eqb root x e) ∙ object-of cells x (λ z. absurd (omega (arith, e, z))) live);
+      f.marked x ∙ or-right (is_reached cells a x) _ (ap (λ (c : Bool). c && is_object cells x) (eq-eqb root x e) ∙ object-of cells x (λ z. absurd (omega (arith, e, z))) live);
   sound = λ x m.
-      let split = and-split (root == x) (is_object cells x) (or-second (is_marked a x) _ (sym (f.marked x) ∙ m) (blank x)) in
+      let split = and-split (root == x) (is_object cells x) (or-second (is_reached cells a x) _ (sym (f.marked x) ∙ m) (blank x)) in
       let e = eqb-true root x split.0 in
       Reachable.start x (object_of x (cell_at cells x)) (zero, omega arith, e) (graph-live cells x (object-live cells x split.1).1);
   closed = λ x y o p m there named nonzero target. inl ((f.new x).1 (blank x, m));
   held = λ x h. ((f.new x).0 h).1;
 })
   where
+    f : Reaches cells (λ x. root == x) (is_reached cells a) (is_reached cells b) s.found
+    f = reaches cells (λ x. root == x) a b [] ys (objects-all cells a all) s
+
+    blank : (x : ℕ) → is_reached cells a x ≡ false
+    blank x = unreached-all (is_object cells x) (is_marked a x) (all x)
+
     single : (x : ℕ) → Contains (root ∷ []) x → root ≡ x
     single x (zero, lt, at) = at
     single x (suc k, lt, at) = absurd (omega (arith, lt))
 
 -- a level more, where the list has the level from one place on and the next level behind it
-pub marking-goes_on : {slots : ℕ} (cells : List (PageCell slots)) (a b : List Bool) (xs ys : List ℕ) («from» : ℕ)
-    → IsMarking (graph_of (map cell_of cells)) (root ∷ []) (is_marked a) (drop «from» xs) → Follows (map cell_of cells) (is_named cells (drop «from» xs)) a b xs ys
-    → IsMarking (graph_of (map cell_of cells)) (root ∷ []) (is_marked b) (drop (length xs) ys)
-marking-goes_on cells a b xs ys «from» is f =
-    let next = next-level cells a b (drop «from» xs) xs ys (λ x h. reached-live (map cell_of cells) (root ∷ []) x (is.sound x (is.held x h))) f in
-    let behind : drop (length xs) ys ≡ f.found = ap (λ (l : List ℕ). drop (length xs) l) f.appended ∙ drop-append_seam xs f.found in
-    subst (λ (l : List ℕ). IsMarking (graph_of (map cell_of cells)) (root ∷ []) (is_marked b) l) (sym behind) (marking-step _ _ _ _ _ _ is next)
+pub marking-goes_on : {slots : ℕ} (cells : List (PageCell slots)) (a b : List Bool) (xs ys : List ℕ) («from» : ℕ) → AreObjects (map cell_of cells) a
+    → IsMarking (graph_of (map cell_of cells)) (root ∷ []) (is_reached (map cell_of cells) a) (drop «from» xs) → Follows (is_named cells (drop «from» xs)) a b xs ys
+    → IsMarking (graph_of (map cell_of cells)) (root ∷ []) (is_reached (map cell_of cells) b) (drop (length xs) ys)
+marking-goes_on cells a b xs ys «from» objects is s =
+    let stored = map cell_of cells in
+    let f = reaches stored (is_named cells (drop «from» xs)) a b xs ys objects s in
+    let next = next-level cells (is_reached stored a) (is_reached stored b) (drop «from» xs) s.found (λ x h. reached-live stored (root ∷ []) x (is.sound x (is.held x h))) f in
+    let behind : drop (length xs) ys ≡ s.found = ap (λ (l : List ℕ). drop (length xs) l) s.appended ∙ drop-append_seam xs s.found in
+    subst (λ (l : List ℕ). IsMarking (graph_of stored) (root ∷ []) (is_reached stored b) l) (sym behind) (marking-step _ _ _ _ _ _ is next)
 
 drop-past : {X : Type 0} (n : ℕ) (xs : List X) → length xs ≤ n → drop n xs ≡ []
 drop-past zero [] past = refl
@@ -230,6 +297,9 @@ drop-past (suc n) [] past = refl
 drop-past (suc n) (x ∷ xs) past = drop-past n xs (omega (arith, past))
 
 -- no level is left
-pub marking-over : (cells : List Cell) (marks : List Bool) (xs : List ℕ) («from» : ℕ) → length xs ≤ «from» → IsMarking (graph_of cells) (root ∷ []) (is_marked marks) (drop «from» xs) → IsReach cells (is_marked marks)
-marking-over cells marks xs «from» past is =
-    marking-end (graph_of cells) (root ∷ []) (is_marked marks) (subst (λ (l : List ℕ). IsMarking (graph_of cells) (root ∷ []) (is_marked marks) l) (drop-past «from» xs past) is)
+pub marking-over : (cells : List Cell) (table : List Bool) (xs : List ℕ) («from» : ℕ) → length xs ≤ «from» → AreObjects cells table
+    → IsMarking (graph_of cells) (root ∷ []) (is_reached cells table) (drop «from» xs) → IsUnreached cells table
+marking-over cells table xs «from» past objects is = record {
+  objects = objects;
+  reach = marking-end (graph_of cells) (root ∷ []) (is_reached cells table) (subst (λ (l : List ℕ). IsMarking (graph_of cells) (root ∷ []) (is_reached cells table) l) (drop-past «from» xs past) is);
+}

@@ -1,10 +1,11 @@
 -- Counts of pointers in a table of pairs.
-use Rattle.std.proofs.Common.{◌≡◌, ◌≢◌, ℕ, zero, suc, ◌+◌, ◌*◌, ◌<◌, ◌≤◌, Bool, true, false, cond, List, [], ◌∷◌, length, set, get_or, refl, sym, ap, ◌∙◌, ⊎_elim, get_or-set_same, get_or-set_other, eq-eqb, ne_eqb, arith, subst}
+use Rattle.std.proofs.Common.{◌≡◌, ◌≢◌, ℕ, zero, suc, ◌+◌, ◌*◌, ◌<◌, ◌≤◌, Bool, true, false, cond, List, [], ◌∷◌, ◌++◌, length, set, get_or, refl, sym, ap, ◌∙◌, ⊎_elim, get_or-set_same, get_or-set_other, eq-eqb, ne_eqb, arith, subst}
 use Rattle.std.specs.Prelude.{◌==◌, ◌&&◌}
 use Rattle.std.proofs.lemmas.Bool.{cases_eq}
+use Rattle.std.proofs.lemmas.List.Sums.{sum_by_push}
 use Rattle.cell_model.specs.Cells.{Pointer, null, same, hits}
 use Rattle.cell_page.specs.Stored.{pointers_from}
-use Rattle.par_audit.specs.Tables.{place_of}
+use Rattle.par_audit.specs.Tables.{count_at, place_of}
 
 -- a slot's pointer names what the slot has
 pub target-named : (bits i : ℕ) (targets : List ℕ) (slot : ℕ) → (get_or (pointers_from bits i targets) slot null).target ≡ get_or targets slot 0
@@ -25,7 +26,7 @@ same-bit id target false false e = refl
 same-bit id target true false e = absurd (omega (arith, e))
 same-bit id target false true e = absurd (omega (arith, e))
 
-abbrev one : Bool → ℕ
+abbrev pub one : Bool → ℕ
 one b = cond b 1 0
 
 none : (x : Bool) → one (x && false) ≡ one false
@@ -47,30 +48,52 @@ hits-as : (id target : ℕ) (bit b : Bool) (p : Pointer) → p.target ≡ target
 hits-as id target bit b p aim with_bit =
     ap (λ (t : ℕ). one ((t == id) && same p.bit bit)) aim ∙ ap (λ (x : Bool). one ((target == id) && same x bit)) with_bit
 
--- where the count at the pointer's place is raised by one, each count has what hits it
-pub pair-counted : (pairs : List ℕ) (at id target : ℕ) (bit b : Bool) (p : Pointer) → at ≡ place_of target b → p.target ≡ target → p.bit ≡ b → at < length pairs
-    → get_or (set pairs at (get_or pairs at 0 + 1)) (place_of id bit) 0 ≡ get_or pairs (place_of id bit) 0 + hits id bit p
-pair-counted pairs at id target bit b p place aim with_bit within =
+-- a count at the pointer's place is one of what hits the id and bit that have the place
+pub pair-hit : (at id target : ℕ) (bit b : Bool) (p : Pointer) → at ≡ place_of target b → p.target ≡ target → p.bit ≡ b → one (at == place_of id bit) ≡ hits id bit p
+pair-hit at id target bit b p place aim with_bit =
     let same_hits = hits-as id target bit b p aim with_bit in
     ⊎_elim
-    (λ (e : at ≡ place_of id bit).
-    let hit = hits-here id target bit b (sym place ∙ e) in
-    let here : get_or (set pairs at (get_or pairs at 0 + 1)) (place_of id bit) 0 ≡ get_or pairs (place_of id bit) 0 + 1 =
-    subst (λ (i : ℕ). get_or (set pairs at (get_or pairs at 0 + 1)) i 0 ≡ get_or pairs i 0 + 1) e (get_or-set_same pairs at (get_or pairs at 0 + 1) 0 within) in
-    omega (arith, hit, here, same_hits))
-    (λ (n : at ≢ place_of id bit).
-    let miss = hits-elsewhere id target bit b (λ e. n (place ∙ e)) in
-    let there = get_or-set_other pairs at (place_of id bit) (get_or pairs at 0 + 1) 0 (λ e. n (sym e)) in
-    omega (arith, miss, there, same_hits))
+    (λ (e : at ≡ place_of id bit). ap one (eq-eqb at (place_of id bit) e) ∙ (sym (hits-here id target bit b (sym place ∙ e)) ∙ sym same_hits))
+    (λ (n : at ≢ place_of id bit). ap one (ne_eqb at (place_of id bit) n) ∙ (sym (hits-elsewhere id target bit b (λ e. n (place ∙ e))) ∙ sym same_hits))
     (cases_eq at (place_of id bit))
 
 -- a pointer whose place the table doesn't have hits none of its counts
-pub pair-missed : (pairs : List ℕ) (at id target : ℕ) (bit b : Bool) (p : Pointer) → at ≡ place_of target b → p.target ≡ target → p.bit ≡ b → length pairs ≤ at → place_of id bit < length pairs
-    → get_or pairs (place_of id bit) 0 ≡ get_or pairs (place_of id bit) 0 + hits id bit p
-pair-missed pairs at id target bit b p place aim with_bit past within =
-    let same_hits = hits-as id target bit b p aim with_bit in
-    let miss = hits-elsewhere id target bit b (λ e. absurd (omega (arith, place, e, past, within))) in
-    omega (arith, miss, same_hits)
+pub pair-missed : (len at id target : ℕ) (bit b : Bool) (p : Pointer) → at ≡ place_of target b → p.target ≡ target → p.bit ≡ b → len ≤ at → place_of id bit < len → hits id bit p ≡ 0
+pair-missed len at id target bit b p place aim with_bit past within =
+    hits-as id target bit b p aim with_bit ∙ hits-elsewhere id target bit b (λ e. absurd (omega (arith, place, e, past, within)))
+
+-- a byte that is raised by one
+pub raised-counted : (bytes carries : List ℕ) (at was place : ℕ) → at < length bytes → was ≡ get_or bytes at 0
+    → count_at (set bytes at (was + 1)) carries place ≡ count_at bytes carries place + cond (at == place) 1 0
+raised-counted bytes carries at was place within is =
+    ⊎_elim
+    (λ (e : at ≡ place).
+    let hit : one (at == place) ≡ 1 = ap one (eq-eqb at place e) in
+    let here : get_or (set bytes at (was + 1)) place 0 ≡ was + 1 = subst (λ (i : ℕ). get_or (set bytes at (was + 1)) i 0 ≡ was + 1) e (get_or-set_same bytes at (was + 1) 0 within) in
+    let old : was ≡ get_or bytes place 0 = is ∙ ap (λ (i : ℕ). get_or bytes i 0) e in
+    omega (arith, hit, here, old))
+    (λ (n : at ≢ place).
+    let miss : one (at == place) ≡ 0 = ap one (ne_eqb at place n) in
+    let there = get_or-set_other bytes at place (was + 1) 0 (λ e. n (sym e)) in
+    omega (arith, miss, there))
+    (cases_eq at place)
+
+-- a byte of 255 that is carried over
+pub carried-counted : (bytes carries : List ℕ) (at place : ℕ) → at < length bytes → get_or bytes at 0 ≡ 255
+    → count_at (set bytes at 0) (carries ++ at ∷ []) place ≡ count_at bytes carries place + cond (at == place) 1 0
+carried-counted bytes carries at place within full =
+    let more = sum_by_push (λ (p : ℕ). cond (p == place) 1 0) carries at in
+    ⊎_elim
+    (λ (e : at ≡ place).
+    let hit : one (at == place) ≡ 1 = ap one (eq-eqb at place e) in
+    let here : get_or (set bytes at 0) place 0 ≡ 0 = subst (λ (i : ℕ). get_or (set bytes at 0) i 0 ≡ 0) e (get_or-set_same bytes at 0 0 within) in
+    let old : get_or bytes place 0 ≡ 255 = ap (λ (i : ℕ). get_or bytes i 0) (sym e) ∙ full in
+    omega (arith, more, hit, here, old))
+    (λ (n : at ≢ place).
+    let miss : one (at == place) ≡ 0 = ap one (ne_eqb at place n) in
+    let there = get_or-set_other bytes at place 0 0 (λ e. n (sym e)) in
+    omega (arith, more, miss, there))
+    (cases_eq at place)
 
 -- a table of pairs has both places of each id below half its length
 pub place-inside : (id ids : ℕ) (bit : Bool) → id < ids → place_of id bit < 2 * ids

@@ -4,6 +4,7 @@ use Rattle.plain_model.specs.Graphs.{root}
 use Rattle.plain_model.specs.Reachable.{Reachable}
 use Rattle.cell_model.specs.Cells.{Cell, is_live}
 use Rattle.cell_model.specs.Graph.{graph_of}
+use Rattle.par_audit.specs.Marks.{is_reached, AreObjects}
 
 -- the answer is true just at what the graph of the cells reaches from the root
 abbrev pub IsReach : List Cell → (ℕ → Bool) → Type 0
@@ -16,3 +17,8 @@ garbage_in cells is_reached ids = count_by (λ id. is_live cells id && not (is_r
 -- the number of live ids that the root doesn't reach
 abbrev pub IsGarbage : List Cell → List ℕ → ℕ → Type 0
 IsGarbage cells ids garbage = (is_reached : ℕ → Bool) × IsReach cells is_reached × (garbage ≡ garbage_in cells is_reached ids)
+
+-- the table marks just the objects that the root doesn't reach
+pub record IsUnreached (cells : List Cell) (table : List Bool) : Type 0 where
+  pub objects : AreObjects cells table
+  pub reach : IsReach cells (is_reached cells table)

@@ -1,5 +1,5 @@
--- Marks, and following pointers from marked objects.
-use Rattle.std.specs.Prelude.{◌≡◌, ℕ, ◌<◌, Bool, true, false, ◌&&◌, ◌||◌, ◌==◌, not, List, [], ◌++◌, length, Contains, ◌↔◌, slice_get, slice_index_or}
+-- Tables of ids, and following pointers to objects that aren't reached yet.
+use Rattle.std.specs.Prelude.{◌≡◌, ℕ, ◌<◌, Bool, true, false, ◌&&◌, ◌==◌, not, List, [], ◌++◌, length, Contains, ◌↔◌, slice_get, slice_index_or}
 use Rattle.std.specs.Option.{option_map_or}
 use Rattle.std.specs.List.{list_any}
 use Rattle.cell_model.specs.Cells.{Cell as StoredCell, is_live}
@@ -30,11 +30,19 @@ pub record IsNameTable {slots : ℕ} (cells : List (Cell slots)) (level : List �
   pub len : length table ≡ ids
   pub each : (id : ℕ) → id < ids → is_marked table id ≡ is_named cells level id
 
--- from these marks and this list of found objects, to those after it: each object with one of the names is marked, and what
--- is newly marked is found, behind what was found before
-pub record Follows (cells : List StoredCell) (has_name : ℕ → Bool) (before after : List Bool) (listed listed_after : List ℕ) : Type 0 where
+-- the id has an object that isn't among the unreached ones
+abbrev pub is_reached : List StoredCell → List Bool → ℕ → Bool
+is_reached cells unreached id = is_object cells id && not (is_marked unreached id)
+
+-- each id that the table marks has an object
+abbrev pub AreObjects : List StoredCell → List Bool → Type 0
+AreObjects cells table = (id : ℕ) → is_marked table id ≡ true → is_object cells id ≡ true
+
+-- from these unreached objects and this list of found ones to those after it: each unreached object with one of the names is
+-- reached, and found, behind what was found before
+pub record Follows (has_name : ℕ → Bool) (before after : List Bool) (listed listed_after : List ℕ) : Type 0 where
   pub len : length after ≡ length before
-  pub marked : (id : ℕ) → is_marked after id ≡ (is_marked before id || (has_name id && is_object cells id))
+  pub kept : (id : ℕ) → is_marked after id ≡ (is_marked before id && not (has_name id))
   pub found : List ℕ
   pub appended : listed_after ≡ listed ++ found
-  pub new : (id : ℕ) → Contains found id ↔ ((is_marked before id ≡ false) × (is_marked after id ≡ true))
+  pub new : (id : ℕ) → Contains found id ↔ ((is_marked before id ≡ true) × (is_marked after id ≡ false))

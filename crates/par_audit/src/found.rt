@@ -2,8 +2,7 @@
 ghost use Rattle.std.specs.Prelude.{◌≡◌, ◌<◌, ◌≤◌, length, map, IfOk};
 ghost use Rattle.cell_page.specs.Format.{IsSlotCount};
 ghost use Rattle.cell_page.specs.Stored.{cell_of};
-ghost use Rattle.par_audit.specs.Marks.{is_marked};
-ghost use Rattle.par_audit.specs.Garbage.{IsReach};
+ghost use Rattle.par_audit.specs.Garbage.{IsUnreached};
 ghost use Rattle.par_audit.specs.Tables.{AreTablesOf};
 
 use crate::marking::mark;
@@ -21,8 +20,8 @@ const LEAST_PIECE: usize = 8192;
 pub struct Found {
     /// How many pointers lead to each id.
     pub tables: Tables,
-    /// Whether the root reaches each id.
-    pub marks: Vec<bool>,
+    /// Whether the id is that of an object that the root doesn't reach.
+    pub unreached: Vec<bool>,
 }
 
 /// Counts in one thread and marks in another one, with so many workers each.
@@ -38,8 +37,8 @@ fn find_beside<const SLOTS: usize>(
     requires counters { (0 < counters) × (counters ≤ 1024) }
     requires markers { (0 < markers) × (markers ≤ 1024) }
     ensures tables { IfOk result (λ f. AreTablesOf (map cell_of cells.now) (length cells.now) f.tables) }
-    ensures len { IfOk result (λ f. length f.marks.items ≡ length cells.now) }
-    ensures reach { IfOk result (λ f. IsReach (map cell_of cells.now) (is_marked f.marks.items)) }
+    ensures len { IfOk result (λ f. length f.unreached.items ≡ length cells.now) }
+    ensures unreached { IfOk result (λ f. IsUnreached (map cell_of cells.now) f.unreached.items) }
 {
     let counting = move || -> Result<Tables, Memory>
         requires { IsSlotCount SLOTS × (length cells.now ≤ 16777216) × (0 < counters) × (counters ≤ 1024) }
@@ -47,16 +46,16 @@ fn find_beside<const SLOTS: usize>(
     { count_by_pieces(rt, alloc, cells, counters) };
     let marking = move || -> Result<Vec<bool>, Memory>
         requires { IsSlotCount SLOTS × (length cells.now ≤ 16777216) × (0 < markers) × (markers ≤ 1024) }
-        ensures { IfOk result (λ marks. (length marks.items ≡ length cells.entry.now) × IsReach (map cell_of cells.entry.now) (is_marked marks.items)) }
+        ensures { IfOk result (λ table. (length table.items ≡ length cells.entry.now) × IsUnreached (map cell_of cells.entry.now) table.items) }
     { mark(rt, alloc, cells, markers) };
-    let (tables, marks) = join(rt, counting, marking);
+    let (tables, unreached) = join(rt, counting, marking);
     Ok(Found {
         tables: tables?,
-        marks: marks?,
+        unreached: unreached?,
     })
 }
 
-/// Counts all pointers by their targets, and marks the ids that the root reaches, with so many workers. `Memory` is its only
+/// Counts all pointers by their targets, and marks the objects that the root doesn't reach, with so many workers. `Memory` is its only
 /// error.
 pub fn find<const SLOTS: usize>(
     rt: &(impl Threads + Sync),
@@ -69,8 +68,8 @@ pub fn find<const SLOTS: usize>(
     requires some { 0 < workers }
     requires fits { workers ≤ 1024 }
     ensures tables { IfOk result (λ f. AreTablesOf (map cell_of cells.now) (length cells.now) f.tables) }
-    ensures len { IfOk result (λ f. length f.marks.items ≡ length cells.now) }
-    ensures reach { IfOk result (λ f. IsReach (map cell_of cells.now) (is_marked f.marks.items)) }
+    ensures len { IfOk result (λ f. length f.unreached.items ≡ length cells.now) }
+    ensures unreached { IfOk result (λ f. IsUnreached (map cell_of cells.now) f.unreached.items) }
 {
     let markers = workers / 2;
     if markers > 0 {
@@ -78,6 +77,6 @@ pub fn find<const SLOTS: usize>(
         return find_beside(rt, alloc, cells, counters, markers);
     }
     let tables = count_by_pieces(rt, alloc, cells, workers)?;
-    let marks = mark(rt, alloc, cells, workers)?;
-    Ok(Found { tables, marks })
+    let unreached = mark(rt, alloc, cells, workers)?;
+    Ok(Found { tables, unreached })
 }

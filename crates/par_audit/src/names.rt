@@ -91,7 +91,8 @@ fn add_marks(sums: &mut [bool], table: &[bool])
     ensures each { (id : ℕ) → is_marked sums.new id ≡ (is_marked sums.old id || is_marked table.now id) }
 {
     for i in 0..sums.len() {
-        sums[i] = sums[i] || table[i];
+        let (sum, mark) = (sums[i], table[i]);
+        sums[i] = sum || mark;
     }
 }
 

@@ -1,13 +1,23 @@
-//! The count of a piece's pointers in a table of pairs: a count for each id and each bit, side by side.
-ghost use Rattle.std.specs.Prelude.{◌≡◌, ◌<◌, ◌≤◌, ◌+◌, ◌*◌, ℕ, Bool, length, map, slice_index, IfOk};
-ghost use Rattle.cell_model.specs.Cells.{aims_in, hits, pointer_in};
+//! The count of a piece's pointers: a count for each id and each bit, side by side.
+ghost use Rattle.std.specs.Prelude.{◌≡◌, ◌<◌, ◌≤◌, ◌+◌, ◌*◌, ◌==◌, ℕ, Bool, [], cond, length, map, slice_index, IfOk};
+ghost use Rattle.cell_model.specs.Cells.{aims_in, hits, pointer_in, pointers_to};
 ghost use Rattle.cell_page.specs.Format.{IsSlotCount};
 ghost use Rattle.cell_page.specs.Stored.{cell_of};
-ghost use Rattle.par_audit.specs.Tables.{IsPairTable, place_of};
+ghost use Rattle.par_audit.specs.Tables.{ArePairCounts, count_at, place_of};
 
 use cell_page::Cell;
 use plain_model::Memory;
 use std::alloc::Global;
+
+/// How many pointers from a piece lead to each id, by their bit. A count is that of its byte, and 256 for each time that its
+/// place stands among the carries. So the table of a piece is small, and lies in a processor's own cache.
+#[derive(Drop)]
+pub struct PairCounts {
+    /// The count at each place, less what was carried over.
+    pub(crate) bytes: Vec<u8>,
+    /// The places whose bytes were carried over, once for each time.
+    pub(crate) carries: Vec<u32>,
+}
 
 /// The place of the count of the pointers to an id that have this bit, in a table of pairs.
 #[inline(always)]
@@ -32,64 +42,101 @@ fn know_slots<const SLOTS: usize>(cell: &Cell<SLOTS>)
     let _ = len_of(&cell.slots);
 }
 
+/// Counts one at this place.
+#[inline(always)]
+fn count_one(bytes: &mut [u8], carries: &mut Vec<u32>, at: usize) -> Result<(), Memory>
+    requires few { length bytes.old ≤ 33554432 }
+    requires within { at < length bytes.old }
+    ensures len { length bytes.new ≡ length bytes.old }
+    ensures each { IfOk result (λ _. (place : ℕ) → count_at bytes.new carries.new.items place ≡ count_at bytes.old carries.old.items place + cond (at == place) 1 0) }
+{
+    let was = bytes[at];
+    if was < 255 {
+        bytes[at] = was + 1;
+        return Ok(());
+    }
+    bytes[at] = 0;
+    carries.push(at as u32)?;
+    Ok(())
+}
+
 /// Counts the pointer of a slot at its target, by its bit. Null pointers are counted at index 0, which is no id.
 #[inline(always)]
-fn count_slot<const SLOTS: usize>(pairs: &mut [u32], cell: &Cell<SLOTS>, slot: u8)
+fn count_slot<const SLOTS: usize>(
+    bytes: &mut [u8],
+    carries: &mut Vec<u32>,
+    cell: &Cell<SLOTS>,
+    slot: u8,
+) -> Result<(), Memory>
     requires size { IsSlotCount SLOTS }
+    requires few { length bytes.old ≤ 33554432 }
     requires within { slot < SLOTS }
-    requires room { (id : ℕ) (bit : Bool) → place_of id bit < length pairs.old → slice_index pairs.old (place_of id bit) < 4294967295 }
-    ensures len { length pairs.new ≡ length pairs.old }
-    ensures each { (id : ℕ) (bit : Bool) → place_of id bit < length pairs.old → slice_index pairs.new (place_of id bit) ≡ slice_index pairs.old (place_of id bit) + hits id bit (pointer_in (cell_of cell.now) slot) }
+    ensures len { length bytes.new ≡ length bytes.old }
+    ensures each { IfOk result (λ _. (id : ℕ) (bit : Bool) → place_of id bit < length bytes.old → count_at bytes.new carries.new.items (place_of id bit) ≡ count_at bytes.old carries.old.items (place_of id bit) + hits id bit (pointer_in (cell_of cell.now) slot)) }
 {
     let target = cell.slots[slot as usize];
     let bit = cell.pointer_bit(slot);
     let at = place_of(target as usize, bit);
-    if at < pairs.len() {
-        pairs[at] += 1;
+    if at < bytes.len() {
+        count_one(bytes, carries, at)?;
     }
+    Ok(())
 }
 
 /// Counts the pointers of a live cell, each at its target by its bit.
-fn count_cell<const SLOTS: usize>(pairs: &mut [u32], cell: &Cell<SLOTS>)
+#[inline(always)]
+fn count_cell<const SLOTS: usize>(
+    bytes: &mut [u8],
+    carries: &mut Vec<u32>,
+    cell: &Cell<SLOTS>,
+) -> Result<(), Memory>
     requires size { IsSlotCount SLOTS }
-    requires room { (id : ℕ) (bit : Bool) → place_of id bit < length pairs.old → slice_index pairs.old (place_of id bit) ≤ 4000000000 }
-    ensures len { length pairs.new ≡ length pairs.old }
-    ensures each { (id : ℕ) (bit : Bool) → place_of id bit < length pairs.old → slice_index pairs.new (place_of id bit) ≡ slice_index pairs.old (place_of id bit) + aims_in id bit (cell_of cell.now) }
+    requires few { length bytes.old ≤ 33554432 }
+    ensures len { length bytes.new ≡ length bytes.old }
+    ensures each { IfOk result (λ _. (id : ℕ) (bit : Bool) → place_of id bit < length bytes.old → count_at bytes.new carries.new.items (place_of id bit) ≡ count_at bytes.old carries.old.items (place_of id bit) + aims_in id bit (cell_of cell.now)) }
     ensures few { (id : ℕ) (bit : Bool) → aims_in id bit (cell_of cell.now) ≤ 14 }
 {
     know_slots(cell);
     if cell.live {
         for slot in 0..SLOTS {
-            count_slot(pairs, cell, slot as u8);
+            count_slot(bytes, carries, cell, slot as u8)?;
         }
     }
+    Ok(())
 }
 
 /// Counts the pointers of all live cells of a piece, each at its target by its bit.
-fn count_cells<const SLOTS: usize>(pairs: &mut [u32], piece: &[Cell<SLOTS>], ids: usize)
+fn count_cells<const SLOTS: usize>(
+    bytes: &mut [u8],
+    carries: &mut Vec<u32>,
+    piece: &[Cell<SLOTS>],
+) -> Result<(), Memory>
     requires size { IsSlotCount SLOTS }
-    requires few { length piece.now ≤ 16777216 }
-    requires len { length pairs.old ≡ 2 * ids }
-    requires none { (place : ℕ) → slice_index pairs.old place ≡ 0 }
-    ensures { IsPairTable (map cell_of piece.now) ids pairs.new }
+    requires few { length bytes.old ≤ 33554432 }
+    requires none { (place : ℕ) → slice_index bytes.old place ≡ 0 }
+    requires new { carries.old.items ≡ [] }
+    ensures len { length bytes.new ≡ length bytes.old }
+    ensures each { IfOk result (λ _. (id : ℕ) (bit : Bool) → place_of id bit < length bytes.old → count_at bytes.new carries.new.items (place_of id bit) ≡ pointers_to (map cell_of piece.now) id bit) }
+    ensures few { IfOk result (λ _. (id : ℕ) (bit : Bool) → place_of id bit < length bytes.old → count_at bytes.new carries.new.items (place_of id bit) ≤ 14 * length piece.now) }
 {
     for cell in piece {
-        count_cell(pairs, cell);
+        count_cell(bytes, carries, cell)?;
     }
+    Ok(())
 }
 
-/// A table of so many ids: how many pointers from the piece lead to each of them, by their bit.
-pub(crate) fn table_of_piece<const SLOTS: usize>(
+/// How many pointers from the piece lead to each of so many ids, by their bit.
+pub(crate) fn counts_of_piece<const SLOTS: usize>(
     alloc: Global,
     piece: &[Cell<SLOTS>],
     ids: usize,
-) -> Result<Vec<u32>, Memory>
+) -> Result<PairCounts, Memory>
     requires size { IsSlotCount SLOTS }
-    requires few { length piece.now ≤ 16777216 }
     requires ids { ids ≤ 16777216 }
-    ensures { IfOk result (λ table. IsPairTable (map cell_of piece.now) ids table.items) }
+    ensures { IfOk result (ArePairCounts (map cell_of piece.now) ids) }
 {
-    let mut pairs = vec![in alloc; 0u32; 2 * ids]?;
-    count_cells(pairs.as_mut_slice(), piece, ids);
-    Ok(pairs)
+    let mut bytes = vec![in alloc; 0u8; 2 * ids]?;
+    let mut carries = Vec::new(alloc);
+    count_cells(bytes.as_mut_slice(), &mut carries, piece)?;
+    Ok(PairCounts { bytes, carries })
 }

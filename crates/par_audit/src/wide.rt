@@ -67,8 +67,7 @@ pub fn recount_by_pieces<const SLOTS: usize>(
 {
     let found = find(rt, alloc, cells, workers)?;
     let garbage = garbage_in(
-        cells,
-        found.marks.as_slice(),
+        found.unreached.as_slice(),
         (CELLS_OF_PAGE * frames.len()) as u32,
     );
     let report = report_on(

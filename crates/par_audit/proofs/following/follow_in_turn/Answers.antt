@@ -11,4 +11,4 @@ loop-i-preserved g c =
     let whole = length-append c.args.found.now.items c.loop-i.invariant.found in
     let within : c.loop-i.i < length c.loop-i.found.items = omega (arith, high, long, whole) in
     let value = c.index-id.ensures ∙ get_or_default c.loop-i.found.items c.loop-i.i c.index-id.result.now 0 within in
-    turn-more c.args.cells.now c.args.«from» c.loop-i.i c.index-id.result.now c.args.found.now.items c.loop-i.found.items c.follow.new.found.items c.args.marks.now c.loop-i.marks c.follow.new.marks low high value c.loop-i.invariant c.in_ok-follow.ensures
+    turn-more c.args.cells.now c.args.«from» c.loop-i.i c.index-id.result.now c.args.found.now.items c.loop-i.found.items c.follow.new.found.items c.args.unreached.now c.loop-i.unreached c.follow.new.unreached low high value c.loop-i.invariant c.in_ok-follow.ensures

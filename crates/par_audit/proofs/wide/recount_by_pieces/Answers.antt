@@ -1,6 +1,8 @@
-use Rattle.std.proofs.Common.{◌≤◌, true, false, length, ⊎_elim, rules, arith}
-use Rattle.par_audit.specs.Marks.{is_marked}
+use Rattle.std.proofs.Common.{◌≤◌, ◌*◌, true, false, length, map, ⊎_elim, rules, arith, ◌∙◌}
+use Rattle.cell_page.specs.Stored.{cell_of}
+use Rattle.par_audit.specs.Marks.{is_reached}
 use Rattle.par_audit.proofs.TableLaws.{counted-of, small-of}
+use Rattle.par_audit.proofs.GarbageLaws.{unreached-garbage}
 use Rattle.par_audit.proofs.wide.recount_by_pieces.Goals as goal
 
 pub report_on-requires : goal.report_on-requires
@@ -16,5 +18,7 @@ report_on-requires g c =
 
 pub returns-clause-garbage : goal.returns-clause-garbage
 returns-clause-garbage g c =
-    let marks = c.in_ok-found.found.marks.items in
-    (is_marked marks, c.in_ok-found.ensures.reach, rw (c.as_slice.ensures.value) at c.garbage_in-garbage.ensures)
+    let stored = map cell_of c.args.cells.now in
+    let table = c.in_ok-found.found.unreached.items in
+    let unreached = c.in_ok-found.ensures.unreached in
+    (is_reached stored table, unreached.reach, (rw (c.as_slice.ensures.value) at c.garbage_in-garbage.ensures) ∙ unreached-garbage stored table (8 * length c.args.frames.now) unreached.objects)

@@ -1,4 +1,4 @@
-use Rattle.std.proofs.Common.{◌≡◌, ◌*◌, ◌<◌, ◌≤◌, ℕ, length, ◌∙◌, arith, subst, List, map, Vec, Global}
+use Rattle.std.proofs.Common.{◌≡◌, ◌*◌, ◌<◌, ◌≤◌, ℕ, length, ◌∙◌, arith, subst, List, map}
 use Rattle.std.proofs.Math.Nat.{mul-le-mul_right}
 use Rattle.std.specs.declared.alloc.AllocError.{AllocError}
 use Rattle.std.specs.Prelude.{IfOk, Result}
@@ -7,9 +7,10 @@ use Rattle.rayon.specs.Numbers.{nat_range}
 use Rattle.rayon.proofs.ToStd.{nat_range-All}
 use Rattle.par_audit.specs.Pieces.{piece_at}
 use Rattle.cell_page.specs.Stored.{cell_of}
-use Rattle.par_audit.specs.Tables.{IsPairTable}
+use Rattle.par_audit.specs.declared.pairs.PairCounts.{PairCounts}
+use Rattle.par_audit.specs.Tables.{ArePairCounts}
 use Rattle.par_audit.proofs.PieceLaws.{collected, all-ok}
-use Rattle.par_audit.proofs.tables.tables_of_pieces.Goals as goal
+use Rattle.par_audit.proofs.tables.counts_of_pieces.Goals as goal
 
 -- each piece starts at a place that has a number
 pub collect-requires-clause-ready : goal.collect-requires-clause-ready
@@ -25,9 +26,9 @@ returns g c =
     let ends = c.into_par_iter.ensures in
     let h = c.in_ok-collect.ensures in
     collected c.in_ok-collect.field-0 _ _ _ h.2 (λ tables ok.
-    let P = λ (number : ℕ) (t : Vec ℕ Global). IsPairTable (map cell_of (piece_at c.args.size c.args.cells.now number)) (length c.args.cells.now) t.items in
+    let P = λ (number : ℕ) (t : PairCounts). ArePairCounts (map cell_of (piece_at c.args.size c.args.cells.now number)) (length c.args.cells.now) t in
     let chain = rw (c.map.ensures.base, c.map.ensures.f, c.with_min_len.ensures.base) at h.1 in
     let places : chain.0 ≡ nat_range 0 c.args.pieces = chain.1 ∙ (λ i. nat_range (ends.0 i) (ends.1 i)) in
     let step = subst (λ (l : List ℕ). AllZip (λ (number : ℕ) r. IfOk r (P number)) l h.0) places chain.2 in
-    let okay = subst (λ (l : List (Result (Vec ℕ Global) AllocError)). AllZip (λ (number : ℕ) r. IfOk r (P number)) (nat_range 0 c.args.pieces) l) ok.1 step in
+    let okay = subst (λ (l : List (Result PairCounts AllocError)). AllZip (λ (number : ℕ) r. IfOk r (P number)) (nat_range 0 c.args.pieces) l) ok.1 step in
     rw ok.2 (all-ok AllocError P (nat_range 0 c.args.pieces) ok.0 okay))
