@@ -26,7 +26,7 @@ from places import PAGE, places
 HERE = os.path.dirname(os.path.abspath(__file__))
 BENCH = os.path.join(HERE, "..", "bench")
 GENERATED = ["gen", "--seed", "1", "--clients", "1", "--txns", "1"]
-COMMANDS = (["init", "2"], ["replay"], ["run"], ["audit"], ["migrate"], ["backup"], ["ship"], GENERATED, ["nothing"])
+COMMANDS = (["init", "2"], ["replay"], ["run"], ["audit"], ["migrate"], ["backup"], ["ship"], ["log"], GENERATED, ["nothing"])
 
 # A copy of the process is made before its first data sync, and holds what it holds until it is ended.
 FORKS = r"""
@@ -160,7 +160,7 @@ def locks(attacks):
     attacks.fresh()
     first = attacks.hold()
     before = attacks.held()
-    for words in (["init", "2"], ["replay"], ["run"], ["audit"], ["migrate"], ["backup"], ["ship"], GENERATED):
+    for words in (["init", "2"], ["replay"], ["run"], ["audit"], ["migrate"], ["backup"], ["ship"], ["log"], GENERATED):
         attacks.expect_refused("%s beside a run" % words[0], attacks.run(words))
     attacks.expect("files beside a run", before, attacks.held())
     attacks.tell(first, one(3), 3)

@@ -12,7 +12,7 @@ use Rattle.disk_model.proofs.Moments.{no_call}
 use Rattle.store_opening.specs.Looks.{IsLookedAt}
 use Rattle.script_lines.specs.Numbers.{object_slots, number_of, pages_of}
 use Rattle.brahma_shell.specs.declared.commands.Command.{Command}
-use Rattle.brahma_shell.specs.declared.commands.Command.TheVariants.{Init, Replay, Run, Gen, Audit, ParAudit, Migrate, Backup, Ship}
+use Rattle.brahma_shell.specs.declared.commands.Command.TheVariants.{Init, Replay, Run, Gen, Audit, ParAudit, Migrate, Backup, Ship, Log}
 use Rattle.gen_options.specs.declared.reading.Asked.{Asked}
 use Rattle.brahma_shell.specs.declared.ended.Ended.{Ended}
 use Rattle.brahma_shell.specs.declared.ended.Ended.TheVariants.{Shut, Kept}
@@ -25,6 +25,8 @@ use Rattle.brahma_shell.specs.Ran.{Ran}
 use Rattle.brahma_shell.specs.ParAudited.{ParAudited}
 use Rattle.brahma_shell.specs.BackedUp.{BackedUp}
 use Rattle.brahma_shell.specs.Shipped.{Shipped}
+use Rattle.brahma_shell.specs.Logged.{Logged}
+use Rattle.brahma_shell.proofs.LoggedLemmas.{logged-images, logged-closed, logged-done}
 use Rattle.brahma_shell.proofs.ShippedLemmas.{shipped-images, shipped-closed, shipped-done, backed_up-open, backed_up-done, backed_up-opened}
 use Rattle.brahma_shell.specs.Answered.{CanBeDone, Answered}
 use Rattle.brahma_shell.specs.Migrated.{AlwaysOpensAtEither, Migrated, Unmigrated}
@@ -182,14 +184,15 @@ mapped : (o : Option ℕ) (p : ℕ) → option_map Init o ≡ Some (Init p) → 
 mapped None p e = absurd (cc (e))
 mapped (Some n) p e = cc (e)
 
-one-word : (a b c d e f : Bool) (p : ℕ) → (if a then Some Replay else if b then Some Run else if c then Some Audit else if d then Some Migrate else if e then Some Backup else if f then Some Ship else None) ≡ Some (Init p) → ⊥
-one-word true b c d e f p is = absurd (cc (is))
-one-word false true c d e f p is = absurd (cc (is))
-one-word false false true d e f p is = absurd (cc (is))
-one-word false false false true e f p is = absurd (cc (is))
-one-word false false false false true f p is = absurd (cc (is))
-one-word false false false false false true p is = absurd (cc (is))
-one-word false false false false false false p is = absurd (cc (is))
+one-word : (a b c d e f g : Bool) (p : ℕ) → (if a then Some Replay else if b then Some Run else if c then Some Audit else if d then Some Migrate else if e then Some Backup else if f then Some Ship else if g then Some Log else None) ≡ Some (Init p) → ⊥
+one-word true b c d e f g p is = absurd (cc (is))
+one-word false true c d e f g p is = absurd (cc (is))
+one-word false false true d e f g p is = absurd (cc (is))
+one-word false false false true e f g p is = absurd (cc (is))
+one-word false false false false true f g p is = absurd (cc (is))
+one-word false false false false false true g p is = absurd (cc (is))
+one-word false false false false false false true p is = absurd (cc (is))
+one-word false false false false false false false p is = absurd (cc (is))
 
 two-words : (a b : Bool) (o : Option ℕ) (p : ℕ) → (if a then option_map Init o else if b then option_map ParAudit o else None) ≡ Some (Init p) → o ≡ Some p
 two-words true b o p e = mapped o p e
@@ -207,14 +210,15 @@ two-pieces true b (Some n) p e = absurd (cc (e))
 two-pieces false true o p e = pieces-mapped o p e
 two-pieces false false o p e = absurd (cc (e))
 
-one-pieces : (a b c d e f : Bool) (p : ℕ) → (if a then Some Replay else if b then Some Run else if c then Some Audit else if d then Some Migrate else if e then Some Backup else if f then Some Ship else None) ≡ Some (ParAudit p) → ⊥
-one-pieces true b c d e f p is = absurd (cc (is))
-one-pieces false true c d e f p is = absurd (cc (is))
-one-pieces false false true d e f p is = absurd (cc (is))
-one-pieces false false false true e f p is = absurd (cc (is))
-one-pieces false false false false true f p is = absurd (cc (is))
-one-pieces false false false false false true p is = absurd (cc (is))
-one-pieces false false false false false false p is = absurd (cc (is))
+one-pieces : (a b c d e f g : Bool) (p : ℕ) → (if a then Some Replay else if b then Some Run else if c then Some Audit else if d then Some Migrate else if e then Some Backup else if f then Some Ship else if g then Some Log else None) ≡ Some (ParAudit p) → ⊥
+one-pieces true b c d e f g p is = absurd (cc (is))
+one-pieces false true c d e f g p is = absurd (cc (is))
+one-pieces false false true d e f g p is = absurd (cc (is))
+one-pieces false false false true e f g p is = absurd (cc (is))
+one-pieces false false false false true f g p is = absurd (cc (is))
+one-pieces false false false false false true g p is = absurd (cc (is))
+one-pieces false false false false false false true p is = absurd (cc (is))
+one-pieces false false false false false false false p is = absurd (cc (is))
 
 more-pieces : (a : Bool) (o : Option Asked) (p : ℕ) → (if a then option_map Gen o else None) ≡ Some (ParAudit p) → ⊥
 more-pieces true None p e = absurd (cc (e))
@@ -229,14 +233,14 @@ more-words false o p e = absurd (cc (e))
 -- `init` is asked with a number of pages from 1 to 1,024
 pub pages-within : (words : List (List ℕ)) (p : ℕ) → Some (Init p) ≡ command_of words → (1 ≤ p) × (p ≤ 1024)
 pages-within [] p e = absurd (cc (e))
-pages-within (word ∷ []) p e = absurd (one-word (bytes_eq word (codes "replay")) (bytes_eq word (codes "run")) (bytes_eq word (codes "audit")) (bytes_eq word (codes "migrate")) (bytes_eq word (codes "backup")) (bytes_eq word (codes "ship")) p (sym e))
+pages-within (word ∷ []) p e = absurd (one-word (bytes_eq word (codes "replay")) (bytes_eq word (codes "run")) (bytes_eq word (codes "audit")) (bytes_eq word (codes "migrate")) (bytes_eq word (codes "backup")) (bytes_eq word (codes "ship")) (bytes_eq word (codes "log")) p (sym e))
 pages-within (word ∷ number ∷ []) p e = within (number_of number) p (two-words (bytes_eq word (codes "init")) (bytes_eq word (codes "paudit")) (pages_of number) p (sym e))
 pages-within (word ∷ number ∷ other ∷ words) p e = absurd (more-words (bytes_eq word (codes "gen")) (asked_of (number ∷ other ∷ words)) p (sym e))
 
 -- `paudit` is asked with a number of pieces from 1 to 1,024
 pub pieces-within : (words : List (List ℕ)) (p : ℕ) → Some (ParAudit p) ≡ command_of words → (1 ≤ p) × (p ≤ 1024)
 pieces-within [] p e = absurd (cc (e))
-pieces-within (word ∷ []) p e = absurd (one-pieces (bytes_eq word (codes "replay")) (bytes_eq word (codes "run")) (bytes_eq word (codes "audit")) (bytes_eq word (codes "migrate")) (bytes_eq word (codes "backup")) (bytes_eq word (codes "ship")) p (sym e))
+pieces-within (word ∷ []) p e = absurd (one-pieces (bytes_eq word (codes "replay")) (bytes_eq word (codes "run")) (bytes_eq word (codes "audit")) (bytes_eq word (codes "migrate")) (bytes_eq word (codes "backup")) (bytes_eq word (codes "ship")) (bytes_eq word (codes "log")) p (sym e))
 pieces-within (word ∷ number ∷ []) p e = within (number_of number) p (two-pieces (bytes_eq word (codes "init")) (bytes_eq word (codes "paudit")) (pages_of number) p (sym e))
 pieces-within (word ∷ number ∷ other ∷ words) p e = absurd (more-pieces (bytes_eq word (codes "gen")) (asked_of (number ∷ other ∷ words)) p (sym e))
 
@@ -275,6 +279,9 @@ options-backup words ask e = let g = options-gen words Backup ask e in absurd (c
 options-ship : (words : List (List ℕ)) → AskOptions words → command_of words ≡ Some Ship → ⊥
 options-ship words ask e = let g = options-gen words Ship ask e in absurd (cc (g.1))
 
+options-log : (words : List (List ℕ)) → AskOptions words → command_of words ≡ Some Log → ⊥
+options-log words ask e = let g = options-gen words Log ask e in absurd (cc (g.1))
+
 options-migrate : (words : List (List ℕ)) → AskOptions words → command_of words ≡ Some Migrate → ⊥
 options-migrate words ask e = let g = options-gen words Migrate ask e in absurd (cc (g.1))
 
@@ -303,6 +310,7 @@ module _ {S D : Type 0} (content : D → Area → Option (List ℕ)) (may_leave 
     migrated = λ e. absurd (none-some (command_of words) Migrate none e);
     backed_up = λ e. absurd (none-some (command_of words) Backup none e);
     shipped = λ e. absurd (none-some (command_of words) Ship none e);
+    logged = λ e. absurd (none-some (command_of words) Log none e);
     makes_open = λ pages e. absurd (none-some (command_of words) (Init pages) none e);
     stays_open = λ tell ids opens other. subst (λ (e : Ended D). AlwaysOpens may_leave ids (disk_in e)) (sym back) opens;
     stays_either = λ tell ids opens other. subst (λ (e : Ended D). AlwaysOpensAtEither may_leave ids (disk_in e)) (sym back) opens;
@@ -347,6 +355,7 @@ module _ {S D : Type 0} (content : D → Area → Option (List ℕ)) (may_leave 
         migrated = λ e. absurd (options-migrate words ask e);
         backed_up = λ e. absurd (options-backup words ask e);
         shipped = λ e. absurd (options-ship words ask e);
+        logged = λ e. absurd (options-log words ask e);
         makes_open = λ pages e. absurd (options-init words pages ask e);
         stays_open = λ tell ids opens other. subst (λ (e : Ended D). AlwaysOpens may_leave ids (disk_in e)) (sym back) opens;
         stays_either = λ tell ids opens other. subst (λ (e : Ended D). AlwaysOpensAtEither may_leave ids (disk_in e)) (sym back) opens;
@@ -376,6 +385,7 @@ module _ {S D : Type 0} (content : D → Area → Option (List ℕ)) (may_leave 
         migrated = λ e. absurd (init-migrate (command_of words) pages asked e);
         backed_up = λ e. absurd (cc (same-command (command_of words) (Init pages) Backup asked e));
         shipped = λ e. absurd (cc (same-command (command_of words) (Init pages) Ship asked e));
+        logged = λ e. absurd (cc (same-command (command_of words) (Init pages) Log asked e));
         makes_open = λ other e not_six. subst (λ (n : ℕ). AlwaysOpens may_leave (8 * n) (disk_in ended)) (same-pages (command_of words) pages other asked e) (made-open may_leave (disk_in ended) pages (pages-within words pages (sym asked)).0 (made.opens not_six));
         stays_open = λ tell ids opens other. absurd (other pages asked);
         stays_either = λ tell ids opens other. absurd (other pages asked);
@@ -404,6 +414,7 @@ module _ {S D : Type 0} (content : D → Area → Option (List ℕ)) (may_leave 
     migrated = λ e. absurd (replay-migrate (command_of words) asked e);
     backed_up = λ e. absurd (cc (same-command (command_of words) Replay Backup asked e));
     shipped = λ e. absurd (cc (same-command (command_of words) Replay Ship asked e));
+    logged = λ e. absurd (cc (same-command (command_of words) Replay Log asked e));
     makes_open = λ pages e. absurd (init-replay (command_of words) pages e asked);
     stays_open = λ tell ids opens other. ⊎_elim (λ u. unopened-open content may_leave moment left_since disk before after status ended u.1 stay counts tell ids opens) (λ r. replayed-open content may_leave script later disk before after status ended r stay tell ids (at-either may_leave ids disk opens)) replayed;
     stays_either = λ tell ids opens other. ⊎_elim (λ u. unopened-either content may_leave moment left_since disk before after status ended u.1 stay counts tell ids opens) (λ r. at-either may_leave ids (disk_in ended) (replayed-open content may_leave script later disk before after status ended r stay tell ids opens)) replayed;
@@ -436,6 +447,7 @@ module _ {S D : Type 0} (content : D → Area → Option (List ℕ)) (may_leave 
         migrated = λ e. absurd (audit-migrate (command_of words) asked e);
         backed_up = λ e. absurd (cc (same-command (command_of words) Audit Backup asked e));
         shipped = λ e. absurd (cc (same-command (command_of words) Audit Ship asked e));
+        logged = λ e. absurd (cc (same-command (command_of words) Audit Log asked e));
         makes_open = λ pages e. absurd (init-audit (command_of words) pages e asked);
         stays_open = λ tell ids opens other. ⊎_elim (λ u. unopened-open content may_leave moment left_since disk before after status ended u stay counts tell ids opens) (λ a. audited-open content may_leave disk before after status ended a stay tell ids (at-either may_leave ids disk opens)) audited;
         stays_either = λ tell ids opens other. ⊎_elim (λ u. unopened-either content may_leave moment left_since disk before after status ended u stay counts tell ids opens) (λ a. at-either may_leave ids (disk_in ended) (audited-open content may_leave disk before after status ended a stay tell ids opens)) audited;
@@ -468,6 +480,7 @@ module _ {S D : Type 0} (content : D → Area → Option (List ℕ)) (may_leave 
         migrated = λ e. absurd (par_audit-migrate (command_of words) n asked e);
         backed_up = λ e. absurd (cc (same-command (command_of words) (ParAudit n) Backup asked e));
         shipped = λ e. absurd (cc (same-command (command_of words) (ParAudit n) Ship asked e));
+        logged = λ e. absurd (cc (same-command (command_of words) (ParAudit n) Log asked e));
         makes_open = λ pages e. absurd (init-par_audit (command_of words) pages n e asked);
         stays_open = λ tell ids opens other. ⊎_elim (λ u. unopened-open content may_leave moment left_since disk before after status ended u stay counts tell ids opens) (λ a. par_audited-open content may_leave disk before after status ended a stay tell ids (at-either may_leave ids disk opens)) audited;
         stays_either = λ tell ids opens other. ⊎_elim (λ u. unopened-either content may_leave moment left_since disk before after status ended u stay counts tell ids opens) (λ a. at-either may_leave ids (disk_in ended) (par_audited-open content may_leave disk before after status ended a stay tell ids opens)) audited;
@@ -501,6 +514,7 @@ module _ {S D : Type 0} (content : D → Area → Option (List ℕ)) (may_leave 
         migrated = λ e. absurd (gen-migrate (command_of words) a asked e);
         backed_up = λ e. absurd (cc (same-command (command_of words) (Gen a) Backup asked e));
         shipped = λ e. absurd (cc (same-command (command_of words) (Gen a) Ship asked e));
+        logged = λ e. absurd (cc (same-command (command_of words) (Gen a) Log asked e));
         makes_open = λ pages e. absurd (init-gen (command_of words) pages a e asked);
         stays_open = λ tell ids opens other. ⊎_elim (λ u. unopened-open content may_leave moment left_since disk before after status ended u stay counts tell ids opens) (λ g. generated-open content may_leave a disk before after status g.0 g.2 ended g.1 stay tell ids (at-either may_leave ids disk opens)) generated;
         stays_either = λ tell ids opens other. ⊎_elim (λ u. unopened-either content may_leave moment left_since disk before after status ended u stay counts tell ids opens) (λ g. at-either may_leave ids (disk_in ended) (generated-open content may_leave a disk before after status g.0 g.2 ended g.1 stay tell ids opens)) generated;
@@ -531,6 +545,7 @@ module _ {S D : Type 0} (content : D → Area → Option (List ℕ)) (may_leave 
     migrated = λ e. absurd (run-migrate (command_of words) asked e);
     backed_up = λ e. absurd (cc (same-command (command_of words) Run Backup asked e));
     shipped = λ e. absurd (cc (same-command (command_of words) Run Ship asked e));
+    logged = λ e. absurd (cc (same-command (command_of words) Run Log asked e));
     makes_open = λ pages e. absurd (init-run (command_of words) pages e asked);
     stays_open = λ tell ids opens other. ⊎_elim (λ u. unopened-open content may_leave moment left_since disk before after status ended u.1 stay counts tell ids opens) (λ r. ran-open content may_leave disk before after status r.0 r.2 stay tell ids (at-either may_leave ids disk opens) ended r.1) ran;
     stays_either = λ tell ids opens other. ⊎_elim (λ u. unopened-either content may_leave moment left_since disk before after status ended u.1 stay counts tell ids opens) (λ r. at-either may_leave ids (disk_in ended) (ran-open content may_leave disk before after status r.0 r.2 stay tell ids opens ended r.1)) ran;
@@ -566,6 +581,7 @@ module _ {S D : Type 0} (content : D → Area → Option (List ℕ)) (may_leave 
         migrated = λ _. (same, migrated);
         backed_up = λ e. absurd (cc (same-command (command_of words) Migrate Backup asked e));
         shipped = λ e. absurd (cc (same-command (command_of words) Migrate Ship asked e));
+        logged = λ e. absurd (cc (same-command (command_of words) Migrate Log asked e));
         makes_open = λ pages e. absurd (init-migrate (command_of words) pages e asked);
         stays_open = λ tell ids opens other. goes-on-open content may_leave moment left_since disk before after status ended migrated stay tell ids counts opens;
         stays_either = λ tell ids opens other. goes-on-either content may_leave moment left_since disk before after status ended migrated stay tell ids counts opens;
@@ -601,6 +617,7 @@ module _ {S D : Type 0} (content : D → Area → Option (List ℕ)) (may_leave 
         migrated = λ e. absurd (cc (same-command (command_of words) Migrate Backup e asked));
         backed_up = λ _. (same, backed_up);
         shipped = λ e. absurd (cc (same-command (command_of words) Ship Backup e asked));
+        logged = λ e. absurd (cc (same-command (command_of words) Log Backup e asked));
         makes_open = λ pages e. absurd (cc (same-command (command_of words) (Init pages) Backup e asked));
         stays_open = λ tell ids opens other. ⊎_elim (λ u. unopened-open content may_leave moment left_since disk before after status ended u stay counts tell ids opens) (λ b. backed_up-open content may_leave disk before after status ended b stay tell ids (at-either may_leave ids disk opens)) backed_up;
         stays_either = λ tell ids opens other. ⊎_elim (λ u. unopened-either content may_leave moment left_since disk before after status ended u stay counts tell ids opens) (λ b. at-either may_leave ids (disk_in ended) (backed_up-open content may_leave disk before after status ended b stay tell ids opens)) backed_up;
@@ -636,6 +653,7 @@ module _ {S D : Type 0} (content : D → Area → Option (List ℕ)) (may_leave 
         migrated = λ e. absurd (cc (same-command (command_of words) Migrate Ship e asked));
         backed_up = λ e. absurd (cc (same-command (command_of words) Backup Ship e asked));
         shipped = λ _. (same, shipped);
+        logged = λ e. absurd (cc (same-command (command_of words) Log Ship e asked));
         makes_open = λ pages e. absurd (cc (same-command (command_of words) (Init pages) Ship e asked));
         stays_open = λ tell ids opens other. shipped-images content may_leave moment left_since disk before after status ended shipped _ opens;
         stays_either = λ tell ids opens other. shipped-images content may_leave moment left_since disk before after status ended shipped _ opens;
@@ -647,6 +665,40 @@ module _ {S D : Type 0} (content : D → Area → Option (List ℕ)) (may_leave 
             absurd (⊎_elim (λ e. cc (same-command (command_of words) Replay Ship e asked)) (λ h. ⊎_elim (λ e. cc (same-command (command_of words) Run Ship e asked)) (λ h. ⊎_elim (λ e. cc (same-command (command_of words) Audit Ship e asked)) (λ h. ⊎_elim (λ n. cc (same-command (command_of words) (ParAudit n.0) Ship n.1 asked)) (λ h. ⊎_elim (λ g. cc (same-command (command_of words) (Gen g.0) Ship g.1 asked)) (λ e. cc (same-command (command_of words) Backup Ship e asked)) h) h) h) h) ask);
         refuses_to_migrate = λ image reads closed e. absurd (cc (same-command (command_of words) Migrate Ship e asked));
         only_refused = λ tell seven image reads. (shipped-closed content may_leave moment left_since disk before after status ended shipped seven image reads, λ e. absurd (cc (same-command (command_of words) Migrate Ship e asked)));
+      }
+
+  pub asks-log : command_of words ≡ Some Log → later ≡ script → Logged content may_leave moment left_since disk before after status ended
+      → Answered content may_leave moment left_since words script later disk before after status ended
+  asks-log asked same logged =
+      let is = of-ship status logged.statuses in
+      record {
+        usage = λ two. absurd (not-usage status is two);
+        no_reading = λ none. absurd (none-some (command_of words) Log none asked);
+        statuses = inr is;
+        goes_later = goes;
+        only_looks = λ other image reads closed. logged.looks;
+        unread = λ two. absurd (not-usage status is two);
+        made = λ pages e. absurd (cc (same-command (command_of words) (Init pages) Log e asked));
+        replayed = λ e. absurd (cc (same-command (command_of words) Replay Log e asked));
+        ran = λ e. absurd (cc (same-command (command_of words) Run Log e asked));
+        audited = λ e. absurd (cc (same-command (command_of words) Audit Log e asked));
+        par_audited = λ n e. absurd (cc (same-command (command_of words) (ParAudit n) Log e asked));
+        generated = λ a e. absurd (cc (same-command (command_of words) (Gen a) Log e asked));
+        migrated = λ e. absurd (cc (same-command (command_of words) Migrate Log e asked));
+        backed_up = λ e. absurd (cc (same-command (command_of words) Backup Log e asked));
+        shipped = λ e. absurd (cc (same-command (command_of words) Ship Log e asked));
+        logged = λ _. (same, logged);
+        makes_open = λ pages e. absurd (cc (same-command (command_of words) (Init pages) Log e asked));
+        stays_open = λ tell ids opens other. logged-images content may_leave moment left_since disk before after status ended logged _ opens;
+        stays_either = λ tell ids opens other. logged-images content may_leave moment left_since disk before after status ended logged _ opens;
+        migrates = λ tell ids opens e. absurd (cc (same-command (command_of words) Migrate Log e asked));
+        complete = λ tell command e can reads writes faults.
+            let c = subst (CanBeDone may_leave disk before.left) (same-command (command_of words) command Log e asked) can in
+            logged-done content may_leave moment left_since disk before after status ended logged stay tell c.0 c.1 writes faults;
+        refuses = λ image reads closed ask.
+            absurd (⊎_elim (λ e. cc (same-command (command_of words) Replay Log e asked)) (λ h. ⊎_elim (λ e. cc (same-command (command_of words) Run Log e asked)) (λ h. ⊎_elim (λ e. cc (same-command (command_of words) Audit Log e asked)) (λ h. ⊎_elim (λ n. cc (same-command (command_of words) (ParAudit n.0) Log n.1 asked)) (λ h. ⊎_elim (λ g. cc (same-command (command_of words) (Gen g.0) Log g.1 asked)) (λ e. cc (same-command (command_of words) Backup Log e asked)) h) h) h) h) ask);
+        refuses_to_migrate = λ image reads closed e. absurd (cc (same-command (command_of words) Migrate Log e asked));
+        only_refused = λ tell seven image reads. (logged-closed content may_leave moment left_since disk before after status ended logged seven image reads, λ e. absurd (cc (same-command (command_of words) Migrate Log e asked)));
       }
 
 -- ---- the command that was read

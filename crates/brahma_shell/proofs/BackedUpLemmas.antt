@@ -17,7 +17,7 @@ use Rattle.core_store.specs.Opening.{opened_history}
 use Rattle.core_store.specs.Owed.{entries_owed}
 use Rattle.gate_log.specs.State.{other_log}
 use Rattle.logged_journal.specs.View.{LoggedView, OnlyTakesRoom}
-use Rattle.logged_journal.specs.Upkeep.{FailsUpkeep, IsTurned}
+use Rattle.logged_journal.specs.Upkeep.{FailsUpkeep, IsTurned, IsPastLogToTurn}
 use Rattle.script_lines.specs.Numbers.{object_slots}
 use Rattle.store_backup.specs.Backups.{HasTurned}
 use Rattle.brahma_shell.specs.BackedUp.{LeavesStore, IsAtCheckpoint}
@@ -83,7 +83,12 @@ module _ {D : Type 0} (faults : D → ℕ) (may_leave : D → Area → List ℕ 
       ⊎_elim (λ zero. left-turned (λ nine. omega (arith, zero, nine)) (leaves.turned (inl zero)))
       (λ is. ⊎_elim (λ five. left-turned (λ nine. omega (arith, five, nine)) (leaves.turned (inr five)))
       (λ is. ⊎_elim (λ six. left-failed (λ nine. omega (arith, six, nine)) (leaves.failed six))
-      (λ is. ⊎_elim (λ eight. left-room (λ nine. omega (arith, eight, nine)) (leaves.starved eight)) (λ nine. left-full nine (leaves.full nine)) is) is) is) statuses
+      (λ is. ⊎_elim (λ eight. left-room (λ nine. omega (arith, eight, nine)) (leaves.starved eight)) (λ nine. left-full nine (leaves.full nine).1) is) is) is) statuses
+
+-- that the log is too long for a checkpoint is told of what stays as of what was
+pub past-kept : {D : Type 0} (old new : LoggedView D) → IsPastLogToTurn object_slots old × OnlyTakesRoom (record old { log_full = true }) new → IsPastLogToTurn object_slots new
+past-kept {D} old new h =
+    subst (λ (v : LoggedView D). IsPastLogToTurn object_slots v) (sym h.1) (record { running = h.0.running; room = h.0.room; idle = h.0.idle; past = h.0.past })
 
 -- its cells are those that it opened with
 pub cells-turned : {D : Type 0} (may_leave : D → Area → List ℕ → Type 0) (old new : LoggedView D) → old.journal.notes ≡ [] → HasTurned object_slots may_leave old new → cells_of new.journal ≡ old.journal.opening

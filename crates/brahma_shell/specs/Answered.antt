@@ -8,7 +8,7 @@ use Rattle.store_opening.specs.Looks.{IsLookedAt}
 use Rattle.store_opening.specs.Store.{Reads}
 use Rattle.logged_journal.specs.View.{LoggedView}
 use Rattle.brahma_shell.specs.declared.commands.Command.{Command}
-use Rattle.brahma_shell.specs.declared.commands.Command.TheVariants.{Init, Replay, Run, Gen, Audit, ParAudit, Migrate, Backup, Ship}
+use Rattle.brahma_shell.specs.declared.commands.Command.TheVariants.{Init, Replay, Run, Gen, Audit, ParAudit, Migrate, Backup, Ship, Log}
 use Rattle.brahma_shell.specs.declared.ended.Ended.{Ended}
 use Rattle.brahma_shell.specs.declared.ended.Ended.TheVariants.{Shut, Kept}
 use Rattle.gen_options.specs.declared.reading.Asked.{Asked}
@@ -21,6 +21,7 @@ use Rattle.brahma_shell.specs.Migrated.{AlwaysOpensAtEither, Migrated, Unmigrate
 use Rattle.brahma_shell.specs.ParAudited.{ParAudited}
 use Rattle.brahma_shell.specs.BackedUp.{BackedUp}
 use Rattle.brahma_shell.specs.Shipped.{Shipped}
+use Rattle.brahma_shell.specs.Logged.{Logged}
 use Rattle.script_lines.specs.Numbers.{object_slots}
 
 -- words that open the store
@@ -44,6 +45,7 @@ CanBeDone may_leave disk left (ParAudit pieces) = (ids : ℕ) × AlwaysOpens may
 CanBeDone may_leave disk left Migrate = (ids : ℕ) × AlwaysOpensAtEither may_leave ids disk
 CanBeDone may_leave disk left Backup = (ids : ℕ) × AlwaysOpens may_leave ids disk
 CanBeDone may_leave disk left Ship = (ids : ℕ) × AlwaysOpens may_leave ids disk
+CanBeDone may_leave disk left Log = (ids : ℕ) × AlwaysOpens may_leave ids disk
 
 -- there was no memory to read the options of `gen`: nothing is read, and the disk is asked for nothing
 pub record Starves {S D : Type 0} (words : List (List ℕ)) (script later : S) (disk : D) (before after : Outside) (status : ℕ) (ended : Ended D) : Type 0 where
@@ -82,6 +84,7 @@ pub record Answered {S D : Type 0} (content : D → Area → Option (List ℕ)) 
   pub backed_up : command_of words ≡ Some Backup → (later ≡ script) × (Unopened content may_leave moment left_since disk before after status ended
       ⊎ BackedUp content may_leave disk before after status ended)
   pub shipped : command_of words ≡ Some Ship → (later ≡ script) × Shipped content may_leave moment left_since disk before after status ended
+  pub logged : command_of words ≡ Some Log → (later ≡ script) × Logged content may_leave moment left_since disk before after status ended
   -- a store that was made opens, whatever a power loss leaves
   pub makes_open : (pages : ℕ) → command_of words ≡ Some (Init pages) → (status ≡ 6 → ⊥) → AlwaysOpens may_leave (8 * pages) (disk_in ended)
   -- and on a disk that tells what it reads it goes on to open so, with as many ids, behind each command that makes none, at every

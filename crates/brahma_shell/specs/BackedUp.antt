@@ -9,7 +9,7 @@ use Rattle.cell_model.specs.Cells.{Cell}
 use Rattle.core_store.specs.Opening.{opened_history}
 use Rattle.logged_journal.specs.View.{LoggedView, OnlyTakesRoom}
 use Rattle.logged_journal.specs.Opens.{OpensAfter}
-use Rattle.logged_journal.specs.Upkeep.{IsTurned, FailsUpkeep}
+use Rattle.logged_journal.specs.Upkeep.{IsTurned, FailsUpkeep, IsPastLogToTurn}
 use Rattle.journal_opening.specs.Openings.{ReadsAs}
 use Rattle.script_lines.specs.Numbers.{object_slots}
 use Rattle.script_lines.specs.Output.{AppendsFront}
@@ -24,7 +24,7 @@ pub record LeavesStore {D : Type 0} (faults : D → ℕ) (may_leave : D → Area
   pub turned : (status ≡ 0) ⊎ (status ≡ 5) → HasTurned object_slots may_leave old new
   pub failed : status ≡ 6 → FailsUpkeep faults old new
   pub starved : status ≡ 8 → OnlyTakesRoom old new
-  pub full : status ≡ 9 → OnlyTakesRoom (record old { log_full = true }) new
+  pub full : status ≡ 9 → IsPastLogToTurn object_slots old × OnlyTakesRoom (record old { log_full = true }) new
 
 -- in this image every page of these cells stands in place, and the current log area has the first batch alone
 abbrev pub IsAtCheckpoint : List Cell → Bytes → Type 0
@@ -47,4 +47,5 @@ pub record BackedUp {D : Type 0} (content : D → Area → Option (List ℕ)) (m
   pub write : status ≡ 5 → Rose before.write_faults after.write_faults × ((bytes : List ℕ) × IsBaseOf object_slots (8 * pages) cells bytes × AppendsFront before.written after.written bytes)
   pub failed : status ≡ 6 → Rose before.disk_faults after.disk_faults × Ends before after [] (codes "refused: disk\n")
   pub memory : status ≡ 8 → Ends before after [] (codes "refused: memory\n")
-  pub limit : status ≡ 9 → Ends before after [] (codes "refused: log\n")
+  -- with the images that a checkpoint needs the log would be longer than a log may be
+  pub limit : status ≡ 9 → Ends before after [] (codes "refused: log\n") × ((v : LoggedView D) × (ended ≡ Kept v) × IsPastLogToTurn object_slots v)

@@ -32,6 +32,8 @@ pub enum Command {
     Backup,
     /// `ship`: writes the bytes of the current log, which follow a base in a stream. It doesn't open the store.
     Ship,
+    /// `log`: writes the current log as text, a line for each record. It doesn't open the store.
+    Log,
 }
 
 /// The command that one word names.
@@ -45,6 +47,7 @@ fn command_of_word(word: &[u8]) -> Option<Command>
         b"migrate" => Some(Command::Migrate),
         b"backup" => Some(Command::Backup),
         b"ship" => Some(Command::Ship),
+        b"log" => Some(Command::Log),
         _ => None,
     }
 }

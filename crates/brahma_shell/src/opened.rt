@@ -13,7 +13,7 @@ ghost use Rattle.auditor.specs.Recount.{live_in, zero_in};
 ghost use Rattle.par_audit.specs.Garbage.{IsGarbage};
 ghost use Rattle.framed_journal.specs.Holding.{AreFramesOf};
 ghost use Rattle.logged_journal.specs.View.{history_of, OnlyTakesRoom};
-ghost use Rattle.logged_journal.specs.Upkeep.{FailsUpkeep};
+ghost use Rattle.logged_journal.specs.Upkeep.{FailsUpkeep, IsPastLogToTurn};
 ghost use Rattle.logged_journal.specs.Opens.{OpensAfter};
 ghost use Rattle.core_store.specs.JournalView.{cells_of, core_of, opening_of};
 ghost use Rattle.core_store.specs.Leads.{AreLed};
@@ -139,7 +139,7 @@ impl<D: Disk> OpenedStore<D> {
         ensures turned { OnOk result (HasTurned object_slots D.may_leave self.old self.new) }
         ensures turned_too { IsErrOf result Write → HasTurned object_slots D.may_leave self.old self.new }
         ensures failed { IsErrOf result Disk → FailsUpkeep D.faults self.old self.new }
-        ensures full { IsErrOf result LogFull → OnlyTakesRoom (record self.old { log_full = true }) self.new }
+        ensures full { IsErrOf result LogFull → IsPastLogToTurn object_slots self.old × OnlyTakesRoom (record self.old { log_full = true }) self.new }
         ensures starved { IsErrOf result Starved → OnlyTakesRoom self.old self.new }
         ensures unwritten { IfErr result (λ e. (e ≡ Write) ⊎ (out.new ≡ out.old)) }
         ensures sink { HasSinkCause (W.faults out.old) (W.faults out.new) result }

@@ -1,5 +1,5 @@
 mod AreaLaws
 mod TestLaws
-mod LineLaws
+pub mod LineLaws
 mod PrintLaws
 mod ViewLaws

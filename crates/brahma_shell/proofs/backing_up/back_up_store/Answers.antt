@@ -8,12 +8,13 @@ use Rattle.core_store.specs.JournalView.{cells_of}
 use Rattle.core_store.specs.Opening.{opened_history}
 use Rattle.logged_journal.specs.View.{LoggedView}
 use Rattle.logged_journal.specs.Opens.{OpensAfter}
+use Rattle.logged_journal.specs.Upkeep.{IsPastLogToTurn}
 use Rattle.script_lines.specs.Numbers.{object_slots}
 use Rattle.store_backup.specs.Backups.{IsBaseOf, HasTurned}
 use Rattle.brahma_shell.specs.BackedUp.{IsAtCheckpoint}
 use Rattle.brahma_shell.proofs.AuditLemmas.{opening-cells}
 use Rattle.brahma_shell.proofs.LogLemmas.{history-running}
-use Rattle.brahma_shell.proofs.BackedUpLemmas.{idle-opened, room-opened, left, cells-turned, at-checkpoint}
+use Rattle.brahma_shell.proofs.BackedUpLemmas.{idle-opened, room-opened, left, past-kept, cells-turned, at-checkpoint}
 use Rattle.brahma_shell.proofs.backing_up.back_up_store.Goals as goal
 
 pub tell_backup-status-requires : goal.tell_backup-status-requires
@@ -66,7 +67,7 @@ returns-in-Ok-clause-backed_up g c =
         told.disk six,
       );
       memory = told.memory;
-      limit = told.limit;
+      limit = λ nine. (told.limit nine, (c.into_logged.result, refl, subst (λ x. IsPastLogToTurn object_slots x) (sym into) (past-kept v w (told.leaves.full nine))));
     })
 
 pub returns-in-Ok-clause-statuses : goal.returns-in-Ok-clause-statuses

@@ -21,3 +21,8 @@ pub returns-in-ship : goal.returns-in-ship
 returns-in-ship c =
     let e : c.args.word.now ≡ codes "ship" = search (rules, text_from_reads) in
     rw e
+
+pub returns-in-log : goal.returns-in-log
+returns-in-log c =
+    let e : c.args.word.now ≡ codes "log" = search (rules, text_from_reads) in
+    rw e

@@ -1,8 +1,8 @@
 use Rattle.std.proofs.Common.{refl, sym, ◌∙◌, arith}
 use mir.Syntax.{of_param}
-use Rattle.brahma_shell.specs.declared.commands.Command.TheVariants.{Init, Replay, Gen, Audit, Migrate, Backup, Ship}
+use Rattle.brahma_shell.specs.declared.commands.Command.TheVariants.{Init, Replay, Gen, Audit, Migrate, Backup, Ship, Log}
 use Rattle.brahma_shell.specs.Commands.{command_of}
-use Rattle.brahma_shell.proofs.AnswerLemmas.{asks-nothing, asks-starved, asks-init, asks-replay, asks-gen, asks-audit, asks-migrate, asks-backup, asks-ship, pages-within, named}
+use Rattle.brahma_shell.proofs.AnswerLemmas.{asks-nothing, asks-starved, asks-init, asks-replay, asks-gen, asks-audit, asks-migrate, asks-backup, asks-ship, asks-log, pages-within, named}
 use Rattle.brahma_shell.proofs.FewLemmas.{gen-few}
 use Rattle.brahma_shell.proofs.top.command.Goals as goal
 
@@ -72,6 +72,14 @@ returns-in-Ok-Some-Ship g c =
     let s = c.ship_log.ensures in
     asks-ship g.D.Disk.content g.D.Disk.may_leave g.D.Disk.moment g.D.Disk.left_since _ _ _ _ _ _ _ _ (record { reads = omega arith; writes = s.out_later; disk = s.disk_later }) g.D.Disk.reads_may_stay g.D.Disk.counts_now asked refl
     (s.shipped (g.R.Source.left c.args.script.now) (g.R.Source.faults c.args.script.now))
+
+pub returns-in-Ok-Some-Log : goal.returns-in-Ok-Some-Log
+returns-in-Ok-Some-Log g c =
+    let at = c.in-Ok-Some-Log in
+    let asked = named at.field-0 (command_of c.args.words.now) at.field-0-0 Log at.ensures.value at.field-0-is at.field-0-0-is in
+    let l = c.log_text.ensures in
+    asks-log g.D.Disk.content g.D.Disk.may_leave g.D.Disk.moment g.D.Disk.left_since _ _ _ _ _ _ _ _ (record { reads = omega arith; writes = l.out_later; disk = l.disk_later }) g.D.Disk.reads_may_stay g.D.Disk.counts_now asked refl
+    (l.logged (g.R.Source.left c.args.script.now) (g.R.Source.faults c.args.script.now))
 
 pub returns-in-Ok-None : goal.returns-in-Ok-None
 returns-in-Ok-None g c =

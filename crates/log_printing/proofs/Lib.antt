@@ -1,0 +1,3 @@
+pub mod WindowLaws
+pub mod WalkLaws
+pub mod PrintLaws

@@ -1,0 +1,3 @@
+pub mod Window
+pub mod Walks
+pub mod Printed
