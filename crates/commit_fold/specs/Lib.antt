@@ -1,0 +1,3 @@
+pub mod Commits
+pub mod Objects
+pub mod Tallies

@@ -1,0 +1,4 @@
+pub mod Checking
+pub mod Feeds
+pub mod Taking
+pub mod Verdicts

@@ -1,0 +1,5 @@
+mod Bases
+mod Batches
+mod Replays
+mod Opens
+mod Streams
