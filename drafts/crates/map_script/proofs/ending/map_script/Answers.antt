@@ -1,0 +1,23 @@
+use Rattle.std.proofs.Common.{inl, inr, refl}
+use Rattle.map_script.proofs.StoreLemmas.{rose-to}
+use Rattle.map_script.proofs.EndLemmas.{ends-from}
+use Rattle.map_script.proofs.ending.map_script.Goals as goal
+
+pub returns-in-Ok-clause-mapped : goal.returns-in-Ok-clause-mapped
+returns-in-Ok-clause-mapped g c = inl (refl, c.in-Ok.ensures.ok)
+
+pub returns-in-Err-clause-mapped : goal.returns-in-Err-clause-mapped
+returns-in-Err-clause-mapped g c =
+    let e = c.in-Err.ensures in
+    let last = c.end_stopped.ensures in
+    inr (
+      c.in-Err.stop,
+      last.status,
+      record {
+        written = g.W.Sink.written c.do_script.new.out;
+        stops = e.stopped;
+        last = ends-from _ _ _ _ _ _ _ e.out_later last.last;
+        read = λ is. e.read (cc (is));
+        write = λ is. rose-to _ _ _ (e.write (cc (is))) last.later;
+      },
+    )

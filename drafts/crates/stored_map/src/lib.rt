@@ -1,0 +1,6 @@
+//! The map of a store, by transactions of one client.
+#![tactic(auto)]
+
+mod store;
+
+pub use store::StoredMap;
