@@ -1,7 +1,0 @@
-pub mod Pairs
-pub mod Machine
-pub mod Following
-pub mod Views
-pub mod Stopping
-pub mod Mapped
-pub mod Listing

@@ -1,3 +1,0 @@
-pub mod ShortLaws
-pub mod FedLaws
-pub mod StoodLaws

@@ -1,4 +1,0 @@
-pub mod Streams
-pub mod Feedings
-pub mod StoodBy
-pub mod Line
