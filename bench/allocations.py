@@ -51,7 +51,7 @@ class Refusals:
         self.runs, self.step, self.commits = runs, step, {}
 
     def behind(self, areas, words, script, output):
-        """What may be reachable behind what was written: behind some first lines, which have as many commits that were done."""
+        """What may be reachable after what was written: after some first lines, which have as many commits that were done."""
         if words == ["migrate"]:
             return [self.migrated(areas)]
         if words != ["replay"]:

@@ -4,7 +4,7 @@
     bench/collector.py PROGRAM [--runs N] [--sizes N,N,..] [--shapes NAME,NAME,..]
 
 PROGRAM makes stores and replays scripts as `brahma init` and `brahma replay` do; each run has a fresh store of 8,192 ids in a
-folder of its own, in memory where there is such a place. The time of a heap is that of its script with `gc all` behind it,
+folder of its own, in memory where there is such a place. The time of a heap is that of its script with `gc all` after it,
 less that with `gc step`: user and system time, each the least of N runs. Behind the times of a shape stand the exponents of
 their growth: 1 is growth in proportion.
 """
@@ -113,7 +113,7 @@ def seconds(program, path, folder):
 
 
 def collection(program, folder, script, runs):
-    """The time of the collection behind a script, in seconds."""
+    """The time of the collection after a script, in seconds."""
     paths = []
     for last in ("gc all", "gc step"):
         paths.append(os.path.join(folder, last.replace(" ", "-")))

@@ -14,7 +14,7 @@ SPARE_NAME, MARK = "brahma.new", "brahma.open"
 
 class Area:
     """What a file had once, and the writes and cuts since then, each with what is known of it: a sync made it last, none did yet, or
-    one failed, behind which the system may count it as written though it never is."""
+    one failed, after which the system may count it as written though it never is."""
 
     def __init__(self, content):
         self.first, self.changes = content, []
@@ -76,7 +76,7 @@ class Folder:
                 area.sync(ended == b"d")
 
     def goes_on(self, path):
-        """The same behind a trace. What its calls were, each a kind and a file, is handed back."""
+        """The same after a trace. What its calls were, each a kind and a file, is handed back."""
         with open(path, "rb") as file:
             trace = file.read()
         calls, place = [], 0
@@ -104,14 +104,14 @@ class Folder:
 
 
 def done(content, at, data):
-    """A content behind a write of these bytes, or, without bytes, behind a cut."""
+    """A content after a write of these bytes, or, without bytes, after a cut."""
     if data is None:
         return content[:at]
     return content[:at].ljust(at, b"\0") + data + content[at + len(data):]
 
 
 def in_part(content, at, data, draw):
-    """A content behind a part of a write or a cut."""
+    """A content after a part of a write or a cut."""
     if data is None:
         return content[: draw.randrange(min(at, len(content)), len(content) + 1)]
     start, end = sorted(draw.randrange(len(data) + 1) for _ in range(2))

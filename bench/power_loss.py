@@ -11,14 +11,14 @@ not end well, while an audit or a backup is made, while a store of version 1 is 
 thread, while generated calls are done, and while M (five, without it) scripts are replayed that are drawn as those of damage.py are.
 
 From the trace N (ten, without it) contents of the four files are drawn as a power loss at that call may leave them. What the last sync of a
-file made last is there. Of the writes and cuts behind it, and of the call at which power was lost, each is done, not done or done in part,
+file made last is there. Of the writes and cuts after it, and of the call at which power was lost, each is done, not done or done in part,
 or anything is in its range. Each such store has to open to the effect of the commits that were answered, or of these and the one that was
-under way, with counts that are right; behind `init` there may be what was there before, no store, or a fresh one. (A client on a thread has
-its lines printed at the end, so some first ones of its commits have to be there; behind generated calls only the counts are looked at.
+under way, with counts that are right; after `init` there may be what was there before, no store, or a fresh one. (A client on a thread has
+its lines printed at the end, so some first ones of its commits have to be there; after generated calls only the counts are looked at.
 Behind a migration that lost power another one is made first.)
 
 Then the Kth call fails once in place of a loss of power, and the program goes on: it has to end with status 6, with the lines that it had
-written until then, `fault` for a commit that failed, and `refused: disk`. What it leaves, and what a power loss may leave behind it, has to
+written until then, `fault` for a commit that failed, and `refused: disk`. What it leaves, and what a power loss may leave after it, has to
 open in the same way.
 
 Each sync is also let fail so that the system keeps in memory what was to last by it, and counts it as written, so that no later sync writes
@@ -221,7 +221,7 @@ CLIENT = b"""1 begin
 # What a run does that finds the mark of another one.
 UNDER_A_MARK = b"1 begin\n1 set 0 3\n1 commit\n"
 
-# What a run does behind one whose sync failed.
+# What a run does after one whose sync failed.
 LATER = b"1 begin\n1 set 0 8\n1 make 1\n1 store 0 3 1\n1 commit\n2 begin\n2 set 0 11\n2 commit\nclean 0\n1 begin\n1 set 0 12\n1 commit\n"
 
 LOST = 97
@@ -249,7 +249,7 @@ class Losses:
         return ended, folder.goes_on(self.trace)
 
     def fronts(self, areas, script):
-        """What each number of the script's first lines prints, but for the line at the end, and what is reachable behind it."""
+        """What each number of the script's first lines prints, but for the line at the end, and what is reachable after it."""
         lines = script.splitlines(keepends=True)
         found = []
         for count in range(len(lines) + 1):
@@ -279,7 +279,7 @@ class Losses:
         return lambda output: [it for at, (text, _) in enumerate(fronts) if text == output for it in seen[at: at + 2]]
 
     def fault_of(self, areas, words, may_be):
-        """What is wrong with a store behind such a run, if anything."""
+        """What is wrong with a store after such a run, if anything."""
         self.runs.lay(areas)
         now = self.runs.seen(words[0] == "migrate")
         if may_be is not None and now not in may_be:
@@ -340,7 +340,7 @@ class Losses:
 
 
     def lie_at(self, areas, script, at, keeps_mark):
-        """What is wrong where that call, a sync, fails and the system lets go what was to last by it, and, behind a later run, power is
+        """What is wrong where that call, a sync, fails and the system lets go what was to last by it, and, after a later run, power is
         lost: what that run told as done has to be there. Without the mark of the run that failed that may be missing."""
         what = "call %d fails, and later power is lost" % at
         (status, _), folder = self.run(areas, ["replay"], script, FAILS=str(at))
@@ -360,7 +360,7 @@ class Losses:
         self.runs.lay(areas)
         _, calls = self.run_on(Folder(areas), ["replay"], script)
         syncs = [at for at, (kind, file) in enumerate(calls, 1) if kind == SYNC and file < FOLDER]
-        # In the short form the last ones, behind which the log is longest.
+        # In the short form the last ones, after which the log is longest.
         syncs = syncs if self.step == 1 else syncs[-4:]
         faults = [fault for at in syncs for fault in self.lie_at(areas, script, at, True)]
         # Without the mark something has to be missing: else these runs tell nothing.
@@ -368,7 +368,7 @@ class Losses:
             faults.append("nothing is missing where the mark of a run is removed")
         for fault in faults:
             print(fault)
-        print("replay behind a sync that failed: syncs: %d, wrong: %d" % (len(syncs), len(faults)), flush=True)
+        print("replay after a sync that failed: syncs: %d, wrong: %d" % (len(syncs), len(faults)), flush=True)
         return len(faults)
 
 

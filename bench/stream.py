@@ -6,11 +6,11 @@ gate. It takes a C compiler.
 
 A store's log is made of so many megabytes, 128 without it, and then of two and four times as many. It is what the program writes for a
 script that makes an object, links it, writes payloads, cuts the object off again and collects it, over and over. The program does the
-script some thousand times. What it logged behind the first half is then repeated in the file, since the store is there as it was before.
+script some thousand times. What it logged after the first half is then repeated in the file, since the store is there as it was before.
 The program has to open the shortest of these logs, and to find no difference in it.
 
 On each log these commands are timed, those of them that the program has: `ship`, whose output is read by a program that only sums its
-bytes; `standby` and `check`, which get the base that `backup` wrote and the log behind it through `cat`; and `log`, whose output is let
+bytes; `standby` and `check`, which get the base that `backup` wrote and the log after it through `cat`; and `log`, whose output is let
 go. `backup` itself is timed at last, since it makes the log begin anew. Each is run so many times, 3 without it, and the least wall time
 counts. Plain is the time of the summing program on the same bytes through `cat`. Share is the speed in parts of the plain speed. Memory
 is the most that the command had. Behind the rows of a command stand the exponents of the growth of its time: 1 is growth in proportion.
@@ -113,7 +113,7 @@ class Streams:
         return len(front) + times * len(part) + 1
 
     def time(self, words, cwd, stdin=None, reader=None):
-        """The wall time of a run, behind `cat` where files are told, in front of a reader where one is; its memory in megabytes, and its output."""
+        """The wall time of a run, fed by `cat` where files are told, with a reader of its output where one is given; its memory in megabytes, and its output."""
         began = time.monotonic()
         first = subprocess.Popen(["cat", *stdin], stdout=subprocess.PIPE) if stdin else None
         done = subprocess.Popen(words, stdin=first.stdout if first else subprocess.DEVNULL, stdout=subprocess.PIPE if reader != "none" else subprocess.DEVNULL,
@@ -136,7 +136,7 @@ class Streams:
         return took, used.ru_maxrss / 1024, output
 
     def least(self, runs, prepare, *how, **more):
-        """The least time of so many runs, each behind what prepares it; the most memory, and the last output."""
+        """The least time of so many runs, each after what prepares it; the most memory, and the last output."""
         best, most, output = None, 0, b""
         for _ in range(runs):
             prepare()

@@ -16,7 +16,7 @@ VERSION = 2
 SLOTS, CELL = SIZES[VERSION]
 PAGE = CELLS * CELL
 
-# The fields behind the kind of each record: b one byte, i four, q eight.
+# The fields after the kind of each record: b one byte, i four, q eight.
 FIELDS = {
     1: ("Begin", "b"),
     2: ("Make", "bi"),
@@ -87,7 +87,7 @@ def read_records(body, size):
 
 
 def read_log(area):
-    """The batches of a log area, and the offset of the closed commit byte behind them."""
+    """The batches of a log area, and the offset of the closed commit byte after them."""
     batches, at, size = [], 0, CELLS * SIZES[1][1]
     while at < len(area) and area[at] == 1:
         length = struct.unpack_from(">I", area, at + 1)[0]

@@ -129,7 +129,7 @@ def legend(picture, x, y):
 
 
 def graph(program):
-    """The stored graph behind graph.script."""
+    """The stored graph after graph.script."""
     folder = Folder(program)
     folder.run("init", "1")
     folder.run("replay", script=script("graph"))
@@ -233,7 +233,7 @@ def draw_area(picture, x, y, area, named):
 
 
 def log(program):
-    """The two log areas: of a fresh store, behind a commit, and behind a checkpoint."""
+    """The two log areas: of a fresh store, after a commit, and after a checkpoint."""
     folder = Folder(program)
     folder.run("init", "1")
     picture = Picture(820, 350)
@@ -269,7 +269,7 @@ def contents_of_commit(program):
     return [
         ("before the commit", before),
         ("1  the batch is being written: a part of it is there", torn),
-        ("2  the batch is written and synced, behind a closed gate", closed),
+        ("2  the batch is written and synced, after a closed gate", closed),
         ("3  the gate is being opened: still closed", closed),
         ("3  the gate is being opened: already open", after),
         ("4  the gate is synced: the commit is answered", after),

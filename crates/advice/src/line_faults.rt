@@ -24,7 +24,7 @@ fn is_blank(byte: u8) -> bool {
     byte == b' ' || byte == b'\t'
 }
 
-/// The first field, and the bytes behind it.
+/// The first field, and the bytes after it.
 pub(crate) fn next_field(bytes: &[u8]) -> Option<(&[u8], &[u8])>
     ensures { IfSome result (λ p. length p.0.now + length p.1.now ≤ length bytes.now) }
 {
@@ -73,7 +73,7 @@ fn add_fields(tried: &mut ArrayVec<u8, ROOM>, line: &[u8], from: usize, to: usiz
     Some(())
 }
 
-/// Whether the first fields of the line, so many, go on to a line of the grammar with those of the shape behind them.
+/// Whether the first fields of the line, so many, go on to a line of the grammar with those of the shape after them.
 fn fits(line: &[u8], count: usize, shape: &Shape) -> bool {
     let mut tried = ArrayVec::new();
     match add_fields(&mut tried, line, 0, count) {
@@ -86,7 +86,7 @@ fn fits(line: &[u8], count: usize, shape: &Shape) -> bool {
     }
 }
 
-/// What is expected behind the first fields of the line, so many, where they are the beginning of a line of the grammar.
+/// What is expected after the first fields of the line, so many, where they are the beginning of a line of the grammar.
 fn expected_behind(line: &[u8], count: usize) -> Option<Expected> {
     for shape in &SHAPES {
         if fits(line, count, shape) {

@@ -34,7 +34,7 @@ pub(crate) struct Shape {
     pub(crate) fields: [Expected; MOST_FIELDS],
 }
 
-/// The shape whose client has this verb, and these fields behind it.
+/// The shape whose client has this verb, and these fields after it.
 macro_rules! client_shape {
     ($line:literal, $first:ident, $second:ident, $third:ident) => {
         Shape {

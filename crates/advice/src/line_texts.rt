@@ -22,7 +22,7 @@ pub(crate) fn shown(line: &[u8]) -> Text {
     text
 }
 
-/// What is left of a line behind its first fields, so many, or behind all where it has fewer.
+/// What is left of a line after its first fields, so many, or after all where it has fewer.
 fn behind_fields(line: &[u8], count: usize) -> &[u8] {
     let mut rest = line;
     for _ in 0..count {
@@ -34,7 +34,7 @@ fn behind_fields(line: &[u8], count: usize) -> &[u8] {
     rest
 }
 
-/// Where the field of this index stands, counted from 0, and how long it is. Where the line has no such field, that is behind its
+/// Where the field of this index stands, counted from 0, and how long it is. Where the line has no such field, that is after its
 /// last one.
 fn place_of(line: &[u8], index: usize) -> (usize, usize) {
     let rest = behind_fields(line, index);

@@ -45,7 +45,7 @@ fn next_word(bytes: &[u8]) -> (&[u8], &[u8]) {
     }
 }
 
-/// The number behind the word `at` or `rule`.
+/// The number after the word `at` or `rule`.
 fn number_behind(word: &[u8], bytes: &[u8]) -> Option<u64> {
     let (first, rest) = next_word(bytes);
     if first != word {
@@ -63,7 +63,7 @@ fn log_of(word: &[u8]) -> Option<Log> {
     }
 }
 
-/// What is refused, by the words behind `refused: `, where numbers stand among them.
+/// What is refused, by the words after `refused: `, where numbers stand among them.
 fn with_numbers(words: &[u8]) -> Option<Refusal> {
     let (kind, rest) = next_word(words);
     let (what, rest) = next_word(rest);

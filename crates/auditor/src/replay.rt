@@ -203,7 +203,7 @@ fn redo_note<const SLOTS: usize>(cells: &mut [Cell<SLOTS>], note: &Note)
     }
 }
 
-/// A copy of the cells, behind a free one.
+/// A copy of the cells, after a free one.
 fn copied<const SLOTS: usize>(
     alloc: Global,
     opening: &[Cell<SLOTS>],

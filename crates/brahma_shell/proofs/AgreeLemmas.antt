@@ -1,4 +1,4 @@
--- Each client's transaction is as the generator has it, so none is active behind the last turn.
+-- Each client's transaction is as the generator has it, so none is active after the last turn.
 use Rattle.std.proofs.Common.{◌≡◌, ◌≢◌, ℕ, zero, suc, ◌+◌, ◌<◌, ◌≤◌, Bool, true, false, List, [], ◌∷◌, ◌++◌, length, get_or, set, replicate, Option, Some, None, refl, sym, ap, subst, ◌∙◌, ⊎_elim, arith}
 use Rattle.std.specs.Prelude.{nat_le, if◌then◌else◌, ◌==◌, flat_map, IfSome}
 use Rattle.std.proofs.lemmas.Bool.{cases_eq, ltb-false}
@@ -269,7 +269,7 @@ told-none : (cs : List Client) (s : State) → waiting cs ≡ [] → AllByRecurs
 told-none cs s e all a zero = a.told zero
 told-none cs s e all a (suc i) = subst (λ (o : Option ℕ). IsAsTold o (transaction_of s (suc i))) (calls-none 0 cs e all i) (a.told (suc i))
 
--- behind the last turn no transaction is active
+-- after the last turn no transaction is active
 pub all-idle : (g : Generating) (turns : List Turn) → Generates g turns → IsGenerating g → (p : Point) (notes : List Note) → Agrees g.clients p.moment.state → GivesLines p (flat_map lines_in turns) notes → (after_notes p notes).moment.state.active ≡ []
 all-idle g ts (done _ none) inside p notes a given = subst (λ (ns : List Note). (after_notes p ns).moment.state.active ≡ []) (sym given) (no-active p.moment.state.active (told-none g.clients p.moment.state none inside.each a))
 all-idle g ts (turn _ turns some more) inside p notes a given =

@@ -17,7 +17,7 @@ use Rattle.brahma_shell.proofs.ReplayLemmas.{HasLine}
 
 -- ---- one line more
 
--- the lines, and one behind them
+-- the lines, and one after them
 of_clients-push : (ids number : ℕ) (before : List Line) (lines : List (List ℕ)) (asked : List Line) (bytes : List ℕ) (next : Line) → AreOfClientsFrom ids number before lines asked → MayComeNext ids (number + length lines) bytes (before ++ asked) next → AreOfClientsFrom ids number before (lines ++ bytes ∷ []) (asked ++ next ∷ [])
 of_clients-push ids number before [] asked bytes next h m =
     let behind : before ++ asked ≡ before = ap (λ (xs : List Line). before ++ xs) h ∙ append-nil before in
@@ -29,7 +29,7 @@ of_clients-push ids number before (l ∷ ls) asked bytes next h m =
     let there : MayComeNext ids (number + 1 + length ls) bytes ((before ++ h.0 ∷ []) ++ h.1) next = subst (λ k. MayComeNext ids k bytes ((before ++ h.0 ∷ []) ++ h.1) next) count (subst (λ (xs : List Line). MayComeNext ids (number + length (l ∷ ls)) bytes xs next) behind m) in
     (h.0, h.1 ++ next ∷ [], ap (λ (xs : List Line). xs ++ next ∷ []) h.2, h.3, of_clients-push ids (number + 1) (before ++ h.0 ∷ []) ls h.1 bytes next h.4 there)
 
--- the lines so far, and one behind them
+-- the lines so far, and one after them
 of_clients-next : (ids : ℕ) (lines : List (List ℕ)) (asked : List Line) (bytes : List ℕ) (next : Line) (n number : ℕ) → length lines ≡ n → number ≡ n + 1 → AreOfClients ids lines asked → MayComeNext ids number bytes asked next → AreOfClients ids (lines ++ bytes ∷ []) (asked ++ next ∷ [])
 of_clients-next ids lines asked bytes next n number count place h m =
     let here : number ≡ 1 + length lines = omega (arith, count, place) in
@@ -60,7 +60,7 @@ module _ (ids : ℕ) where
 
   -- ---- the end
 
-  -- nothing is left where nothing is left behind what is pending
+  -- nothing is left where nothing is left after what is pending
   none_left : (pending left : List ℕ) → pending ++ left ≡ [] → left ≡ []
   none_left [] left e = e
   none_left (x ∷ xs) left e = cc

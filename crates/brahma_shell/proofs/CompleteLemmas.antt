@@ -1,4 +1,4 @@
--- Which stores open behind a command, and that what can be done is done.
+-- Which stores open after a command, and that what can be done is done.
 use Rattle.std.proofs.Common.{◌≡◌, ⊎_elim, inl, inr, ◌≤◌, ◌+◌, ◌-◌, ◌*◌, ℕ, suc, false, List, length, Option, Some, None, refl, sym, ap, subst, ◌∙◌, arith}
 use Rattle.std.specs.Prelude.{IfSome}
 use Rattle.std.proofs.lemmas.List.{length-replicate}

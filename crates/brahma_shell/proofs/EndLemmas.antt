@@ -103,7 +103,7 @@ no-front : («front» rest : List ℕ) → [] ≡ «front» ++ rest → «front�
 no-front [] rest e = refl
 no-front (x ∷ xs) rest e = cc
 
--- nothing was written behind
+-- nothing was written after
 pub nothing-more : (old new : Option (List ℕ)) (before now : ℕ) → EndsWith old new before now [] [] → Appends old new []
 nothing-more old new before now h = ⊎_elim (λ a. a) (λ h. subst (Appends old new) (no-front h.0 h.1 h.2) h.3) h
 

@@ -56,7 +56,7 @@ LineGives-noted p number bytes notes g = (g.0, some-more (meaning_of bytes) (λ 
 
 -- ---- one line more
 
--- the lines, and one behind them
+-- the lines, and one after them
 pub Follows-push : (p : Point) (number : ℕ) (lines : List (List ℕ)) (events : List Event) (line : List ℕ) (more : List Event) → Follows p number lines events → LineGives (after_events p events) (number + length lines) line more → Follows p number (lines ++ line ∷ []) (events ++ more)
 Follows-push p number [] events line more h g =
     let here : LineGives p number line more = subst (λ k. LineGives p k line more) (add-zero number) (subst (λ xs. LineGives (after_events p xs) (number + 0) line more) h g) in
@@ -75,7 +75,7 @@ end-since k j = after-noted (start_point j) j.notes
 pub ids-since : (k : ℕ) (j : JournalView) → ids_at (end_point (since_opening k j)) ≡ ids_at (point_of j)
 ids-since k j = ap ids_at (end-since k j)
 
--- the lines since an opening, and one behind them
+-- the lines since an opening, and one after them
 pub FollowsLines-push : (k : ℕ) (lines : List (List ℕ)) (line : List ℕ) (a b : JournalView) (more : List Note) (n : ℕ) → length lines ≡ n → FollowsLines lines (since_opening k a) → Grows a b more → LineNotes (point_of a) (k + n) line more → FollowsLines (lines ++ line ∷ []) (since_opening k b)
 FollowsLines-push k lines line a b more n e f g gives =
     let here : LineGives (point_of a) (k + length lines) line (noted more) = LineGives-noted (point_of a) (k + length lines) line more (subst (λ m. LineNotes (point_of a) (k + m) line more) (sym e) gives) in

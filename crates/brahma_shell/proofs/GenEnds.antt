@@ -37,7 +37,7 @@ use Rattle.brahma_shell.proofs.GrowthLemmas.{Grows-start, IsSameStart-none, IsSa
 use Rattle.brahma_shell.proofs.PointLemmas.{after_notes-append}
 use Rattle.script_lines.specs.Numbers.{object_slots}
 
--- a journal that is just opened has no point behind it
+-- a journal that is just opened has no point after it
 fresh-point : {D : Type 0} (v : LoggedView D) → IsJustOpened v → point_of v.journal ≡ start_point v.journal
 fresh-point v just = ap (after_notes (start_point v.journal)) just.notes
 
@@ -57,7 +57,7 @@ gives-since v w notes P just g h =
     let s = since v w notes just g in
     subst (λ (p : Point). P p w.journal.notes) s.start (subst (P (point_of v.journal)) (sym s.notes_are) h)
 
--- behind all lines the collector rests, and just the reachable objects are stored
+-- after all lines the collector rests, and just the reachable objects are stored
 pub record Rests (j : JournalView) (lines : List Line) : Type 0 where
   pub gives : GivesLines (start_point j) lines j.notes
   pub rests : MayRest (point_of j)

@@ -19,7 +19,7 @@ use Rattle.brahma_shell.proofs.PointLemmas.{after_notes-append}
 use Rattle.brahma_shell.proofs.GrowthLemmas.{Grows-none, Grows-trans, Grows-point}
 use Rattle.brahma_shell.proofs.LogLemmas.{StaysRunning-trans, TellsFull-after, LosesCommit-after}
 
--- ---- lines behind lines
+-- ---- lines after lines
 
 pub lines-append : (p : Point) (xs ys : List Line) (ms ns : List Note) → GivesLines p xs ms → GivesLines (after_notes p ms) ys ns → GivesLines p (xs ++ ys) (ms ++ ns)
 lines-append p [] ys ms ns g h = subst (λ (zs : List Note). GivesLines (after_notes p zs) ys ns → GivesLines p ys (zs ++ ns)) (sym g) (λ x. x) h
@@ -27,7 +27,7 @@ lines-append p (x ∷ xs) ys ms ns g h =
     let behind = subst (λ (q : Point). GivesLines q ys ns) (ap (after_notes p) g.2 ∙ after_notes-append p g.0 g.1) h in
     (g.0, g.1 ++ ns, ap (λ (zs : List Note). zs ++ ns) g.2 ∙ append_assoc g.0 g.1 ns, g.3, lines-append (after_notes p g.0) xs ys g.1 ns g.4 behind)
 
--- the notes of lines behind lines
+-- the notes of lines after lines
 pub record Splits (p : Point) (xs ys : List Line) (notes : List Note) : Type 0 where
   pub front : List Note
   pub back : List Note

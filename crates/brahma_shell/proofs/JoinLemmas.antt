@@ -1,4 +1,4 @@
--- One stretch of a run, and the next one behind it.
+-- One stretch of a run, and the next one after it.
 use Rattle.std.proofs.Common.{◌≡◌, ℕ, suc, ◌+◌, List, [], ◌∷◌, ◌++◌, Option, Some, None, length, take, length-append, append_assoc, refl, sym, ap, subst, ◌∙◌, arith, add-zero, zero-add, inl}
 use Rattle.std.specs.Prelude.{IfSome}
 use Rattle.std.specs.Io.KnownBytes.{prepend_known}
@@ -16,7 +16,7 @@ use Rattle.brahma_shell.specs.Replay.{AsksCrash, HasTaken, HasFollowed}
 use Rattle.brahma_shell.proofs.FollowLemmas.{after_events-append, Follows-push}
 use Rattle.brahma_shell.proofs.ReplayLemmas.{HasLine}
 
--- the stretch, and more events behind it
+-- the stretch, and more events after it
 abbrev pub joined : Stretch → List Event → Stretch
 joined s more = record { start = s.start; number = s.number; events = s.events ++ more }
 
@@ -25,7 +25,7 @@ pub record IsNextOf (s t : Stretch) (n : ℕ) : Type 0 where
   pub point : after_events s.start s.events ≡ t.start
   pub place : s.number + n ≡ t.number
 
--- the lines, and others behind them
+-- the lines, and others after them
 pub Follows-append : (p : Point) (number : ℕ) (lines : List (List ℕ)) (events : List Event) (others : List (List ℕ)) (more : List Event) → Follows p number lines events → Follows (after_events p events) (number + length lines) others more → Follows p number (lines ++ others) (events ++ more)
 Follows-append p number [] events others more h g =
     let here : Follows p number others more = subst (λ k. Follows p k others more) (add-zero number) (subst (λ (xs : List Event). Follows (after_events p xs) (number + 0) others more) h g) in
@@ -44,7 +44,7 @@ take-more (x ∷ xs) ys k =
     ap (λ (i : ℕ). take i (x ∷ (xs ++ ys))) next ∙ ap (λ (zs : List (List ℕ)). x ∷ zs) (take-more xs ys k)
 
 module _ (s t : Stretch) (n : ℕ) (next : IsNextOf s t n) where
-  -- the point behind some events of the other stretch
+  -- the point after some events of the other stretch
   point-joined : (events : List Event) → after_events s.start (s.events ++ events) ≡ after_events t.start events
   point-joined events = after_events-append s.start s.events events ∙ ap (λ (p : Point). after_events p events) next.point
 
@@ -150,7 +150,7 @@ gives-crash p number pick ids cells line asks =
     (asks.0, subst (λ (o : Option Line). IfSome o (λ l. GivesEvents p l (Reopened ids cells ∷ []))) (sym asks.1) (ids, cells, refl))
 
 module _ (s : Stretch) (n pick : ℕ) (line : List ℕ) (asks : AsksCrash (ids_at (end_point s)) (s.number + n) line pick) where
-  -- the lines, and this one behind them
+  -- the lines, and this one after them
   lines-crashed : (ids : ℕ) (cells : List Cell) (ls : List (List ℕ)) → length ls ≡ n → FollowsLines ls s → FollowsLines (ls ++ line ∷ []) (joined s (Reopened ids cells ∷ []))
   lines-crashed ids cells ls count f =
       Follows-push s.start s.number ls s.events line (Reopened ids cells ∷ []) f (gives-crash (after_events s.start s.events) (s.number + length ls) pick ids cells line (subst (λ k. AsksCrash (ids_at (end_point s)) (s.number + k) line pick) (sym count) asks))

@@ -105,7 +105,7 @@ pub record EndsScript (before now : Option (List ℕ)) (first_faults faults_now 
   pub write : status ≡ 5 → AppendsFront before now (stored_line stored) × Rose first_faults faults_now
   pub memory : status ≡ 8 → EndsWith before now first_faults faults_now [] (codes "refused: memory\n")
 
--- what is printed behind the text
+-- what is printed after the text
 ends-behind : (old mid new : Option (List ℕ)) (text last more : List ℕ) → more ≡ last → Appends old mid text → Appends mid new more → Appends old new (text ++ last)
 ends-behind old mid new text last more e a b = Appends-trans old mid new text last a (subst (Appends mid new) e b)
 
@@ -142,7 +142,7 @@ when-ok {T} {E} r f x P e i h = let k : IfOk {E = E} (Ok f) P = subst (λ (s : R
 pub marks-ok : (r : Result Reached Stop) (f : Reached) (a b : JournalView) → r ≡ Ok f → LeavesMarks r a b → b.marks ≡ a.marks
 marks-ok r f a b e m = subst (λ (s : Result Reached Stop). LeavesMarks s a b) e m
 
--- ---- the journal behind it
+-- ---- the journal after it
 
 -- it is of a replay, by what is known of it
 pub then-journal : {D : Type 0} (content : D → Area → Option (List ℕ)) (may_leave : D → Area → List ℕ → Type 0) (source left before mid : Option (List ℕ)) (number : ℕ) (cells : List Cell) (v w : LoggedView D)
@@ -250,7 +250,7 @@ module _ {D : Type 0} (content : D → Area → Option (List ℕ)) (may_leave : 
         part : FollowsPart left (since_opening number w.journal) → FollowsPart source (whole r)
         part f = FollowsPart-joined (whole come.run) (since_opening number w.journal) come.lines then-next source left come.followed f
 
-        -- the last line comes behind what is printed
+        -- the last line comes after what is printed
         last : (line : List ℕ) → Appends mid mid_out (text_of (history_of w).entries) → EndsWith mid_out written count faults_1 [] line → Ends b a (text_in r) line
         last line t e = EndsWith-after before mid_out written faults_0 count faults_1 (text_in r) line first_le (then-printed mid_out t) e
 
@@ -317,7 +317,7 @@ module _ {D : Type 0} (content : D → Area → Option (List ℕ)) (may_leave : 
             (inr (record { faults = faults w.disk; told = lost.told; follows = to-upkeep h.1; printed = last (codes "refused: disk\n") h.2 e }))
         fails stop.Stopped m h rw e = absurd h
 
-  -- ---- power is lost behind it
+  -- ---- power is lost after it
 
   -- a line that is taken, whole or as the last one, comes next
   has-line : (on : Bool) (a b : Option (List ℕ)) (line : List ℕ) → MatchBool on (TakesLastLine a b line) (TakesLine a b line) → HasLine a line

@@ -1,4 +1,4 @@
--- Which stores open behind a migration, and that one that can be done is done.
+-- Which stores open after a migration, and that one that can be done is done.
 use Rattle.std.proofs.Common.{◌≡◌, ◌⊎◌, ⊎_elim, inl, inr, ◌≤◌, ◌+◌, ◌*◌, ℕ, List, length, Option, Some, refl, sym, ap, subst, ◌∙◌, arith}
 use Rattle.std.specs.Prelude.{IfSome}
 use Rattle.std.proofs.lemmas.List.{length-map}
@@ -94,7 +94,7 @@ module _ {D : Type 0} (content : D → Area → Option (List ℕ)) (may_leave : 
         ⊎_elim (λ was. opens image was) (λ same. (o.0, inr same, o.2)) (leaves.each image (counts now (moment disk) image leaves.later is)))
         o.1
 
-  -- behind a migration it opens at fourteen
+  -- after a migration it opens at fourteen
   made-wide : (now : D) (pages : ℕ) → AlwaysOpensAtEither may_leave ids disk → ((image : Bytes) → Reads content disk image → IsMigrated may_leave now pages image) → AlwaysOpens may_leave ids now
   made-wide now pages opens so image is =
       let read = read-image content tell disk in

@@ -84,7 +84,7 @@ fits-logged : (cells : List Cell) (logged : Option CellRecord) → IfSome (optio
 fits-logged cells None f = tt
 fits-logged cells (Some r) f = f
 
--- a journal, the same after the collector looked, and the journal behind the event that came then
+-- a journal, the same after the collector looked, and the journal after the event that came then
 pub record MakesStep (i j k : JournalView) (r : Collect) : Type 0 where
   pub slots : i.history.slots ≡ object_slots
   pub sound : IsSound (core_of i)

@@ -1,4 +1,4 @@
--- Behind a run that was finished the collector rests.
+-- After a run that was finished the collector rests.
 use Rattle.std.proofs.Common.{◌≡◌, ℕ, List, [], ◌∷◌, ◌++◌, map, true, Option, Some, None, Ok, Err, refl, sym, ap, subst, ◌∙◌}
 use Rattle.std.specs.Prelude.{IfSome}
 use Rattle.std.proofs.lemmas.List.{append-nil}
@@ -53,7 +53,7 @@ never-stopped : (o : Option FailedCall) (P : FailedCall → Type 0) → ((f : Fa
 never-stopped None P never h = refl
 never-stopped (Some f) P never h = absurd (never f h)
 
--- the collector rests behind the run's last event, and beside no active transaction just the reachable objects are stored
+-- the collector rests after the run's last event, and beside no active transaction just the reachable objects are stored
 pub record RestsAt (j : JournalView) : Type 0 where
   pub rests : MayRest (point_of j)
   pub exact : (point_of j).moment.state.active ≡ [] → IsExactAt (point_of j)

@@ -248,7 +248,7 @@ module _ {S D : Type 0} (content : D → Area → Option (List ℕ)) (may_leave 
     failed = λ _. inl refl;
   }
 
-  -- the disk failed where power was lost, or behind it
+  -- the disk failed where power was lost, or after it
   pub ends-lost-disk : (now : D) → AtLoss content may_leave disk now r → Rose before.disk_faults after.disk_faults → EndsAtCrash before after r (codes "refused: disk\n") → Replayed content may_leave script later disk before after 6 (Shut now)
   ends-lost-disk now k rose at = record {
     run = r;

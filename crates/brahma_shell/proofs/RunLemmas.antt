@@ -38,11 +38,11 @@ use Rattle.script_lines.specs.Numbers.{object_slots}
 abbrev pub first_run : {D : Type 0} → LoggedView D → Run
 first_run v = record { opening = v.journal.opening; ids = v.journal.history.ids; events = []; failed = None }
 
--- the run, and behind it what the journal has noted
+-- the run, and after it what the journal has noted
 abbrev pub extended : {D : Type 0} → Run → LoggedView D → Run
 extended r v = record { opening = r.opening; ids = r.ids; events = r.events ++ noted v.journal.notes; failed = failed_commit v }
 
--- the run, and behind it the store opened again
+-- the run, and after it the store opened again
 abbrev pub reopened : {D : Type 0} → Run → LoggedView D → Run
 reopened r v = record { opening = r.opening; ids = r.ids; events = r.events ++ Reopened v.journal.history.ids v.journal.opening ∷ []; failed = None }
 
@@ -107,7 +107,7 @@ noted-entries : (notes : List Note) → map entry_of (noted notes) ≡ entries_i
 noted-entries [] = refl
 noted-entries (n ∷ ns) = ap (λ (es : List Entry). n.entry ∷ es) (noted-entries ns)
 
--- what is legal, and what is legal behind it
+-- what is legal, and what is legal after it
 IsLegalFrom-append : (m : Moment) (es fs : List Entry) → IsLegalFrom m es → IsLegalFrom (moment_after m es) fs → IsLegalFrom m (es ++ fs)
 IsLegalFrom-append m [] fs h g = g
 IsLegalFrom-append m (e ∷ es) fs h g = (h.0, IsLegalFrom-append (next m e) es fs h.1 g)
@@ -137,7 +137,7 @@ stands-first content v just =
       legal = λ _. tt;
     }
 
--- ---- what the journal notes behind it
+-- ---- what the journal notes after it
 
 module _ {D : Type 0} (content : D → Area → Option (List ℕ)) (r : Run) (v w : LoggedView D) (stands : StandsAt content r v) (same : IsSameStart v.journal w.journal) (entries : entries_in w.journal.notes ≡ w.journal.history.entries) where
   same-ids : w.journal.history.ids ≡ v.journal.history.ids

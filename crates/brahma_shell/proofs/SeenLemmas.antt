@@ -1,4 +1,4 @@
--- The cells that the last pass saw behind a run, and the stored ids.
+-- The cells that the last pass saw after a run, and the stored ids.
 use Rattle.std.proofs.Common.{◌≡◌, ◌≢◌, ℕ, zero, suc, ◌+◌, ◌*◌, ◌<◌, ◌≤◌, Bool, true, false, List, [], ◌∷◌, ◌++◌, None, map, length, take, refl, sym, ap, subst, ◌∙◌, append_assoc, arith, inl, inr, ⊎_elim}
 use Rattle.std.specs.Prelude.{◌/◌, ◌%◌, ◌-◌, ◌||◌, ◌==◌, if◌then◌else◌, slice_index_or}
 use Rattle.std.specs.List.{AllByRecursion, list_any}

@@ -95,7 +95,7 @@ module _ {D : Type 0} (content : D → Area → Option (List ℕ)) (may_leave : 
 
 -- ---- the command `ship`
 
--- behind a text that was written, the last line
+-- after a text that was written, the last line
 pub behind-text : (old mid new : Option (List ℕ)) (before between now : ℕ) (text last : List ℕ) → Appends old mid text → between ≡ before → EndsWith mid new between now [] last → EndsWith old new before now text last
 behind-text old mid new before between now text last first same ends =
     ⊎_elim (λ whole. inl (Appends-trans old mid new text last first whole))

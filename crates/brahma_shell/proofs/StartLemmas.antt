@@ -1,4 +1,4 @@
--- A run of clients begins with a pass that knows nothing, and what is known behind the clients.
+-- A run of clients begins with a pass that knows nothing, and what is known after the clients.
 use Rattle.std.proofs.Common.{◌≡◌, ◌≢◌, ℕ, ◌+◌, ◌≤◌, false, true, List, [], ◌∷◌, length, Some, None, refl, sym, ap, subst, ◌∙◌, arith}
 use Rattle.std.specs.List.{AllByRecursion}
 use Rattle.latch_table.specs.declared.view.Station.{Station}
@@ -41,7 +41,7 @@ room k x scripts e are =
 pub alone-first : (k : Known object_slots) (x : Origin) → k ≡ first_view x → IsAlone k
 alone-first k x e = subst IsAlone (sym e) (refl, refl)
 
--- ---- behind the clients
+-- ---- after the clients
 
 pub has-run : (D : Type 0) (old new : Known object_slots) (scripts : List ClientScript) (ids : ℕ) (end : WorkEnd) → RunsScripts old new scripts end → HasRun D old new scripts ids None
 has-run D old new scripts ids end runs = record { end = end; behind = new; runs = runs; only = peeks-none new; finished = tt }

@@ -1,4 +1,4 @@
--- What is written behind a run of clients.
+-- What is written after a run of clients.
 use Rattle.std.proofs.Common.{◌≡◌, ◌≤◌, ℕ, List, [], ◌∷◌, ◌++◌, Option, Some, None, Result, Ok, Err, refl, sym, ap, subst, ◌∙◌, arith}
 use Rattle.std.specs.Prelude.{IfErr, OnOk}
 use Rattle.std.specs.List.{AllByRecursion}
@@ -59,7 +59,7 @@ no-crash slots c d (n ∷ ns) led = (turned slots c n.act n.entry n.logged n.lef
 
 -- ---- the lines of entries
 
--- the next entry's line behind those of the first entries
+-- the next entry's line after those of the first entries
 pub entries-next : (done : List Entry) (e : Entry) → text_of (done ++ e ∷ []) ≡ text_of done ++ line_of e
 entries-next done e = text_of-append done (e ∷ []) ∙ ap (λ (xs : List ℕ). text_of done ++ xs) (append-nil (line_of e))
 
@@ -86,11 +86,11 @@ text-failed o f client e is = ap failed_text e ∙ ap (λ (c : Option ℕ). opti
 pub no-crash_first : (note : Note) (left rest : List Note) → left ≡ note ∷ rest → AllByRecursion IsNoCrash (entries_in left) → IsNoCrash note.entry × AllByRecursion IsNoCrash (entries_in rest)
 no-crash_first note left rest is all = subst (λ (ns : List Note). AllByRecursion IsNoCrash (entries_in ns)) is all
 
--- the next note's line behind those of the notes before
+-- the next note's line after those of the notes before
 text-more : (done : List Note) (note : Note) → text_of (entries_in (done ++ note ∷ [])) ≡ text_of (entries_in done) ++ line_of note.entry
 text-more done note = ap text_of (map-append (λ (n : Note). n.entry) done (note ∷ [])) ∙ entries-next (entries_in done) note.entry
 
--- the next note's line was written behind those of the notes before
+-- the next note's line was written after those of the notes before
 pub appends-more : (old mid new : Option (List ℕ)) (done : List Note) (note : Note) → Appends old mid (text_of (entries_in done)) → Appends mid new (line_of note.entry) → Appends old new (text_of (entries_in (done ++ note ∷ [])))
 appends-more old mid new done note a b = subst (Appends old new) (sym (text-more done note)) (Appends-trans old mid new (text_of (entries_in done)) (line_of note.entry) a b)
 
@@ -116,7 +116,7 @@ StopsWriting old new before now text s = (s ≡ stop.Write) × AppendsFront old 
 pub err-of_text : {T : Type 0} (r : Result T Stop) (old new : Option (List ℕ)) (before now : ℕ) (a b : List ℕ) → a ≡ b → IfErr r (StopsWriting old new before now a) → IfErr r (StopsWriting old new before now b)
 err-of_text r old new before now a b e h = subst (λ text. IfErr r (StopsWriting old new before now text)) e h
 
--- behind a text that was written
+-- after a text that was written
 pub err-behind : {T : Type 0} (r : Result T Stop) (old mid new : Option (List ℕ)) («first» before now : ℕ) (a b : List ℕ) → «first» ≤ before → Appends old mid a → IfErr r (StopsWriting mid new before now b) → IfErr r (StopsWriting old new «first» now (a ++ b))
 err-behind (Ok x) old mid new first before now a b le w h = tt
 err-behind (Err s) old mid new first before now a b le w h = (h.0, AppendsFront-after old mid new a b w h.1, let rose = h.2 in omega (arith, rose, le))

@@ -49,7 +49,7 @@ module _ {D : Type 0} (v : LoggedView D) (stored : Option (List ℕ)) (before mi
     later = later;
   }
 
-  -- behind all lines of the history
+  -- after all lines of the history
   module _ (written : Appends before.written middle.written (history_text v)) (first_later : before.faults ≤ middle.faults) where
     ends-behind : (last : List ℕ) → EndsWith middle.written after.written middle.faults after.faults [] last → EndsWith before.written after.written before.faults after.faults (history_text v) last
     ends-behind last e = EndsWith-after before.written middle.written after.written before.faults middle.faults after.faults (history_text v) last first_later written e

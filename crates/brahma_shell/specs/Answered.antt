@@ -87,7 +87,7 @@ pub record Answered {S D : Type 0} (content : D → Area → Option (List ℕ)) 
   pub logged : command_of words ≡ Some Log → (later ≡ script) × Logged content may_leave moment left_since disk before after status ended
   -- a store that was made opens, whatever a power loss leaves
   pub makes_open : (pages : ℕ) → command_of words ≡ Some (Init pages) → (status ≡ 6 → ⊥) → AlwaysOpens may_leave (8 * pages) (disk_in ended)
-  -- and on a disk that tells what it reads it goes on to open so, with as many ids, behind each command that makes none, at every
+  -- and on a disk that tells what it reads it goes on to open so, with as many ids, after each command that makes none, at every
   -- status
   pub stays_open : Tell content → (ids : ℕ) → AlwaysOpens may_leave ids disk → ((pages : ℕ) → command_of words ≡ Some (Init pages) → ⊥) → AlwaysOpens may_leave ids (disk_in ended)
   -- one that opens at six slots or at fourteen goes on to open at either so

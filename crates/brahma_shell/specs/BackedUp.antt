@@ -38,7 +38,7 @@ pub record BackedUp {D : Type 0} (content : D → Area → Option (List ℕ)) (m
   pub size : length cells ≡ 8 * pages + 1
   -- the journal is handed back, which is marked as full exactly where the status says so
   pub journal : (v : LoggedView D) × (ended ≡ Kept v) × (v.journal.opening ≡ cells) × ((v.log_full ≡ true) ↔ (status ≡ 9)) × (v.journal.marks.trace ≡ false)
-  -- the disk is as behind an audit
+  -- the disk is as after an audit
   pub exit : EachImage may_leave (disk_in ended) (OpensAfter object_slots (opened_history object_slots (8 * pages) cells))
   pub statuses : (status ≡ 0) ⊎ ((status ≡ 5) ⊎ ((status ≡ 6) ⊎ ((status ≡ 8) ⊎ (status ≡ 9))))
   -- a checkpoint was made, so that the log has its first batch alone

@@ -9,18 +9,18 @@ use Rattle.client_scripts.specs.Scripts.{AreOfLines}
 use Rattle.brahma_shell.specs.declared.replay.Stop.{Stop}
 use Rattle.brahma_shell.specs.declared.replay.Stop.TheVariants as stop
 
--- in a store with so many ids the line of this number is accepted and asks this, which may come next behind the lines before it
+-- in a store with so many ids the line of this number is accepted and asks this, which may come next after the lines before it
 pub record MayComeNext (ids number : ℕ) (bytes : List ℕ) (asked : List Line) (next : Line) : Type 0 where
   pub accepted : IsAccepted ids number bytes
   pub asks : meaning_of bytes ≡ Some next
   pub in_turn : MayCome asked next
 
--- the lines, the first of which has this number and comes behind the ones before, are a script of clients, and ask this
+-- the lines, the first of which has this number and comes after the ones before, are a script of clients, and ask this
 abbrev pub AreOfClientsFrom : (ids number : ℕ) → List Line → List (List ℕ) → List Line → Type 0
 AreOfClientsFrom ids number before [] asked = asked ≡ []
 AreOfClientsFrom ids number before (bytes ∷ lines) asked = (next : Line) × (rest : List Line) × (asked ≡ next ∷ rest) × MayComeNext ids number bytes before next × AreOfClientsFrom ids (number + 1) (before ++ next ∷ []) lines rest
 
--- the lines are a script of clients, and ask this: each is accepted, and may come next behind those before it
+-- the lines are a script of clients, and ask this: each is accepted, and may come next after those before it
 abbrev pub AreOfClients : ℕ → List (List ℕ) → List Line → Type 0
 AreOfClients ids lines asked = AreOfClientsFrom ids 1 [] lines asked
 
@@ -77,7 +77,7 @@ TakesLines ids None left n asked = ⊤
 TakesLines ids (Some bytes) None n asked = ⊥
 TakesLines ids (Some bytes) (Some left) n asked = HasTakenLines ids bytes left n asked
 
--- why a line isn't taken behind those of which these scripts are made: it is refused, or memory is out
+-- why a line isn't taken after those of which these scripts are made: it is refused, or memory is out
 abbrev pub StopsTaking : Stop → (ids number : ℕ) → List ℕ → List ClientScript → Type 0
 StopsTaking (stop.Line k) ids number bytes scripts = (k ≡ number) × ((asked : List Line) → AreOfLines asked scripts → (next : Line) → MayComeNext ids number bytes asked next → ⊥)
 StopsTaking stop.Memory ids number bytes scripts = ⊤

@@ -1,4 +1,4 @@
--- What the words behind the program's name ask.
+-- What the words after the program's name ask.
 use Rattle.std.specs.Prelude.{◌≡◌, ℕ, if◌then◌else◌, List, [], ◌∷◌, Option, Some, None, bytes_eq, codes, option_map}
 use Rattle.script_lines.specs.Numbers.{pages_of}
 use Rattle.gen_options.specs.Options.{asked_of}
@@ -17,14 +17,14 @@ command_of_word word =
     else if bytes_eq word (codes "log") then Some Log
     else None
 
--- the command that one word names with a number behind it
+-- the command that one word names with a number after it
 abbrev pub command_of_two : List ℕ → List ℕ → Option Command
 command_of_two word number =
     if bytes_eq word (codes "init") then option_map Init (pages_of number)
     else if bytes_eq word (codes "paudit") then option_map ParAudit (pages_of number)
     else None
 
--- the command that one word names with more than one behind it
+-- the command that one word names with more than one after it
 abbrev pub command_of_more : List ℕ → List (List ℕ) → Option Command
 command_of_more word words = if bytes_eq word (codes "gen") then option_map Gen (asked_of words) else None
 
@@ -35,7 +35,7 @@ command_of (word ∷ []) = command_of_word word
 command_of (word ∷ number ∷ []) = command_of_two word number
 command_of (word ∷ number ∷ other ∷ words) = command_of_more word (number ∷ other ∷ words)
 
--- the words are `gen` with options behind it, whose reading takes memory
+-- the words are `gen` with options after it, whose reading takes memory
 abbrev pub AskOptions : List (List ℕ) → Type 0
 AskOptions [] = ⊥
 AskOptions (word ∷ []) = ⊥

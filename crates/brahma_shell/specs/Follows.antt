@@ -181,6 +181,6 @@ AsksUpkeep _ = ⊥
 abbrev pub FollowsToUpkeep : Option (List ℕ) → Stretch → Type 0
 FollowsToUpkeep source s = (asked : Line) × AsksUpkeep asked × FollowsTo source asked s
 
--- the stretch follows the lines before one at which power was lost, and behind which the store isn't opened
+-- the stretch follows the lines before one at which power was lost, and after which the store isn't opened
 abbrev pub FollowsToCrash : Option (List ℕ) → Stretch → Type 0
 FollowsToCrash source s = (pick : ℕ) × FollowsTo source (Crash pick) s

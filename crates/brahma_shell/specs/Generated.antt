@@ -31,7 +31,7 @@ line_of client call = line.Ask client call
 abbrev pub lines_in : Turn → List Line
 lines_in t = line_of t.client t.call ∷ (if t.collects then line.CollectStep ∷ [] else [])
 
--- the lines of all turns, and `gc all` behind them
+-- the lines of all turns, and `gc all` after them
 abbrev pub generated_lines : List Turn → List Line
 generated_lines turns = flat_map lines_in turns ++ line.CollectAll ∷ []
 

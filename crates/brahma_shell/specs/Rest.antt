@@ -8,7 +8,7 @@ use Rattle.script_lines.specs.Numbers.{object_slots}
 
 -- an event of the collector beside no active transaction, which took an object out of the queue or didn't
 pub record StaysQuiet (old new : JournalView) (popped : Bool) : Type 0 where
-  -- none is active behind it
+  -- none is active after it
   pub active : (point_of new).moment.state.active ≡ []
   -- an object is taken out of the queue only where no round is open
   pub closed : popped ≡ true → old.round ≡ Closed

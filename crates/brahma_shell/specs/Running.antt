@@ -1,4 +1,4 @@
--- What the last pass knows behind a run of clients.
+-- What the last pass knows after a run of clients.
 use Rattle.std.specs.Prelude.{◌≡◌, ◌⊎◌, ℕ, zero, suc, ◌≤◌, if◌then◌else◌, Bool, true, false, List, [], ◌∷◌, ◌++◌, slice_index_or, Option, None, IfSome, IsSome}
 use Rattle.plain_model.specs.History.{end_of, is_stopped}
 use Rattle.disk_model.specs.declared.area.Area.{Area}
@@ -72,7 +72,7 @@ HasSeenLive v (suc n) live = (before : List ℕ) × (is : Bool) × (live ≡ bef
 
 -- ---- the run
 
--- The clients ran. Where these ids are found to be stored, all was done, the collector had nothing left to do, and behind it the
+-- The clients ran. Where these ids are found to be stored, all was done, the collector had nothing left to do, and after it the
 -- pass saw the cells of all ids, of which just these were live
 pub record HasRun (D : Type 0) (old new : Known object_slots) (scripts : List ClientScript) (ids : ℕ) (stored : Option (List ℕ)) : Type 0 where
   pub end : WorkEnd
@@ -87,7 +87,7 @@ pub record HasAsked {D : Type 0} (content : D → Area → Option (List ℕ)) (d
   pub read : ReadsAll v.journal.history.ids left later asked
   pub of_lines : AreOfLines asked scripts
 
--- ---- the journal behind a run
+-- ---- the journal after a run
 
 -- what every journal keeps of its history, of its cells, of its marks and of its disk
 pub record HoldsNow {D : Type 0} (may_leave : D → Area → List ℕ → Type 0) (faults : D → ℕ) (v : LoggedView D) : Type 0 where

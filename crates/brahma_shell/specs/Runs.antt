@@ -30,7 +30,7 @@ entry_of (Reopened ids cells) = Crash (graph_of cells)
 abbrev pub noted : List Note → List Event
 noted notes = map Noted notes
 
--- the point after an event: behind a loss of power all begins anew, with these cells
+-- the point after an event: after a loss of power all begins anew, with these cells
 abbrev pub after_event : Point → Event → Point
 after_event p (Noted n) = after_note p n
 after_event p (Reopened ids cells) = start_with (opened_history p.slots ids cells) cells
@@ -73,7 +73,7 @@ run_history r =
 abbrev pub whole : Run → Stretch
 whole r = record { start = start_with (opened_history object_slots r.ids r.opening) r.opening; number = 1; events = r.events }
 
--- what a journal has noted since its opening, behind which the next line of the script has this number
+-- what a journal has noted since its opening, after which the next line of the script has this number
 abbrev pub since_opening : ℕ → JournalView → Stretch
 since_opening number j = record { start = start_point j; number = number; events = noted j.notes }
 

@@ -4,6 +4,6 @@ use Rattle.std.specs.Io.KnownBytes.{prepend_known}
 use Rattle.script_lines.specs.LineReader.{pending}
 use Rattle.brahma_shell.specs.declared.script.Script.{Script}
 
--- what the source has left, behind what the script has read and not taken yet
+-- what the source has left, after what the script has read and not taken yet
 abbrev pub left_in : Script → Option (List ℕ) → Option (List ℕ)
 left_in script left = prepend_known (pending script.lines) left

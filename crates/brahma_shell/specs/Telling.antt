@@ -1,4 +1,4 @@
--- What a run of clients tells behind its end.
+-- What a run of clients tells after its end.
 use Rattle.std.specs.Prelude.{◌≡◌, ◌⊎◌, ◌≤◌, ℕ, true, false, List, [], ◌++◌, Option, Some, None, IsSome, codes, ⊤}
 use Rattle.std.specs.Option.{option_map_or, option_and_then}
 use Rattle.std.specs.Io.KnownBytes.{Appends}
@@ -55,7 +55,7 @@ pub record TellsStored (stored : Option (List ℕ)) (before after : Shown) (stat
   pub memory : status ≡ 8 → EndsSo before after [] (codes "refused: memory\n")
   pub later : before.faults ≤ after.faults
 
--- A run of clients that left this journal, behind which these ids were found to be stored, was told with this status. What the
+-- A run of clients that left this journal, after which these ids were found to be stored, was told with this status. What the
 -- journal tells comes before the ids.
 pub record Tells {D : Type 0} (v : LoggedView D) (stored : Option (List ℕ)) (before after : Shown) (status : ℕ) : Type 0 where
   pub statuses : (status ≡ 0) ⊎ ((status ≡ 5) ⊎ ((status ≡ 6) ⊎ ((status ≡ 8) ⊎ (status ≡ 9))))

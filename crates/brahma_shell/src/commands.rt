@@ -52,7 +52,7 @@ fn command_of_word(word: &[u8]) -> Option<Command>
     }
 }
 
-/// The command that a word names with a number behind it.
+/// The command that a word names with a number after it.
 fn command_of_two(word: &[u8], number: &[u8]) -> Option<Command>
     ensures { result ≡ command_of_two word.now number.now }
 {
@@ -67,7 +67,7 @@ fn command_of_two(word: &[u8], number: &[u8]) -> Option<Command>
     }
 }
 
-/// The command that a word names with more than one word behind it. Those of `gen` are options, whose reading takes memory.
+/// The command that a word names with more than one word after it. Those of `gen` are options, whose reading takes memory.
 fn command_of_more(alloc: Global, word: &[u8], words: &[String]) -> Result<Option<Command>, Memory>
     ensures value { IfOk result (λ command. command ≡ command_of_more word.now (map string_bytes words.now)) }
     ensures memory { OnErr result (word.now ≡ codes "gen") }

@@ -34,7 +34,7 @@ fn stored_line<D: Disk>(alloc: Global, store: &Store<D>) -> Result<String, Memor
     script_lines::stored_line(alloc, ids.items())
 }
 
-/// The line of a crash, behind which the journal's ids are stored.
+/// The line of a crash, after which the journal's ids are stored.
 fn crash_line<D: Disk>(alloc: Global, store: &Store<D>) -> Result<String, Memory>
     ensures { IfOk result (λ line. string_bytes line ≡ crash_line (end_of store.now.journal.history).state.stored) }
 {
@@ -100,7 +100,7 @@ pub(crate) fn end_stopped<W: Sink>(out: &mut W, stop: Stop) -> u8
     }
 }
 
-/// Prints what is stored in a store that was opened behind a loss of power, and hands it on.
+/// Prints what is stored in a store that was opened after a loss of power, and hands it on.
 fn tell_crash<W: Sink, D: Disk>(
     alloc: Global,
     store: Store<D>,

@@ -88,7 +88,7 @@ fn stored_ids<D: Disk>(
     Ok(stored)
 }
 
-/// Runs the clients, and answers which ids are stored behind them. There is no answer where they were stopped, or memory is out.
+/// Runs the clients, and answers which ids are stored after them. There is no answer where they were stopped, or memory is out.
 fn run_clients<D: Disk, G: Gate, T: Threads + Wait + Sync>(
     rt: &T,
     alloc: Global,
@@ -130,7 +130,7 @@ fn tell_stored<W: Sink>(alloc: Global, out: &mut W, stored: Option<Vec<u32>>) ->
     }
 }
 
-/// Writes the lines of the journal's history, and behind them the stored ids or why the run stopped. Answers the status.
+/// Writes the lines of the journal's history, and after them the stored ids or why the run stopped. Answers the status.
 fn tell<W: Sink, D: Disk>(
     alloc: Global,
     out: &mut W,
@@ -234,7 +234,7 @@ fn run_in<R: Source, W: Sink, D: Disk, G: Gate, T: Threads + Wait + Sync>(
 }
 
 /// Opens the store that the disk holds, reads the whole script of the source, and runs its clients, each on a thread of its own,
-/// with the collector beside them. Behind them it collects until there is nothing to do, and tells what happened.
+/// with the collector beside them. After them it collects until there is nothing to do, and tells what happened.
 pub(crate) fn run_script<R: Source, W: Sink, D: Disk, G: Gate, T: Threads + Wait + Sync>(
     rt: &T,
     alloc: Global,

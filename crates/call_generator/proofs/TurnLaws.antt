@@ -13,7 +13,7 @@ use Rattle.call_generator.proofs.WaitingLaws.{IsWaiting, waiting-each}
 
 -- ---- a client
 
--- the client behind a call is as it should be, and fewer turns are left to it
+-- the client after a call is as it should be, and fewer turns are left to it
 pub record GoesOn (c after : Client) : Type 0 where
   pub within : IsWithin after
   pub fewer : turns_of after < turns_of c
@@ -73,7 +73,7 @@ chosen-waits g some =
     let ws = waiting g.clients in
     waiting-each 0 g.clients (new_client 0) (drawn (next_number g.number) (length ws)) (drawn-below (next_number g.number) (length ws) (nonempty ws some))
 
--- the generator behind a turn is as it should be, and has fewer turns left
+-- the generator after a turn is as it should be, and has fewer turns left
 pub record TurnGoesOn (g : Generating) : Type 0 where
   pub inside : IsGenerating (after_turn g)
   pub fewer : turns_left (after_turn g) < turns_left g

@@ -7,7 +7,7 @@ use Rattle.std.proofs.lemmas.List.{append_assoc}
 use Rattle.call_generator.specs.declared.client.Client.{Client}
 use Rattle.call_generator.specs.Generator.{has_left, waiting_from, waiting}
 
--- the indices in two lists, one behind the other
+-- the indices in two lists, one after the other
 pub waiting-append : (n : ℕ) (xs ys : List Client) → waiting_from n (xs ++ ys) ≡ waiting_from n xs ++ waiting_from (n + length xs) ys
 waiting-append n [] ys = let same : n ≡ n + 0 = omega arith in ap (λ (k : ℕ). waiting_from k ys) same
 waiting-append n (x ∷ xs) ys =
@@ -43,7 +43,7 @@ counted-no cs i d within not =
     none [] = refl
     none (z ∷ zs) = let h = none zs in omega (arith, h)
 
--- the index that stands behind those of the clients before
+-- the index that stands after those of the clients before
 pub waiting-there : (cs : List Client) (i : ℕ) (d : Client) → i < length cs → has_left (get_or cs i d) ≡ true → slice_index (waiting cs) (length (waiting (take i cs))) ≡ i
 waiting-there cs i d within left =
     let most : i + 1 ≤ length cs = omega arith in

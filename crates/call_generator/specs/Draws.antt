@@ -1,7 +1,7 @@
 -- Draws from a sequence of numbers.
 use Rattle.std.specs.Prelude.{ℕ, ◌+◌, ◌*◌, ◌^◌, ◌/◌, ◌%◌}
 
--- the number behind a number of the sequence
+-- the number after a number of the sequence
 unfoldable pub next_number : ℕ → ℕ
 next_number number = (number * 6364136223846793005 + 1442695040888963407) % 2 ^ 64
 

@@ -57,7 +57,7 @@ source_of number = if number == 8 then None else Some number
 abbrev pub drawn_slots : ℕ
 drawn_slots = 6
 
--- the call whose kind was drawn as this one, of sixteen. The first argument is drawn from the number behind x, and each further
+-- the call whose kind was drawn as this one, of sixteen. The first argument is drawn from the number after x, and each further
 -- one from the next. Beside the call stands the last number that was drawn from
 abbrev pub drawn_call : (kind x : ℕ) → Call × ℕ
 drawn_call kind x =
@@ -72,7 +72,7 @@ drawn_call kind x =
     else if nat_le kind 14 then (Commit, x)
     else (Abort, x)
 
--- what a client asks that has made so many calls since its transaction began: to begin one, where it is in none; to commit behind
+-- what a client asks that has made so many calls since its transaction began: to begin one, where it is in none; to commit after
 -- 64 calls; else what is drawn
 abbrev pub call_of_client : Option ℕ → ℕ → Call × ℕ
 call_of_client None x = (Begin, x)
@@ -84,7 +84,7 @@ ends Commit = true
 ends Abort = true
 ends call = false
 
--- the client behind its call. The one that begins a transaction isn't counted
+-- the client after its call. The one that begins a transaction isn't counted
 abbrev pub after_call : Client → Call → Client
 after_call c call =
     if ends call then record { left = c.left - 1; calls = None }
@@ -96,11 +96,11 @@ after_call c call =
 abbrev pub asked : Generating → Call × ℕ
 asked g = call_of_client (client_of g).calls (next_number g.number)
 
--- the next turn. Whether the collector makes a step behind the call is drawn last
+-- the next turn. Whether the collector makes a step after the call is drawn last
 abbrev pub next_turn : Generating → Turn
 next_turn g = record { client = chosen g + 1; call = (asked g).0; collects = nat_le (drawn (next_number (asked g).1) 4) 1 }
 
--- the generator behind it
+-- the generator after it
 abbrev pub after_turn : Generating → Generating
 after_turn g = record { number = next_number (asked g).1; clients = slice_set g.clients (chosen g) (after_call (client_of g) (asked g).0) }
 

@@ -21,7 +21,7 @@ impl Client {
         self.left > 0
     }
 
-    /// The client behind a call that it asked.
+    /// The client after a call that it asked.
     pub(crate) fn after(&self, call: &Call) -> Client
         requires within { IsWithin self.now }
         requires left { has_left self.now ≡ true }

@@ -8,7 +8,7 @@ const FACTOR: u64 = 6_364_136_223_846_793_005;
 /// What is added then.
 const SUMMAND: u64 = 1_442_695_040_888_963_407;
 
-/// The number behind a number of the sequence.
+/// The number after a number of the sequence.
 fn next_number(number: u64) -> u64
     ensures { result ≡ next_number number }
 {

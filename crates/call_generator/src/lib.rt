@@ -1,7 +1,7 @@
 //! Generated calls: what so many clients ask, drawn from a seed.
 //!
 //! A [`Generator`] gives one [`Turn`] after another: what a client asks, and whether the
-//! collector makes a step behind it.
+//! collector makes a step after it.
 #![tactic(auto)]
 
 mod client;

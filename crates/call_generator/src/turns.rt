@@ -15,11 +15,11 @@ pub struct Turn {
     pub client: u8,
     /// What it asks. An abort stands for all steps of it, until the transaction has ended.
     pub call: Call,
-    /// Whether the collector makes a step behind it.
+    /// Whether the collector makes a step after it.
     pub collects: bool,
 }
 
-/// The most calls of a transaction behind its begin, but for the commit that ends it then.
+/// The most calls of a transaction after its begin, but for the commit that ends it then.
 const MOST_CALLS: u8 = 64;
 
 /// A slot is drawn of the first so many, whatever slots the objects have besides.

@@ -40,7 +40,7 @@ pub struct Seen<const SLOTS: usize> {
     pub weak: u32,
 }
 
-/// What an object has left behind a pointer to it that is counted no more.
+/// What an object has left after a pointer to it that is counted no more.
 #[derive(Clone, Copy)]
 pub struct Lost {
     /// Whether that pointer was strong.

@@ -168,7 +168,7 @@ module _ {slots : ℕ} where
       let all : s ≡ Err (step.Stopped n) = is ∙ ap Err stopped in
       (refl, inr (n, refl, record { before = u; knows = subst (Steps u v) all g; made = subst (MakesStep D slots u v) all (made (ap found_by_step all)) }))
 
-  -- ---- behind no call
+  -- ---- after no call
 
   pub none-append : (u v w : Known slots) (P : List Deed → Type 0) → Makes u v AreNone → Makes v w P → Makes u w P
   none-append u v w P a b = makes-append u v w AreNone P P (λ made more m p. subst P (sym (ap (λ x. x ++ more) m)) p) a b
@@ -176,19 +176,19 @@ module _ {slots : ℕ} where
   pub same-truth : (u v : Known slots) → Makes u v AreNone → v.knowledge.truth ≡ u.knowledge.truth
   same-truth u v m = m.truth ∙ ap (has_after u.knowledge.truth) m.such
 
-  -- ---- behind undos
+  -- ---- after undos
 
   pub undos-behind : (u v w : Known slots) → Makes u v AreUndos → Makes v w AreUndos → Makes u w AreUndos
   undos-behind u v w a b = makes-append u v w AreUndos AreUndos AreUndos undos-append a b
 
-  -- the abort is done behind them
+  -- the abort is done after them
   pub abort-done : (u v w : Known slots) → Makes u v AreUndos → Makes v w (IsOne call.Abort reply.Done) → Makes u w (IsMade call.Abort reply.Done)
   abort-done u v w a b = makes-append u v w AreUndos (IsOne call.Abort reply.Done) (IsMade call.Abort reply.Done) (λ made more p q. subst (λ (x : List Deed). IsMade call.Abort reply.Done (made ++ x)) (sym q) (made-abort made p)) a b
 
   pub undos-truth : (u v : Known slots) → Makes u v AreUndos → v.knowledge.truth ≡ u.knowledge.truth
   undos-truth u v m = m.truth ∙ undos-keep u.knowledge.truth m.made m.such
 
-  -- it was stopped behind them
+  -- it was stopped after them
   pub abort-cut : (u v : Known slots) (c : TransactionCall) → c ≡ call.Abort → Makes u v AreUndos → Makes u v (IsCutOff c)
   abort-cut u v c is m = makes-map u v AreUndos (IsCutOff c) (λ made p. inr (inr (is, p))) m
 

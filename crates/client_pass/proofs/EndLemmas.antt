@@ -1,4 +1,4 @@
--- Whether a client has a transaction, told by its calls alone; behind its attempts it has none.
+-- Whether a client has a transaction, told by its calls alone; after its attempts it has none.
 use Rattle.std.proofs.Common.{◌≡◌, inl, inr, ℕ, zero, suc, Bool, true, false, List, [], ◌∷◌, ◌++◌, map, refl, sym, ap, ◌∙◌}
 use Rattle.std.specs.Prelude.{◌==◌, fold, cond, unwrap_or}
 use Rattle.plain_model.specs.declared.calls.Call.{Call as TransactionCall}
@@ -34,7 +34,7 @@ after-entries client had (e ∷ es) =
 pub transaction-by_calls : (client : ℕ) (log : List Note) → has_transaction log client ≡ has_after false (calls_in client (map (λ n. n.entry) log))
 transaction-by_calls client log = after-entries client false (map (λ (n : Note). n.entry) log)
 
--- ---- behind attempts
+-- ---- after attempts
 
 ended : (had : Bool) (behind : List Deed) → IsEnding had behind → has_after had behind ≡ false
 ended true behind e = ap (has_after true) e.in_order ∙ has_after-append true e.undos (Made Abort Done ∷ [])
@@ -43,7 +43,7 @@ ended false behind e = ap (has_after false) e
 end-closed : (own behind made : List Deed) → IsEnding (has_after false own) behind → made ≡ own ++ behind → has_after false made ≡ false
 end-closed own behind made e is = ap (has_after false) is ∙ (has_after-append false own behind ∙ ended (has_after false own) behind e)
 
--- calls behind such as leave no transaction open
+-- calls after such as leave no transaction open
 behind-closed : (first rest made : List Deed) → made ≡ first ++ rest → has_after false first ≡ false → has_after false rest ≡ false → has_after false made ≡ false
 behind-closed first rest made is a b = ap (has_after false) is ∙ (has_after-append false first rest ∙ (ap (λ h. has_after h rest) a ∙ b))
 

@@ -110,7 +110,7 @@ four_times =
     tried_again 3 calls given_up (given_up ++ (given_up ++ given_up)) is_given_up
     (tried_again 2 calls given_up (given_up ++ given_up) is_given_up (tried_again 1 calls given_up given_up is_given_up (inr (given_up, [], refl, is_given_up, refl))))
 
--- behind the fourth time it isn't tried again
+-- after the fourth time it isn't tried again
 no_fifth : IsTried 0 calls done → ⊥
 no_fifth t = absurd (cc)
 
@@ -122,7 +122,7 @@ no_undo m = by m.of_abort
     by (inl none) = let n : 2 ≡ 1 = ap length (m.in_order ∙ ap (λ (x : List Deed). x ++ Made set Done ∷ []) none) in absurd (omega (arith, n))
     by (inr e) = absurd (let f = e.0 in cc)
 
--- two transactions, one behind the other
+-- two transactions, one after the other
 two : Attempts (calls ∷ calls ∷ []) (done ++ (given_up ++ done))
 two = (done, given_up ++ done, refl, inl is_done, (given_up ++ done, [], refl, tried_again 3 calls given_up done is_given_up (inl is_done), refl))
 

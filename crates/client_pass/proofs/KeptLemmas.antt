@@ -94,7 +94,7 @@ same-head x y xs ys e = cc
 same-tail : {X : Type 0} (x y : X) (xs ys : List X) → x ∷ xs ≡ y ∷ ys → xs ≡ ys
 same-tail x y xs ys e = cc
 
--- behind so many there is a first one, and the others
+-- after so many there is a first one, and the others
 split-at : (whole : List Note) (n : ℕ) (e : Note) (log : List Note) → drop n whole ≡ e ∷ log → (slice_get whole n ≡ Some e) × (drop (n + 1) whole ≡ log)
 split-at whole n e log is =
     let long : length whole - n ≡ suc (length log) = sym (length-drop n whole) ∙ ap length is in

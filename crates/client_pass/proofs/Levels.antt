@@ -17,7 +17,7 @@ use Rattle.client_pass.proofs.Makings.{makes-none, makes-map, makes-append}
 
 -- ---- lists
 
--- the calls before this one, it, and those behind it
+-- the calls before this one, it, and those after it
 split : (calls : List TransactionCall) (i : ℕ) (c : TransactionCall) → i < length calls → get_or calls i c ≡ c → Begin ∷ calls ≡ (Begin ∷ take i calls) ++ c ∷ drop (i + 1) calls
 split calls i c within is = ap (λ x. Begin ∷ x) (sym (take-append-drop i calls) ∙ ap (λ x. take i calls ++ x) (drop_more calls i c within ∙ ap (λ y. y ∷ drop (i + 1) calls) is))
 
@@ -27,11 +27,11 @@ completes calls own behind p e = record { own = own; answered = p; ending = behi
 gives_up : (calls : List TransactionCall) (own behind : List Deed) → AreStuck (Begin ∷ calls) own → IsEnding (has_after false own) behind → IsGivenUp calls (own ++ behind)
 gives_up calls own behind p e = record { own = own; stuck = p; ending = behind; ended = e; in_order = refl }
 
--- what this is of an attempt's calls, that is of the attempt behind its end
+-- what this is of an attempt's calls, that is of the attempt after its end
 abbrev EndsAs : (List Deed → Type 0) → (List Deed → Type 0) → Type 0
 EndsAs P Q = (own behind : List Deed) → P own → IsEnding (has_after false own) behind → Q (own ++ behind)
 
--- behind an abort that is done no transaction is open
+-- after an abort that is done no transaction is open
 abort-closes : (had : Bool) (made : List Deed) → IsMade Abort Done made → has_after had made ≡ false
 abort-closes had made m = ap (has_after had) m.in_order ∙ has_after-append had m.undos (Made Abort Done ∷ [])
 
@@ -49,7 +49,7 @@ HasDone n transactions = GoesOnTo (Attempts (drop n transactions)) (Attempts tra
 next_is : (transactions : List (List TransactionCall)) (n : ℕ) (calls : List TransactionCall) → n < length transactions → get_or transactions n calls ≡ calls → drop n transactions ≡ calls ∷ drop (n + 1) transactions
 next_is transactions n calls within is = drop_more transactions n calls within ∙ ap (λ y. y ∷ drop (n + 1) transactions) is
 
--- a call that was answered `Busy` comes behind no undo
+-- a call that was answered `Busy` comes after no undo
 alone : (c : TransactionCall) (r : Reply) (made : List Deed) → is_busy r ≡ true → IsMade c r made → made ≡ Made c r ∷ []
 alone c r made busy m = by m.of_abort
   where
@@ -104,7 +104,7 @@ module _ {slots : ℕ} where
 
   -- ---- an attempt
 
-  -- no transaction is open behind the calls
+  -- no transaction is open after the calls
   closed : (u v : Known slots) (P Q : List Deed → Type 0) → EndsAs P Q → u.knowledge.truth ≡ false → v.knowledge.truth ≡ false → Makes u v P → Makes u v Q
   closed u v P Q f before now m =
       let shut : has_after false m.made ≡ false = sym (ap (λ t. has_after t m.made) before) ∙ (sym m.truth ∙ now) in
@@ -118,7 +118,7 @@ module _ {slots : ℕ} where
       (λ made more p q. subst (λ (x : List Deed). Q (x ++ more)) (sym p) (f m.made more m.such (subst (λ t. IsEnding t more) (sym opened) q)))
       (record { kept = m.kept; keeps = m.keeps; own = m.own; made = m.made; made_is = m.made_is; truth = m.truth; such = refl }) b
 
-  -- one is, and its abort is cut off behind some undos
+  -- one is, and its abort is cut off after some undos
   cut : (u v w : Known slots) (P Q : List Deed → Type 0) → EndsAs P Q → u.knowledge.truth ≡ false → v.knowledge.truth ≡ true → Makes u v P → Makes v w AreUndos → Makes u w (Begun Q)
   cut u v w P Q f before now m b =
       let opened : has_after false m.made ≡ true = sym (ap (λ t. has_after t m.made) before) ∙ (sym m.truth ∙ now) in

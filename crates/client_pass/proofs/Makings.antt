@@ -42,7 +42,7 @@ within-trans l m n a b = (λ k e. b.0 k (a.0 k e), λ e. b.1 (a.1 e), λ e. b.2 
 
 -- ---- one entry
 
--- whether the client has a transaction behind one entry more
+-- whether the client has a transaction after one entry more
 has-more : (before : List Note) (note : Note) (e : Entry) (client : ℕ) → note.entry ≡ e → has_transaction (before ++ note ∷ []) client ≡ has_after_entry client (has_transaction before client) e
 has-more before note e client is =
     ap (fold (has_after_entry client) false) (map-append (λ (n : Note). n.entry) before (note ∷ []))
@@ -79,7 +79,7 @@ module _ {slots : ℕ} where
   pub makes-map : (u v : Known slots) (P Q : List Deed → Type 0) → ((made : List Deed) → P made → Q made) → Makes u v P → Makes u v Q
   makes-map u v P Q f m = record { kept = m.kept; keeps = m.keeps; own = m.own; made = m.made; made_is = m.made_is; truth = m.truth; such = f m.made m.such }
 
-  -- calls behind calls
+  -- calls after calls
   pub makes-append : (u v w : Known slots) (P Q R : List Deed → Type 0) → ((made more : List Deed) → P made → Q more → R (made ++ more)) → Makes u v P → Makes v w Q → Makes u w R
   makes-append u v w P Q R f a b =
       let name : v.station.name ≡ u.station.name = ap (λ s. s.name) a.keeps.station in

@@ -1,4 +1,4 @@
--- Which names and truths the main pass has behind a join.
+-- Which names and truths the main pass has after a join.
 use Rattle.std.proofs.Common.{◌≡◌, ◌⊎◌, inl, inr, ℕ, ◌==◌, Bool, true, false, List, [], ◌∷◌, refl, ap, ◌∙◌}
 use Rattle.std.proofs.lemmas.Bool.{cases_eq, eq-eqb, ne_eqb, cond-true, cond-false, or_parts, or_from}
 use Rattle.latch_table.specs.Views.{is_listed, without_name, truth_of}
@@ -21,7 +21,7 @@ still-out (x ∷ names) out name none = let parts = or_parts (x == name) (is_lis
     by (inl e) first rest = ap (λ (ns : List ℕ). is_listed ns name) (cond-true (x == out) (without_name names out) (x ∷ without_name names out) (eq-eqb x out e)) ∙ rest
     by (inr ne) first rest = ap (λ (ns : List ℕ). is_listed ns name) (cond-false (x == out) (without_name names out) (x ∷ without_name names out) (ne_eqb x out ne)) ∙ or_from (x == name) (is_listed (without_name names out) name) first rest
 
--- behind the split that gives this name and the join that takes it back
+-- after the split that gives this name and the join that takes it back
 pub back-out : (names now : List ℕ) (given own : ℕ) → ((name : ℕ) → is_listed (given ∷ names) name ≡ false → is_listed now name ≡ false) → (name : ℕ) → is_listed names name ≡ false → is_listed (without_name (without_name now given) own) name ≡ false
 back-out names now given own kept name none = by (cases_eq given name)
   where

@@ -17,7 +17,7 @@ IsAnEnd e = (e ≡ Finished → ⊥) → IsEnd e
 
 -- ---- what an end counts
 
--- the counts behind an end: of the disk, of the history, of the log, or none
+-- the counts after an end: of the disk, of the history, of the log, or none
 pub data Counted (r : Refused) : WorkEnd → Refused → Type 0 where
   finished : Counted r Finished r
   memory : Counted r Memory r
@@ -109,7 +109,7 @@ counts-one e a b few is same = subst (CountsRefusals e a) (sym same) (by (counte
       worst = record { disk = λ ne. absurd (ne refl); trace = λ ne. omega arith; log = λ ne. omega arith };
     }
 
--- ---- behind a join
+-- ---- after a join
 
 -- a count that was joined with another differs from what it was only where one of the two tells of it
 differ : (a b c : ℕ) → a ≤ 18446744073709551615 → min (b + c) 18446744073709551615 ≢ a → (b ≢ a) ⊎ (c ≢ 0)
@@ -176,9 +176,9 @@ pub end-either : (own rest e : WorkEnd) → IsAnEnd own → IsAnEnd rest → (e 
 end-either own rest e is-own is-rest (inl q) = subst IsAnEnd (sym q) is-own
 end-either own rest e is-own is-rest (inr q) = subst IsAnEnd (sym q) is-rest
 
--- ---- behind all
+-- ---- after all
 
--- the collector went on behind a run that was finished
+-- the collector went on after a run that was finished
 pub counts-behind : (e : WorkEnd) (a b c : Refused) → IsAnEnd e → CountsRefusals Finished a b → CountsRefusals e b c → CountsRefusals e a c
 counts-behind e a b c is first then =
     record {

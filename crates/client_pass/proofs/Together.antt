@@ -33,7 +33,7 @@ keep-either l m n a = (λ k e. or-first m.0 n.0 k (a.0 k e), λ e. or_left m.1 n
 keep-trans : (l m n : Marks) → KeepMarks l m → KeepMarks m n → KeepMarks l n
 keep-trans l m n a b = (λ k e. b.0 k (a.0 k e), λ e. b.1 (a.1 e), λ e. b.2 (a.2 e))
 
--- calls behind which nobody of these clients made any
+-- calls after which nobody of these clients made any
 calls-behind : (client : ℕ) (kept more : List (ℕ × Note)) → entries_of client more ≡ [] → calls_of client (kept ++ more) ≡ calls_of client kept
 calls-behind client kept more none = calls_of-append client kept more ∙ (ap (λ (xs : List Deed). calls_of client kept ++ xs) (no-calls client more none) ∙ append-nil (calls_of client kept))
 
@@ -203,7 +203,7 @@ module _ {slots : ℕ} where
       let w = is-rest (λ f. unfinished (is ∙ f)) in
       subst (EndsRun D slots content may_leave faults moment left_since v) (sym is) (w.0, (w.1.0, w.1.1 ∙ ap (λ (y : Known slots). y.knowledge.fixed) left, w.1.2))
 
-  -- what the first of these scripts and the others may do behind the split
+  -- what the first of these scripts and the others may do after the split
   pub record MayBegin (u p : Known slots) (s : ClientScript) (others : List ClientScript) : Type 0 where
     pub main : u.station.main ≡ true
     pub room : u.station.last + length others ≤ 4294967295
@@ -235,7 +235,7 @@ module _ {slots : ℕ} where
   runs-none v w [] e none main c = runs-nobody v w e main c
   runs-none v w (s ∷ scripts) e none main c = absurd (omega (arith, none))
 
-  -- ---- behind all of them
+  -- ---- after all of them
 
   done-behind : (w x : Known slots) (kept more : List (ℕ × Note)) (rest e : WorkEnd) (scripts : List ClientScript) → (e ≡ Finished → rest ≡ Finished)
       → ((client : ℕ) → entries_of client more ≡ []) → x.station ≡ w.station

@@ -38,11 +38,11 @@ busy-more call (a ∷ made) reply each busy = (each.0, busy-more call made reply
 pub made-one : (call : TransactionCall) (reply : Reply) → IsMade call reply (Made call reply ∷ [])
 made-one call reply = record { undos = []; undone = tt; of_abort = inl refl; in_order = refl }
 
--- an abort that is done behind undos
+-- an abort that is done after undos
 pub made-abort : (undos : List Deed) → AreUndos undos → IsMade Abort Done (undos ++ Made Abort Done ∷ [])
 made-abort undos undone = record { undos = undos; undone = undone; of_abort = inr (refl, refl); in_order = refl }
 
--- answered otherwise behind these
+-- answered otherwise after these
 pub answered : (call : TransactionCall) (made last : List Deed) (reply : Reply) → AllByRecursion (IsBusyAt call) made → length made ≤ 7 → is_busy reply ≡ false → IsMade call reply last → IsAnswered call (made ++ last)
 answered call made last reply each few another is = record { busy = made; each = each; few = few; reply = reply; another = another; last = last; answered = is; in_order = refl }
 
@@ -50,11 +50,11 @@ answered call made last reply each few another is = record { busy = made; each =
 pub may_answer : (call : TransactionCall) → IsAnswered call (Made call Done ∷ [])
 may_answer call = answered call [] (Made call Done ∷ []) Done tt (omega arith) refl (made-one call Done)
 
--- a call that was cut off behind these may be answered still
+-- a call that was cut off after these may be answered still
 pub answer_begun : (call : TransactionCall) (made : List Deed) → AllByRecursion (IsBusyAt call) made → length made ≤ 7 → Begun (IsAnswered call) made
 answer_begun call made each few = (Made call Done ∷ [], answered call made (Made call Done ∷ []) Done each few refl (made-one call Done))
 
--- and so may an abort that was cut off behind some undos
+-- and so may an abort that was cut off after some undos
 pub abort_begun : (made undos : List Deed) → AllByRecursion (IsBusyAt Abort) made → length made ≤ 7 → AreUndos undos → Begun (IsAnswered Abort) (made ++ undos)
 abort_begun made undos each few undone =
     (Made Abort Done ∷ [], subst (IsAnswered Abort) (sym (append_assoc made undos (Made Abort Done ∷ []))) (answered Abort made (undos ++ Made Abort Done ∷ []) Done each few refl (made-abort undos undone)))
@@ -79,7 +79,7 @@ pub may_answer_all : (calls : List TransactionCall) → (made : List Deed) × Ar
 may_answer_all [] = ([], refl)
 may_answer_all (call ∷ calls) = let rest = may_answer_all calls in (Made call Done ∷ rest.0, (Made call Done ∷ [], rest.0, refl, may_answer call, rest.1))
 
--- behind the first calls the next one was begun
+-- after the first calls the next one was begun
 pub answers_begun : (before : List TransactionCall) (call : TransactionCall) (after : List TransactionCall) (own made : List Deed) → AreAnswered before own → Begun (IsAnswered call) made → Begun (AreAnswered (before ++ call ∷ after)) (own ++ made)
 answers_begun before call after own made a b =
     let rest = may_answer_all after in
@@ -132,7 +132,7 @@ attempts_begun calls rest made b = let all = may_attempt rest in (b.0 ++ all.0, 
 
 -- ---- what may go on
 
--- all that goes on with such calls, behind these
+-- all that goes on with such calls, after these
 abbrev pub GoesOnTo : (List Deed → Type 0) → (List Deed → Type 0) → List Deed → Type 0
 GoesOnTo AreRest AreAll made = (more : List Deed) → AreRest more → AreAll (made ++ more)
 

@@ -37,7 +37,7 @@ abbrev pub entries_of : ℕ → List (ℕ × Note) → List (ℕ × Note)
 entries_of client [] = []
 entries_of client (k ∷ kept) = if speaks_for client (speaker_of k.1.entry) then k ∷ entries_of client kept else entries_of client kept
 
--- their places ascend, from what was seen before the run up to what was seen behind it
+-- their places ascend, from what was seen before the run up to what was seen after it
 abbrev pub AreInOrder : ℕ → ℕ → List (ℕ × Note) → Type 0
 AreInOrder least behind kept = (last : ℕ) × Ascend least kept last × (last ≤ behind)
 

@@ -8,6 +8,6 @@ use Rattle.plain_model.specs.Machine.{IsInRange}
 abbrev pub AreInRange : ℕ → List (List Call) → Type 0
 AreInRange slots transactions = AllByRecursion (AllByRecursion (IsInRange slots)) transactions
 
--- the last transaction has the call more, behind its others
+-- the last transaction has the call more, after its others
 abbrev pub AddsToLast : List (List Call) → Call → List (List Call) → Type 0
 AddsToLast old call new = (before : List (List Call)) (last : List Call) → old ≡ before ++ last ∷ [] → new ≡ before ++ (last ++ call ∷ []) ∷ []

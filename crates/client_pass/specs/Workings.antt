@@ -25,7 +25,7 @@ use Rattle.client_pass.specs.Attempts.{Deed, Made, calls_in, has_after, AreUndos
 
 -- ---- entries that a pass keeps, each with its place in the history
 
--- the places ascend, the first being at least this number; the second number is that behind the last place
+-- the places ascend, the first being at least this number; the second number is that after the last place
 abbrev pub Ascend : ℕ → List (ℕ × Note) → ℕ → Type 0
 Ascend least [] behind = behind ≡ least
 Ascend least (k ∷ kept) behind = (least ≤ k.0) × Ascend (k.0 + 1) kept behind
@@ -67,7 +67,7 @@ AreNone made = made ≡ []
 abbrev pub IsOne : Call → Reply → List Deed → Type 0
 IsOne call r made = made ≡ Made call r ∷ []
 
--- the call was refused, or it was a commit that the disk failed, or an abort that was stopped behind some undos
+-- the call was refused, or it was a commit that the disk failed, or an abort that was stopped after some undos
 abbrev pub IsCutOff : Call → List Deed → Type 0
 IsCutOff call made = (made ≡ []) ⊎ ((made ≡ Made call reply.DiskFault ∷ []) ⊎ ((call ≡ Abort) × AreUndos made))
 

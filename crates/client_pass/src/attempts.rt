@@ -93,7 +93,7 @@ fn try_calls<const SLOTS: usize, D: Disk, G: Gate, R: Wait>(
     Ok(true)
 }
 
-/// Makes an attempt at the transaction: where it is open behind its calls, it is aborted. Tells whether it was completed.
+/// Makes an attempt at the transaction: where it is open after its calls, it is aborted. Tells whether it was completed.
 fn attempt<const SLOTS: usize, D: Disk, G: Gate, R: Wait>(
     rt: &R,
     store: &Store<SLOTS, D>,

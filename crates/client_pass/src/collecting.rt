@@ -1,4 +1,4 @@
-//! The collector beside the clients, and behind them.
+//! The collector beside the clients, and after them.
 ghost use Rattle.std.specs.Prelude.{◌≡◌, ◌<◌, ◌^◌, Ok, IfErr};
 ghost use Rattle.latch_table.specs.Holds.{IsAlone};
 ghost use Rattle.client_pass.specs.Workings.{EndsCollecting, refused_after, refused_by_work};

@@ -76,7 +76,7 @@ fn know_counts<const SLOTS: usize, D: Disk>(pass: &Pass<SLOTS, D>)
 }
 
 /// Does a client's work in this thread, and runs the others with the collector in a new one. Where none can be made they are run
-/// behind it. It answers how the others' work ended, and how this client's.
+/// after it. It answers how the others' work ended, and how this client's.
 #[cycle(clients)]
 fn run_first<'s, const SLOTS: usize, D: Disk, G: Gate, R: Threads + Wait + Sync>(
     rt: &'s R,

@@ -6,7 +6,7 @@ use plain_model::{Call, Memory};
 use std::alloc::Global;
 use std::marker::Model;
 
-/// The calls of a transaction behind its `Begin`, with the `Commit` or `Abort` that ends it. Where they leave it open it is
+/// The calls of a transaction after its `Begin`, with the `Commit` or `Abort` that ends it. Where they leave it open it is
 /// aborted.
 #[derive(Debug, Drop)]
 pub struct Calls {

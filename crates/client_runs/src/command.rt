@@ -1,4 +1,4 @@
-//! Clients beside one another behind the word `run` of the program.
+//! Clients beside one another after the word `run` of the program.
 
 ghost use Rattle.std.specs.Prelude.{◌≤◌};
 

@@ -4,7 +4,7 @@ use client_pass::Gate;
 use std::sync::atomic::{AtomicU64, Ordering};
 use std::thread;
 
-/// How often a call that is held looks whether it may go on. Behind that it was held in vain.
+/// How often a call that is held looks whether it may go on. After that it was held in vain.
 const MOST_TURNS: u64 = 2_000_000;
 
 /// A client's call, counted from 1.

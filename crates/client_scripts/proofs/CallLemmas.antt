@@ -7,7 +7,7 @@ use Rattle.plain_model.specs.declared.calls.Call.TheVariants.{Begin, Read, Make,
 use Rattle.client_scripts.specs.Lines.{is_first, is_last, is_between}
 use Rattle.client_scripts.specs.Scripts.{all_calls, AreInside, HasEnded}
 
--- what stands behind other calls tells it alone
+-- what stands after other calls tells it alone
 pub between-behind : (xs : List Call) (y : Call) (ys : List Call) → is_between (xs ++ y ∷ ys) ≡ is_between (y ∷ ys)
 between-behind [] y ys = refl
 between-behind (x ∷ []) y ys = refl

@@ -25,7 +25,7 @@ last-open t b (inr o) = o
 pub between-of : (ts : List (List Call)) (a : AreTransactions ts) → is_between (all_calls ts) ≡ is_between (Begin ∷ a.last)
 between-of ts a = ap (λ (xs : List (List Call)). is_between (all_calls xs)) a.in_order ∙ between-last a.before a.last
 
--- one transaction more, behind those that have ended
+-- one transaction more, after those that have ended
 pub begun-extended : (old : List (List Call)) → AreTransactions old → is_between (all_calls old) ≡ true → IsExtended old Begin (old ++ [] ∷ [])
 begun-extended old a between =
     let h = last-ended a.last (sym (between-of old a) ∙ between) a.last_is in
@@ -41,7 +41,7 @@ begun-extended old a between =
       in_range = λ o i. every-push (AllByRecursion (IsInRange object_slots)) old [] o tt;
     }
 
--- one call more, behind those of the transaction that is open
+-- one call more, after those of the transaction that is open
 pub went-on : (old : List (List Call)) (call : Call) (new : List (List Call)) → AreTransactions old → is_between (all_calls old) ≡ false → is_first call ≡ false → AddsToLast old call new → IsExtended old call new
 went-on old call new a still inside adds =
     let t = a.last in

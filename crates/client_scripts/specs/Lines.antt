@@ -1,4 +1,4 @@
--- What lines ask of clients, and which lines may stand one behind another.
+-- What lines ask of clients, and which lines may stand one after another.
 use Rattle.std.specs.Prelude.{◌≡◌, ℕ, ◌==◌, if◌then◌else◌, Bool, true, false, List, [], ◌∷◌, ◌++◌, ⊤}
 use Rattle.plain_model.specs.declared.calls.Call.{Call}
 use Rattle.plain_model.specs.declared.calls.Call.TheVariants.{Begin, Commit, Abort}
@@ -37,11 +37,11 @@ is_between [] = true
 is_between (call ∷ []) = is_last call
 is_between (call ∷ c ∷ calls) = is_between (c ∷ calls)
 
--- a client's call may come next behind its calls: it begins a transaction exactly where none is open
+-- a client's call may come next after its calls: it begins a transaction exactly where none is open
 abbrev pub MayFollow : List Call → Call → Type 0
 MayFollow calls call = is_first call ≡ is_between calls
 
--- The line may come next behind these: it asks nothing, or it asks for a call of a client that may come next behind that
+-- The line may come next after these: it asks nothing, or it asks for a call of a client that may come next after that
 -- client's. A line that undoes one write, or that is the collector's, the cleaner's, the log's or the power's, may come nowhere.
 abbrev pub MayCome : List Line → Line → Type 0
 MayCome lines line.Nothing = ⊤

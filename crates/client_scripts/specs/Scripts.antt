@@ -14,7 +14,7 @@ use Rattle.client_scripts.specs.declared.refusal.LineRefusal.TheVariants.{NotAll
 use Rattle.client_scripts.specs.Lines.{is_first, is_last, calls_asked, MayFollow}
 use Rattle.script_lines.specs.Numbers.{object_slots}
 
--- ---- transactions, each told by its calls behind `Begin`
+-- ---- transactions, each told by its calls after `Begin`
 
 -- all their calls, one transaction after another
 abbrev pub all_calls : List (List Call) → List Call
@@ -77,7 +77,7 @@ TellsWhether Memory may = may
 
 -- ---- one call more
 
--- the call is added behind the calls of these transactions
+-- the call is added after the calls of these transactions
 pub record IsExtended (old : List (List Call)) (call : Call) (new : List (List Call)) : Type 0 where
   pub transactions : AreTransactions new
   pub calls : all_calls new ≡ all_calls old ++ call ∷ []

@@ -26,7 +26,7 @@ fn is_last(call: Call) -> bool
     matches!(call, Call::Commit | Call::Abort)
 }
 
-/// Whether a transaction with these calls behind its `Begin` has ended.
+/// Whether a transaction with these calls after its `Begin` has ended.
 fn has_ended(calls: &Calls) -> bool
     ensures { result ≡ is_between (Begin ∷ calls.now) }
 {
@@ -46,7 +46,7 @@ fn is_between(txns: &Txns) -> bool
     }
 }
 
-/// A transaction begins behind those that have ended.
+/// A transaction begins after those that have ended.
 fn begin(txns: &mut Txns, alloc: Global) -> Result<(), LineRefusal>
     ensures added { OnOk result (txns.new ≡ txns.old ++ [] ∷ []) }
     ensures refused { IfErr result (λ e. e ≡ refusal.Memory) }

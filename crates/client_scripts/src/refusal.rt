@@ -3,7 +3,7 @@
 /// Why a line is not taken.
 #[derive(Clone, Copy, PartialEq, Eq, Debug)]
 pub enum LineRefusal {
-    /// The line may not come next behind those that were taken.
+    /// The line may not come next after those that were taken.
     NotAllowed,
     /// Out of memory.
     Memory,

@@ -58,7 +58,7 @@ impl ClientScripts {
         self.scripts.as_slice()
     }
 
-    /// Adds a client's call, where it may come next behind the client's calls.
+    /// Adds a client's call, where it may come next after the client's calls.
     fn ask(&mut self, client: u8, call: Call) -> Result<(), LineRefusal>
         requires client { IsClient client }
         requires in_range { IsInRange object_slots call }
@@ -74,7 +74,7 @@ impl ClientScripts {
         }
     }
 
-    /// Takes the next line. It is taken exactly where it may come next behind the lines that were taken, unless memory is out. A
+    /// Takes the next line. It is taken exactly where it may come next after the lines that were taken, unless memory is out. A
     /// line that is refused leaves the scripts as they were.
     pub fn take(&mut self, line: Line) -> Result<(), LineRefusal>
         requires { IsLineInRange line }

@@ -42,7 +42,7 @@ abbrev pub open_after : {slots : ℕ} → ℕ → List Write → Record slots �
 open_after pass ws (OfCells r) = if is_bound pass r then [] else ws ++ write_by pass r
 open_after pass ws _ = ws
 
--- the writes of the client's transaction that is open behind these records, in order: those since it began
+-- the writes of the client's transaction that is open after these records, in order: those since it began
 abbrev pub open_writes : {slots : ℕ} → ℕ → List (Record slots) → List Write
 open_writes pass rs = fold (open_after pass) [] rs
 

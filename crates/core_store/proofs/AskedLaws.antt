@@ -98,7 +98,7 @@ sweep-queue k g (sweep.Slots i) e = absurd (cc)
 sweep-queue k g (sweep.Free i) e = absurd (cc)
 sweep-queue k g sweep.End e = not-green g at.Queue e (λ x. x)
 
--- the green walk comes behind the sweep
+-- the green walk comes after the sweep
 sweep-green : (k : ℕ) (g : Greening) (n : SweepAt) → IsGreenAt (asked_by_sweep k g n) → n ≡ sweep.End
 sweep-green k g (sweep.Slots i) e = absurd e
 sweep-green k g (sweep.Free i) e = absurd e
@@ -136,7 +136,7 @@ asked-free Closed id e = absurd (cc)
 asked-free (Walking w) id e = walk-free (next w) id e
 asked-free (Sweeping w s k g) id e = (w, s, k, g, refl, sweep-free k g (next_of_sweep s) id e)
 
--- what the green walk asks for comes behind the sweep
+-- what the green walk asks for comes after the sweep
 pub asked-green : (r : RoundView) → IsGreenAt (asked r) → (w : Walk) × (s : Sweep) × (slot : ℕ) × (g : Greening) × (r ≡ Sweeping w s slot g) × (next_of_sweep s ≡ sweep.End)
 asked-green Closed e = absurd e
 asked-green (Walking w) e = walk-green (next w) e

@@ -14,7 +14,7 @@ use Rattle.core_store.specs.RoundView.{RoundView, Closed, Walking, Sweeping, rou
 use Rattle.core_store.specs.Stands.{IsEmptied, IsTested}
 use Rattle.core_store.proofs.SavedLaws.{saved-again}
 
--- what stands behind the first n is among the rest
+-- what stands after the first n is among the rest
 among-drop : (n : ℕ) (xs : List ℕ) (place : ℕ) → n ≤ place → place < length xs → Contains (drop n xs) (slice_index xs place)
 among-drop n xs place l h =
     let len = length-drop n xs in

@@ -76,7 +76,7 @@ least-marked row limit id none m = record {
   least = λ k e. let f = free-marked row limit k e in ⊎_elim (λ (l : k < id). absurd (let no = none k f.low l in let yes = f.mark in cc)) (λ l. l) (cases_lt k id);
 }
 
--- none is marked behind it either
+-- none is marked after it either
 pub none-next : (row : List Bool) (from id : ℕ) → ((k : ℕ) → from ≤ k → k < id → get_or row k false ≡ false) → get_or row id false ≡ false → (k : ℕ) → from ≤ k → k < id + 1 → get_or row k false ≡ false
 none-next row from id none e k low l = ⊎_elim (λ (is : k ≡ id). ap (λ i. get_or row i false) is ∙ e) (λ n. none k low (omega (arith, l, n))) (cases_eq k id)
 
@@ -93,7 +93,7 @@ none-free row limit none = nothing-passes (λ id. get_or row id false) limit 1 (
 
 -- ---- a mark that is changed
 
--- behind the last one none is marked
+-- after the last one none is marked
 pub up-to-last : (row : List Bool) (first last limit id : ℕ) → IsFreeInside row first last limit → get_or row id false ≡ true → id ≤ last
 up-to-last row first last limit id i mark = ⊎_elim (λ (l : last < id). absurd (let none = i.beyond id l in cc)) (λ l. l) (cases_lt last id)
 
@@ -118,7 +118,7 @@ module _ (row : List Bool) (first last limit id : ℕ) (i : IsFreeInside row fir
       by true e = let is = same id k e in ap (λ i. get_or (set row id false) i false && (nat_lt 0 i && nat_le i limit)) is ∙ ap (λ b. b && (nat_lt 0 id && nat_le id limit)) (marked false)
       by false e = ap (λ b. b && (nat_lt 0 k && nat_le k limit)) (others false k e) ∙ sym (free-at row limit k)
 
-  -- behind the last one none is marked when one is taken
+  -- after the last one none is marked when one is taken
   past : (k : ℕ) → last < k → get_or (set row id false) k false ≡ false
   past k b = ⊎_elim (λ (is : k ≡ id). ap (λ j. get_or (set row id false) j false) is ∙ marked false) (λ n. others false k (ne_eqb k id n) ∙ i.beyond k b) (cases_eq k id)
 

@@ -60,7 +60,7 @@ use Rattle.core_store.proofs.WrittenCells.{writes-held}
 
 -- ---- what is condemned
 
--- one of the rest has its place behind the first n
+-- one of the rest has its place after the first n
 drop-place : (n : ℕ) (xs : List ℕ) (x : ℕ) → Contains (drop n xs) x → (place : ℕ) × (n ≤ place) × (place < length xs) × (slice_index xs place ≡ x)
 drop-place n xs x m =
     let l = m.1 in

@@ -24,7 +24,7 @@ use Rattle.core_store.proofs.AskedLaws.{IsGreenAt, asked-by_green}
 use Rattle.core_store.proofs.WeakenRound.{can-null}
 use Rattle.core_store.proofs.GreenRound.{flip-can, flip-answer, flip-collected, into-live, into-within, into-parts, into-answer, into-collected, strengthen-live, strengthen-within, strengthen-weak, strengthen-answer, strengthen-collected}
 
--- the green walk behind the sweep asked for this
+-- the green walk after the sweep asked for this
 pub record AsksGreen (v : TablesView) (a : RoundAt) : Type 0 where
   pub walk : Walk
   pub swept : Sweep

@@ -103,7 +103,7 @@ looks-keep cells g _ k (answers what a) = (found-greening g what k a, (found-law
 looks-keep cells g _ k (begins id e a zero named) = (testing-greening g id k a, (testing-law g id k a).0)
 looks-keep cells g _ k (goes_on t e l weak) = (tested-greening g t k e l, (tested-law g t k e l).0)
 
--- behind the sweep the green walk is one of the same store
+-- after the sweep the green walk is one of the same store
 pub greens-kept : (slots ids : ℕ) (w : Walk) (s : Sweep) (g h : Greening) → IsGreeningOf slots ids w s g → next_of_sweep s ≡ sweep.End → IsGreening h → IsSameWalk g h → IsGreeningOf slots ids w s h
 greens-kept slots ids w s g h k rest sound same = record {
   greening = sound;

@@ -101,7 +101,7 @@ weak-at slots v c h u k to live is some zero =
         by true l = absurd (omega (arith, l, none))
         by false l = refl
 
--- ---- behind the sweep
+-- ---- after the sweep
 
 module _ (slots : ℕ) (v : TablesView) (c : Core) (h : Stands slots v c) (w : Walk) (s : Sweep) (slot : ℕ) (g : Greening) (is : v.round ≡ Sweeping w s slot g) (end : next_of_sweep s ≡ sweep.End) where
   abbrev pub swept : Round

@@ -27,7 +27,7 @@ some-left queue round busy idle =
     let e = sym busy ∙ both in
     cc (e)
 
--- a round is open behind looks where one was before
+-- a round is open after looks where one was before
 closed-before : (u v : RoundView) → round_of v ≡ round_of u → v ≡ Closed → u ≡ Closed
 closed-before Closed v same e = refl
 closed-before (Walking w) v same e = absurd (let none : round_of (Walking w) ≡ None = sym same ∙ ap round_of e in cc)

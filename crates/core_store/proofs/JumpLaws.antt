@@ -174,7 +174,7 @@ module _ {slots : ℕ} (v : TablesView) (held : List (HeldFrame slots)) (t : IsS
   abbrev IsGone : ℕ → Type 0
   IsGone n = HasGone slots v (gone n) held r n
 
-  -- there is nothing to do at this slot in whatever stands behind the tables and these held pages
+  -- there is nothing to do at this slot in whatever stands after the tables and these held pages
   abbrev pub IsIdle : ℕ → Type 0
   IsIdle k = (d : Core) → Stands slots v d → Agree d.cells held → IsIdleAt d.cells v.round (at_slot r k)
 
@@ -229,7 +229,7 @@ module _ {slots : ℕ} (v : TablesView) (held : List (HeldFrame slots)) (t : IsS
       let same : first + 1 + (place - (first + 1)) ≡ place = omega (arith, some) in
       subst IsGone same (gone-behind (place - (first + 1)) (omega (arith, same, few)) (λ k a b. idle k a (omega (arith, same, b))))
 
--- the same, of the tables as they are behind it
+-- the same, of the tables as they are after it
 pub slots-behind : {slots : ℕ} (v w : TablesView) (held : List (HeldFrame slots)) → IsStanding v held → (r : RoundAt) (id first place : ℕ) → slot_at r ≡ Some (id, first) → r ≡ asked v.round → first ≤ place → place ≢ first → place ≤ slots
     → ((k : ℕ) → first ≤ k → k < place → (d : Core) → Stands slots v d → Agree d.cells held → IsIdleAt d.cells v.round (at_slot r k)) → w ≡ record v { round = looked_to slots v.round place } → HasGone slots v w held r place
 slots-behind {slots} v w held t r id first place is e behind other few idle same =

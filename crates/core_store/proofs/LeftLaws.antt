@@ -123,7 +123,7 @@ left-walk slots w u e l = let same = ap (λ (n : ℕ). (slots + 1) * n + most_wo
 
 -- ---- a look at which there is nothing to do
 
--- behind the sweep it is one of the green walk
+-- after the sweep it is one of the green walk
 module _ (slots ids : ℕ) (cells : List Cell) (w : Walk) (s : Sweep) (slot : ℕ) (g : Greening) (k : IsSweeping slots ids w s slot g) (rest : next_of_sweep s ≡ sweep.End) (idle : is_event cells (asked_by_green g.slots g.test (next_of_green g)) ≡ false) where
   abbrev behind : Greening
   behind = passed_by_green cells g (asked_by_green g.slots g.test (next_of_green g))

@@ -24,7 +24,7 @@ use Rattle.core_store.proofs.JumpLaws.{HasGone, slots-behind, out-waits}
 use Rattle.core_store.proofs.NullLaws.{null-there, white-in}
 use Rattle.core_store.proofs.SeenLaws.{GreenOf, green-of, into-passed, out-passed, test-passed}
 
--- what the tables stood for before the looks, they stand for behind them
+-- what the tables stood for before the looks, they stand for after them
 pub standing-behind : {slots : ℕ} (v w : TablesView) (held : List (HeldFrame slots)) → IsStanding v held → HasPassed slots v w held → IsStanding w held
 standing-behind v w held t p = record { core = t.core; stands = p.stands t.core t.stands t.agree; agree = t.agree }
 
@@ -77,7 +77,7 @@ module _ {slots : ℕ} (v u w : TablesView) (held : List (HeldFrame slots)) (t :
 pub white-waits : (cells : List Cell) {r : RoundView} («from» slot to : ℕ) (x : GreenOf r (at.Out «from» slot)) → is_white_in cells r to ≡ true → waits x.of to ≡ true
 white-waits cells «from» slot to x e = (and_parts (waits x.of to) (has_no_strong (cell_at cells to)) (white-in cells x to ∙ e)).0
 
--- and is so behind looks at slots of the green object
+-- and is so after looks at slots of the green object
 pub white-behind : (slots : ℕ) (cells : List Cell) (r : RoundView) («from» j n to : ℕ) → asked r ≡ at.Out «from» j → is_white_in cells r to ≡ true → is_white_in cells (looked_to slots r n) to ≡ true
 white-behind slots cells r «from» j n to e white = ap (λ (b : Bool). b && has_no_strong (cell_at cells to)) (out-waits slots r «from» j n to e) ∙ white
 

@@ -160,7 +160,7 @@ module _ {slots : ℕ} {v : TablesView} {c : Core} (h : Stands slots v c) where
       let on = out-on g «from» k x.asks.0 (omega (arith, size, l)) in
       ap asked past ∙ (ap (asked_by_sweep x.slot (found g Nothing)) x.rest ∙ (ap (λ (o : Option Test). asked_by_green (found g Nothing).slots o (next_of_green (found g Nothing))) in_hand ∙ ap (asked_by_green (found g Nothing).slots None) on))
 
-  -- behind such a slot the next one is looked at
+  -- after such a slot the next one is looked at
   pub idle-next : (r : RoundAt) (k : ℕ) → asked v.round ≡ at_slot r k → IsIdleAt c.cells v.round (at_slot r k) → k + 1 < slots → asked (looked_past slots c.cells v.round) ≡ at_slot r (k + 1)
   idle-next (at.Look id slot) k e idle l = look-next slots c.cells v.round id k e l
   idle-next (at.Cut id slot) k e idle l = cut-next slots c.cells v.round id k e l
@@ -258,7 +258,7 @@ same-slot (at.Into i s to) id slot is = absurd (cc)
 same-slot (at.Strengthen i s to) id slot is = absurd (cc)
 same-slot at.End id slot is = absurd (cc)
 
--- ---- looks behind looks
+-- ---- looks after looks
 
 looks-behind : (slots : ℕ) (cells : List Cell) {u v w : RoundView} → Passes slots cells u v → Passes slots cells v w → Passes slots cells u w
 looks-behind slots cells p none = p

@@ -57,7 +57,7 @@ pages-by_ids {slots} (f ∷ fs) start each place d l =
 pub pages-cons : {slots : ℕ} (f : Frame slots) (fs : List (Frame slots)) → map cell_of (cells_in (f ∷ fs)) ≡ map cell_of f.page ++ map cell_of (cells_in fs)
 pages-cons f fs = ap (map cell_of) (flat_map-cons (λ f. f.page) f fs) ∙ map-append cell_of f.page (cells_in fs)
 
--- eight cells, and those behind them
+-- eight cells, and those after them
 take-eight : (xs ys : List StoredCell) → length xs ≡ 8 → take 8 (xs ++ ys) ≡ xs
 take-eight xs ys eight = subst (λ (n : ℕ). take n (xs ++ ys) ≡ xs) eight (take-append_seam xs ys)
 

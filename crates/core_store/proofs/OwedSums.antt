@@ -26,7 +26,7 @@ owes weight undone e = weight (count_by can_be_undone e.1.writes - undone e.0)
 abbrev pub owed_at : (ℕ → ℕ) → (ℕ → ℕ) → ℕ → Option ActiveTransaction → ℕ
 owed_at weight undone pass o = option_map_or (λ t. owes weight undone (pass, t)) o 0
 
--- a client behind the others is another one
+-- a client after the others is another one
 behind : (n p : ℕ) (t : ActiveTransaction) (es : List (ℕ × ActiveTransaction)) → AllByRecursion (λ e. n < e.0) es → at p es ≡ Some t → p ≢ n
 behind n p t es a h = λ e. none_some (at p es) t (at_none p es (subst (λ k. AllByRecursion (λ (x : ℕ × ActiveTransaction). k < x.0) es) (sym e) a)) h
 

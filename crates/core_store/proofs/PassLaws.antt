@@ -38,7 +38,7 @@ round-next_slot slots w s slot g id e = by (slot + 1 == slots)
     by true = ap (λ (x : Sweep). round_of (Sweeping w x 0 g)) (found-nothing s id e)
     by false = refl
 
--- the object in hand stands behind those that were emptied
+-- the object in hand stands after those that were emptied
 slots-at : (s : Sweep) (id : ℕ) → next_of_sweep s ≡ sweep.Slots id → (s.emptied < length s.list) × (slice_index s.list s.emptied ≡ id)
 slots-at s id e =
     let rest = slots-drop (drop s.emptied s.list) (drop s.freed s.list) id e in (
@@ -59,7 +59,7 @@ module _ (slots : ℕ) (cells : List Cell) (w : Walk) (s : Sweep) (slot : ℕ) (
       (λ (m : slot ≤ k). let same : slot ≡ k = omega (arith, l, m) in subst (λ (n : ℕ). (pointer_at cells id n).target ≡ 0) same none)
       (cases_lt k slot)
 
-  -- behind the last slot nothing is
+  -- after the last slot nothing is
   slot-all : slot + 1 ≡ slots → (k : ℕ) → (pointer_at cells id k).target ≡ 0
   slot-all last k =
       ⊎_elim

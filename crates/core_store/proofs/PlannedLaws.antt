@@ -70,7 +70,7 @@ planned-commit v core h pass (Ok (plan.Store id slot target)) granted refused no
 planned-commit v core h pass (Ok (plan.Get id)) granted refused none = let e = granted.1 in absurd (cc)
 planned-commit v core h pass (Ok (plan.Set id value)) granted refused none = let e = granted.1 in absurd (cc)
 
--- the room that is taken before is enough for the entry, and for all that is owed behind it
+-- the room that is taken before is enough for the entry, and for all that is owed after it
 pub room-enough : (c : TransactionCall) (r : Result Plan Reply) (owed len room left : ℕ) → len + room_needed r owed ≤ room → left + 1 ≤ owed + entries_needed c → (r ≡ Ok plan.Commit → left + 1 ≤ owed) → len + 1 + left ≤ room
 room-enough c (Ok plan.Commit) owed len room left h more commit = let k = commit refl in omega (arith, h, k)
 room-enough c (Ok plan.Begin) owed len room left h more commit = let k = needed-few c in omega (arith, h, more, k)

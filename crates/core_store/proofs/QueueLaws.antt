@@ -90,7 +90,7 @@ once-each_once ids = once-all_joined ids [] once-none
 pub has-each_once : (ids : List ℕ) (x : ℕ) → has (each_once ids) x ≡ has ids x
 has-each_once ids x = has-all_joined ids [] x
 
--- ids of which none stands twice join behind the queue, without those that are in it
+-- ids of which none stands twice join after the queue, without those that are in it
 pub all_joined-behind : (ids queue : List ℕ) → IsOnce ids → all_joined queue ids ≡ queue ++ filter (λ id. not (has queue id)) ids
 all_joined-behind [] queue once = nothing queue
   where

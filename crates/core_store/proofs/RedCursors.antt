@@ -29,7 +29,7 @@ use Rattle.core_store.proofs.RedStrengths.{IsByClient, Writes, IsStrong, no-both
 
 -- ---- the next slot
 
--- a slot that is behind the next one is behind this one, or is this one, or isn't there
+-- a slot that is after the next one is after this one, or is this one, or isn't there
 behind-moved : (slots : ℕ) (w : Walk) (place k : ℕ) → IsBehind (moved slots w) place k → IsBehind w place k ⊎ ((place ≡ w.place) × ((k ≡ w.slot) ⊎ (slots ≤ k)))
 behind-moved slots w place k b = by (w.slot + 1 == slots) refl b
   where
@@ -60,13 +60,13 @@ moved-list slots w = by (w.slot + 1 == slots)
     by true = refl
     by false = refl
 
--- who joins stands behind the others
+-- who joins stands after the others
 joined-front : (slots : ℕ) (w : Walk) (joins : Option ℕ) (place : ℕ) → place < length w.list → slice_index (joined_by (moved slots w) joins).list place ≡ slice_index w.list place
 joined-front slots w None place l = ap (λ (xs : List ℕ). slice_index xs place) (moved-list slots w)
 joined-front slots w (Some id) place l =
     ap (λ (xs : List ℕ). slice_index (xs ++ id ∷ []) place) (moved-list slots w) ∙ get_or_append_left w.list (id ∷ []) 0 place l
 
--- where the slot in hand isn't strong, and slots that aren't there are not, all that is strong behind the next one was behind
+-- where the slot in hand isn't strong, and slots that aren't there are not, all that is strong after the next one was after
 -- this one
 pub behind-next : (slots : ℕ) (cells : List Cell) (w : Walk) (joins : Option ℕ) (id slot : ℕ) (written : List (ℕ × ℕ)) → next w ≡ red.Look id slot → (IsStrong cells id slot → ⊥) → ((k : ℕ) → slots ≤ k → IsStrong cells id k → ⊥)
     → ((place k : ℕ) → place < length w.list → IsBehind w place k → IsStrong cells (slice_index w.list place) k → Contains written (slice_index w.list place, k))

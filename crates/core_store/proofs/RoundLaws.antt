@@ -210,7 +210,7 @@ walked-to-in-step slots ids a w locked j s slot id n to g k after e =
 pub again-in-step : (slots ids : ℕ) (a : Stage) (w : Walk) (locked : List Bool) (j : Judged) (s : Sweep) (slot : ℕ) (g : Greening) → AreInStep slots ids a w locked j s slot g → IsGreening (again g) → AreInStep slots ids a w locked j s slot (again g)
 again-in-step slots ids a w locked j s slot g k after = green-in-step slots ids a w locked j s slot g (again g) k after (record { live = refl; slots = refl; limit = refl }) (λ other. refl)
 
--- the sweep goes on behind an object
+-- the sweep goes on after an object
 pub cut-in-step : (slots ids : ℕ) (a : Stage) (w : Walk) (locked : List Bool) (j : Judged) (s : Sweep) (slot id : ℕ) (g : Greening) → AreInStep slots ids a w locked j s slot g → IsSweep (found s Nothing) → next_of_sweep s ≡ sweep.Slots id → AreInStep slots ids a w locked j (found s Nothing) 0 g
 cut-in-step slots ids a w locked j s slot id g k after e =
     subst (λ (t : Sweep). AreInStep slots ids a w locked j t 0 g) (sym (ap (λ n. found_at s n Nothing) e)) (record {

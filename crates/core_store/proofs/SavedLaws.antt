@@ -29,7 +29,7 @@ use Rattle.core_store.proofs.Copies.{copied-tells}
 
 -- ---- changes of a client
 
--- behind a touch nothing is said
+-- after a touch nothing is said
 pub saved-again : (cells : List Cell) (s : Sweep) (g : Greening) → AreSaved cells s (again g)
 saved-again cells s g = record { current = λ e. absurd (true≢false (sym e)); walked = λ e. absurd (true≢false e); early = λ e. absurd (true≢false e) }
 
@@ -48,7 +48,7 @@ saved-swept cells later s t g more targets k = record {
 
 -- ---- the green walk goes on
 
--- what is passed behind a step was passed before, or there is nothing to do at it
+-- what is passed after a step was passed before, or there is nothing to do at it
 pub record GoesOn (cells later : List Cell) (g h : Greening) : Type 0 where
   pub targets : (x k : ℕ) → (pointer_at later x k).target ≡ (pointer_at cells x k).target
   pub current : h.current ≡ true → g.current ≡ true
@@ -171,7 +171,7 @@ green-at g id place l = get_or_append_left g.green (id ∷ []) 0 place l
 
 -- ---- the next slot
 
--- what was passed behind a slot was passed before it, or is that slot
+-- what was passed after a slot was passed before it, or is that slot
 pub was-moved : (walked slots at k place slot : ℕ) (b : Bool) → (k + 1 == slots) ≡ b → slot < slots → WasPassed walked (if b then AtOut (at + 1) 0 else AtOut at (k + 1)) place slot → WasPassed walked (AtOut at k) place slot ⊎ ((place ≡ at) × (slot ≡ k))
 was-moved walked slots at k place slot true e small was =
     let last = eqb-true (k + 1) slots e in

@@ -32,7 +32,7 @@ use Rattle.core_store.proofs.ReadyRound.{IsThere, asked-there, asked-work, green
 
 -- ---- what is asked for
 
--- the green walk behind the sweep that asks for this
+-- the green walk after the sweep that asks for this
 pub record GreenOf (r : RoundView) (a : RoundAt) : Type 0 where
   pub walk : Walk
   pub swept : Sweep
@@ -89,7 +89,7 @@ module _ {slots : ℕ} {v : TablesView} {c : Core} (h : Stands slots v c) where
   pub passed-by : (q : RoundView) → is_event c.cells (asked v.round) ≡ false → q ≡ looked_past slots c.cells v.round → IsPassedBy slots c v (record v { round = q })
   passed-by q nothing e = record { round = e; same = refl; stands = subst (λ (r : RoundView). Stands slots (record v { round = r }) c) (sym e) (Stands-passed slots v c h nothing) }
 
-  -- the same, behind a look of the green walk
+  -- the same, after a look of the green walk
   green-passed : {a : RoundAt} (x : GreenOf v.round a) (q : RoundView) → asked v.round ≡ a → is_event c.cells a ≡ false → q ≡ Sweeping x.walk x.swept x.slot (passed_by_green c.cells x.of a) → IsPassedBy slots c v (record v { round = q })
   green-passed x q e nothing is = passed-by q (ap (is_event c.cells) e ∙ nothing) (is ∙ sym (x.passes slots c.cells))
 
@@ -105,7 +105,7 @@ module _ {v : RoundView} (id : ℕ) (x : GreenOf v (at.Seed id)) where
   pub seed-testable : waits x.of id ≡ true → IsGreenTestable v id
   seed-testable w = testable-of x id (subst (λ (n : GreenAt). IsTestable x.of n id) (sym x.asks.0) (refl, w))
 
--- the green walk behind a look at a seed
+-- the green walk after a look at a seed
 abbrev pub behind_seed : Greening → ℕ → Bool → Bool → Greening
 behind_seed g id waiting zero = if waiting && zero then testing g id else found g (if waiting then Strong else Nothing)
 

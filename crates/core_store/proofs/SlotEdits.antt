@@ -214,7 +214,7 @@ module _ (cells : List Cell) (id slot : ℕ) (q : Pointer) (is : pointer_at cell
   pub gone-bit : (target : ℕ) (strong : Bool) → bit_for (edit cells q.target (loses q.bit)) target strong ≡ bit_for cells target strong
   gone-bit target strong = ap (λ (b : Bool). cond (target == 0) false (same b strong)) (edit-keeps (λ c. c.bit) cells q.target target (loses q.bit) (λ c. ap (λ s. s.1) (loses-shape q.bit c)))
 
-  -- and a new pointer is strong where it is so behind the slot that was made null
+  -- and a new pointer is strong where it is so after the slot that was made null
   pub gone-strong : (target : ℕ) → is_laid_strong (edit cells q.target (loses q.bit)) id target ≡ is_laid_strong (relinked cells id slot null) id target
   gone-strong target =
       let one = edit cells q.target (loses q.bit) in

@@ -195,7 +195,7 @@ module _ {slots : ℕ} (all : Option (Vec (Frame slots))) (frames : List (HeldFr
       let same : 0 + page_of_id id ≡ page_of_id id = omega arith in
       subst (λ (n : ℕ). HoldsPage cells n (get_or (frames_of_all all) (page_of_id id) e).page) same (subst (λ (h : HeldFrame slots). HoldsPage cells h.page h.frame.page) at h)
 
--- a page behind those of all pages is among those that were put
+-- a page after those of all pages is among those that were put
 pub held-put : {slots : ℕ} (all : Option (Vec (Frame slots))) (frames : List (HeldFrame slots)) (count p : ℕ) → length (frames_of_all all) ≤ p → is_held (held_in all frames count) p ≡ true → is_held (take count frames) p ≡ true
 held-put all frames count p above there = sym (held-behind (frames_of_all all) (take count frames) p above) ∙ there
 

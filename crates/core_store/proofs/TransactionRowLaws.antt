@@ -242,7 +242,7 @@ read rows xs k o e l h = ap (λ (rs : Rows). slice_get rs k) (sym e) ∙ slice_g
 pub found-in : (rows xs : Rows) (k : ℕ) (o : Option Running) → xs ≡ rows → k < length xs → o ≡ slice_index_or xs k o → running_at (entries_of rows) k ≡ o
 found-in rows xs k o e l h = found rows k ∙ ap option_flatten (read rows xs k o e l h)
 
--- a client behind the last row has none
+-- a client after the last row has none
 pub missed-in : (rows xs : Rows) (k : ℕ) → xs ≡ rows → length xs ≤ k → running_at (entries_of rows) k ≡ None
 missed-in rows xs k e l = found rows k ∙ (ap (λ (rs : Rows). row_at rs k) (sym e) ∙ ap option_flatten (slice_get_past xs k l))
 
@@ -270,7 +270,7 @@ found-set rows k o l = found (slice_set rows k o) k ∙ ap option_flatten (get_s
 pub found-other : (rows : Rows) (k : ℕ) (o : Option Running) (q : ℕ) → q ≢ k → running_at (entries_of (slice_set rows k o)) q ≡ running_at (entries_of rows) q
 found-other rows k o q n = found (slice_set rows k o) q ∙ (ap option_flatten (get_other rows k q o n) ∙ sym (found rows q))
 
--- what is behind the last row is not there to be removed
+-- what is after the last row is not there to be removed
 pub removed-past : (rows : Rows) (k : ℕ) → length rows ≤ k → entries_of rows ≡ remove_entry (is_at (nat_cmp k)) (entries_of rows)
 removed-past rows k l = ap entries_of (sym (set_past rows k None l)) ∙ entries-removed rows k
 

@@ -11,7 +11,7 @@ pub length-numbered : {slots : ℕ} (n : ℕ) (fs : List (Frame slots)) → leng
 length-numbered n [] = refl
 length-numbered n (f ∷ fs) = ap suc (length-numbered (n + 1) fs)
 
--- a frame more at the end has the number behind the last
+-- a frame more at the end has the number after the last
 pub numbered-append : {slots : ℕ} (n : ℕ) (fs gs : List (Frame slots)) → numbered n (fs ++ gs) ≡ numbered n fs ++ numbered (n + length fs) gs
 numbered-append n [] gs = let e : n ≡ n + 0 = omega arith in ap (λ (m : ℕ). numbered m gs) e
 numbered-append {slots} n (f ∷ fs) gs =
@@ -77,7 +77,7 @@ held-all fs hs p within = left (numbered 0 fs) hs p (numbered-there 0 fs p (omeg
       | inr other ↦ rw other (left gs hs p (rw other at e))
     ]
 
--- a page behind them is held exactly where it is among the others
+-- a page after them is held exactly where it is among the others
 pub held-behind : {slots : ℕ} (fs : List (Frame slots)) (hs : List (HeldFrame slots)) (p : ℕ) → length fs ≤ p → is_held (numbered 0 fs ++ hs) p ≡ is_held hs p
 held-behind fs hs p above = right (numbered 0 fs) hs p (numbered-above 0 fs p (omega (arith, above)))
   where

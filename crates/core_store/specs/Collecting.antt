@@ -64,14 +64,14 @@ pub record CanPass {slots : ℕ} (v : TablesView) (held : List (HeldFrame slots)
   pub pages : HoldsPagesOf held (objects_at core.cells (asked v.round))
   pub none : is_event core.cells (asked v.round) ≡ false
 
--- the round goes on behind a look at which there was nothing to do, nothing else changes, and the tables stand for the journal as
+-- the round goes on after a look at which there was nothing to do, nothing else changes, and the tables stand for the journal as
 -- before
 pub record IsPassedBy (slots : ℕ) (c : Core) (v w : TablesView) : Type 0 where
   pub round : w.round ≡ looked_past slots c.cells v.round
   pub same : w ≡ record v { round = w.round }
   pub stands : Stands slots w c
 
--- the event is the one that came next, the new tables stand for the journal after it, and the round goes on behind it
+-- the event is the one that came next, the new tables stand for the journal after it, and the round goes on after it
 pub record Collected (slots : ℕ) (v w : TablesView) (c : Core) (held new : List (HeldFrame slots)) (event : Act) (logged : Option CellRecord) : Type 0 where
   pub proceeds : Proceeds slots v.ids v.round event logged w.round
   pub begins : event ≡ act.Judge → BeginsGreen c w.round
@@ -96,7 +96,7 @@ abbrev pub answer_of : Act → Option CellRecord → ℕ → Collect
 answer_of act (Some (logs.Free id)) left = Deleted id left
 answer_of act _ left = Did (is_pop act) left
 
--- the trace has the note of this event behind the others, and else is as it was; what was reserved is given up
+-- the trace has the note of this event after the others, and else is as it was; what was reserved is given up
 pub record IsNoted (t u : Trace) (event : Act) (logged : Option CellRecord) (left : ℕ) : Type 0 where
   pub items : u.notes.list ≡ t.notes.list ++ record { entry = entry_of logged; logged = logged; left = left; act = event } ∷ []
   pub len : length u.notes.list ≡ length t.notes.list + 1

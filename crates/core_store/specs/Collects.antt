@@ -106,7 +106,7 @@ pub record Ends (c : Core) (queue : List ℕ) (round : Option Round) : Type 0 wh
   pub queue_is : queue ≡ all_joined c.queue (filter (is_loose c) of.list)
   pub round_is : round ≡ None
 
--- an event of the green walk, which comes behind the sweep, at an object that lives: the queue and the round stay
+-- an event of the green walk, which comes after the sweep, at an object that lives: the queue and the round stay
 pub record Greens (c : Core) (id : ℕ) (queue : List ℕ) (round : Option Round) : Type 0 where
   pub of : Round
   pub there : c.round ≡ Some of
@@ -126,7 +126,7 @@ pub record Flips (c : Core) (id : ℕ) (queue : List ℕ) (round : Option Round)
   pub greens : Greens c id queue round
   pub white : IsWhite c id
 
--- a strong pointer between two objects of the round becomes weak again; the green walk asks for it behind a flip of its target
+-- a strong pointer between two objects of the round becomes weak again; the green walk asks for it after a flip of its target
 pub record WeakensInto (c : Core) (id target : ℕ) (queue : List ℕ) (round : Option Round) : Type 0 where
   pub greens : Greens c id queue round
   pub target_listed : Contains greens.of.list target

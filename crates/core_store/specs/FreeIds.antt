@@ -38,15 +38,15 @@ taken free (suc n) = taken free n ++ (if list_any (is_at (nat_cmp (suc n))) free
 unfoldable pub free_in : List Bool → ℕ → List ℕ
 free_in row limit = filter (λ id. get_or row id false) (range_with_len 1 limit)
 
--- the first id from this one on that the row marks, or the one behind the last where it marks none up to that
+-- the first id from this one on that the row marks, or the one after the last where it marks none up to that
 pub record IsNextFree (row : List Bool) (from last id : ℕ) : Type 0 where
   pub above : from ≤ id
   pub within : id ≤ last + 1
   pub stored : (k : ℕ) → from ≤ k → k < id → get_or row k false ≡ false
   pub found : id ≤ last → get_or row id false ≡ true
 
--- the row has a place for each id; `first` is the first one that it marks, or the one behind the limit where it marks none;
--- and behind `last` it marks none
+-- the row has a place for each id; `first` is the first one that it marks, or the one after the limit where it marks none;
+-- and after `last` it marks none
 pub record IsFreeInside (row : List Bool) (first last limit : ℕ) : Type 0 where
   pub length : length row ≡ limit + 1
   pub few : limit ≤ 8192

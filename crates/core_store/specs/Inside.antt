@@ -10,7 +10,7 @@ use Rattle.core_store.specs.Frames.{AreOnce, numbered}
 abbrev pub frames_of_all : {slots : ℕ} → Option (Vec (Frame slots)) → List (Frame slots)
 frames_of_all all = option_map_or (λ frames. frames.items) all []
 
--- those of all pages, and the first so many of three behind them
+-- those of all pages, and the first so many of three after them
 abbrev pub held_in : {slots : ℕ} → Option (Vec (Frame slots)) → List (HeldFrame slots) → ℕ → List (HeldFrame slots)
 held_in all frames count = numbered 0 (frames_of_all all) ++ take count frames
 

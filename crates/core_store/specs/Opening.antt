@@ -22,7 +22,7 @@ pub record AreByIds {slots : ℕ} (ids : ℕ) (cells : List (Cell slots)) : Type
   pub count : length cells ≡ ids
   pub each : (place : ℕ) (d : Cell slots) → place < ids → (Rattle.std.specs.Prelude.slice_index_or cells place d).id ≡ place + 1
 
--- the cells of a store, at the index of their ids: those from id 1 on stand behind a free one
+-- the cells of a store, at the index of their ids: those from id 1 on stand after a free one
 abbrev pub store_of : {slots : ℕ} → List (Cell slots) → List StoredCell
 store_of {slots} cells = blank_cell false slots ∷ map cell_of cells
 

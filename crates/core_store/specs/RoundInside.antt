@@ -31,10 +31,10 @@ pub record AreInStep (slots ids : ℕ) (at : Stage) (w : Walk) (locked : List Bo
   pub whole : at ≡ stage.Walking → w.left ≡ w.list
   pub green_limit : g.limit ≡ ids
   pub green_slots : g.slots ≡ slots
-  -- behind the verdict the green walk is over objects of the round that aren't condemned
+  -- after the verdict the green walk is over objects of the round that aren't condemned
   pub left : at ≡ stage.Sweeping → (id : ℕ) → Contains g.live id → Contains w.left id
   pub spared : at ≡ stage.Sweeping → (id : ℕ) → Contains g.live id → Contains s.list id → ⊥
-  -- and tests begin behind the sweep
+  -- and tests begin after the sweep
   pub at_rest : at ≡ stage.Sweeping → next_of_sweep s ≢ sweep.End → g.test ≡ None
 
 -- the row says of each object of the list whether some client holds a lock on it

@@ -33,7 +33,7 @@ pub data RoundView : Type 0 where
   -- before the verdict
   Walking : (walk : Walk) → RoundView
   -- after it: the sweep, in which the object that is being emptied may have pointers from this slot on, and the green walk, which
-  -- comes behind the sweep
+  -- comes after the sweep
   Sweeping : (walk : Walk) (swept : Sweep) (slot : ℕ) (greening : Greening) → RoundView
 
 -- the round as the laws of a store see it
@@ -81,7 +81,7 @@ asked_by_green slots test (green.Into «from» slot to) = Into «from» slot to
 asked_by_green slots test (green.Out «from» slot) = asked_at_slot slots «from» slot test
 asked_by_green slots test green.End = End
 
--- what a sweep asks for, which goes over the slots of an object from this one on, and behind it the green walk
+-- what a sweep asks for, which goes over the slots of an object from this one on, and after it the green walk
 abbrev pub asked_by_sweep : ℕ → Greening → SweepAt → RoundAt
 asked_by_sweep slot g (sweep.Slots id) = Cut id slot
 asked_by_sweep slot g (sweep.Free id) = Free id
@@ -117,12 +117,12 @@ IsLookAt (Cut id slot) = Unit {0}
 IsLookAt (Into «from» slot to) = Unit {0}
 IsLookAt _ = ⊥
 
--- the answer is one to what the green walk asked for behind the sweep
+-- the answer is one to what the green walk asked for after the sweep
 abbrev pub IsGreenAnswer : RoundView → Found → Type 0
 IsGreenAnswer (Sweeping w s slot g) what = (next_of_sweep s ≡ sweep.End) × IsAnswer g (next_of_green g) what
 IsGreenAnswer _ what = ⊥
 
--- the object may be tested at what the green walk asked for behind the sweep
+-- the object may be tested at what the green walk asked for after the sweep
 abbrev pub IsGreenTestable : RoundView → ℕ → Type 0
 IsGreenTestable (Sweeping w s slot g) id = (next_of_sweep s ≡ sweep.End) × IsTestable g (next_of_green g) id
 IsGreenTestable _ id = ⊥
@@ -133,7 +133,7 @@ IsGreenTestable _ id = ⊥
 abbrev pub to_slot : ℕ → Walk → Sweep → ℕ → Greening → RoundView
 to_slot slots w s slot g = if slot == slots then Sweeping w (found s Nothing) 0 g else Sweeping w s slot g
 
--- the sweep is at the next slot of its object, or behind the last one at the first slot of the next object
+-- the sweep is at the next slot of its object, or after the last one at the first slot of the next object
 abbrev pub next_slot : ℕ → Walk → Sweep → ℕ → Greening → RoundView
 next_slot slots w s slot g = to_slot slots w s (slot + 1) g
 
@@ -162,7 +162,7 @@ passed_by_green cells g (Into «from» slot to) = found_by_green g Nothing
 passed_by_green cells g (Out «from» slot) = seen_out cells g (pointer_at cells «from» slot).target
 passed_by_green cells g _ = g
 
--- the sweep, or the green walk behind it, after a look at which there was nothing to do
+-- the sweep, or the green walk after it, after a look at which there was nothing to do
 abbrev pub passed_by_sweep : ℕ → List Cell → Walk → Sweep → ℕ → Greening → SweepAt → RoundView
 passed_by_sweep slots cells w s slot g (sweep.Slots id) = next_slot slots w s slot g
 passed_by_sweep slots cells w s slot g (sweep.Free id) = Sweeping w s slot g
@@ -180,13 +180,13 @@ green_to g slot (TestOf id at) = tested_to g slot
 green_to g slot (Out «from» at) = walked_to g slot
 green_to g slot _ = g
 
--- the sweep, or the green walk behind it, at this slot of the object that is looked at
+-- the sweep, or the green walk after it, at this slot of the object that is looked at
 abbrev pub swept_to : ℕ → Walk → Sweep → ℕ → Greening → ℕ → SweepAt → RoundView
 swept_to slots w s at g slot (sweep.Slots id) = to_slot slots w s slot g
 swept_to slots w s at g slot (sweep.Free id) = Sweeping w s at g
 swept_to slots w s at g slot sweep.End = Sweeping w s at (green_to g slot (asked_by_green g.slots g.test (next_of_green g)))
 
--- the round at this slot of the object that is looked at, or behind the object where it has no such slot
+-- the round at this slot of the object that is looked at, or after the object where it has no such slot
 abbrev pub looked_to : ℕ → RoundView → ℕ → RoundView
 looked_to slots Closed slot = Closed
 looked_to slots (Walking w) slot = Walking (moved_to slots w slot)
@@ -207,7 +207,7 @@ touched_in (Sweeping w s slot g) id = Sweeping w s slot (again g)
 abbrev pub touched_by_record : RoundView → Option CellRecord → RoundView
 touched_by_record r logged = fold touched_in r (objects_touched logged)
 
--- an event of the collector was what came next, and the round goes on behind it
+-- an event of the collector was what came next, and the round goes on after it
 pub data Proceeds (slots ids : ℕ) : RoundView → Act → Option CellRecord → RoundView → Type 0 where
   skip : (id : ℕ) → Proceeds slots ids Closed (act.Skip id) None Closed
   start : (id : ℕ) → Proceeds slots ids Closed (act.Start id) None (Walking (opened ids id))
@@ -243,7 +243,7 @@ pub record IsGreeningOf (slots ids : ℕ) (w : Walk) (s : Sweep) (g : Greening) 
   pub green_slots : g.slots ≡ slots
   pub left : (id : ℕ) → Contains g.live id → Contains w.left id
   pub spared : (id : ℕ) → Contains g.live id → Contains s.list id → ⊥
-  -- tests begin behind the sweep
+  -- tests begin after the sweep
   pub at_rest : next_of_sweep s ≢ sweep.End → g.test ≡ None
 
 -- a walk of the store's ids, a sweep of them, and a green walk of them

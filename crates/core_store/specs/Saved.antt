@@ -28,5 +28,5 @@ pub record AreSaved (cells : List Cell) (s : Sweep) (g : Greening) : Type 0 wher
   pub current : g.current ≡ true → (c : CopiedSlot) → Contains g.copied c → Contains g.live c.id → (pointer_at cells c.id c.slot).target ≡ c.target
   -- where nothing is said to have changed, there is nothing to do at the slots that were passed
   pub walked : g.changed ≡ false → (place slot : ℕ) → WasPassed g.walked g.stage place slot → place < length g.green → slot < g.slots → IsSpent cells g g.stage (pointer_at cells (slice_index_or g.green place 0) slot).target
-  -- the walk begins behind the sweep
+  -- the walk begins after the sweep
   pub early : g.changed ≡ false → next_of_sweep s ≢ End → (g.stage ≡ AtSeed) × (g.walked ≡ 0)

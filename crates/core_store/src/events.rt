@@ -19,7 +19,7 @@ use crate::tables::Tables;
 use crate::three::Three;
 use crate::trace::Trace;
 
-/// Adds the note of an event that was made, behind which the round stands so, and for which there is room. Tells what the event
+/// Adds the note of an event that was made, after which the round stands so, and for which there is room. Tells what the event
 /// did.
 #[inline(always)]
 fn enter<const SLOTS: usize>(event: Event, round: &Round<SLOTS>, trace: &mut Trace) -> Collect

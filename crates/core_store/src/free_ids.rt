@@ -14,13 +14,13 @@ use std::marker::Model;
 
 /// The ids of a store that aren't stored, of all from 1 to a limit.
 ///
-/// A call costs the same however many there are, but for `stored`, and for `remove`, which looks for the least one behind the one
+/// A call costs the same however many there are, but for `stored`, and for `remove`, which looks for the least one after the one
 /// that it takes, up to `last`.
 #[derive(Debug, Drop)]
 pub(crate) struct FreeIds {
     /// For each id, at its index, whether it is free.
     row: Vec<bool>,
-    /// The least free id, or the one behind the limit where none is free.
+    /// The least free id, or the one after the limit where none is free.
     first: u32,
     /// No id above this one is free. It is the greatest of the store at first; once none was free, the greatest that was freed
     /// since then, or 0.
@@ -52,7 +52,7 @@ fn mark_live<const SLOTS: usize>(row: &mut Vec<bool>, cells: &[Cell<SLOTS>])
     }
 }
 
-/// The least id from this one on that the row marks as free, or the one behind the last where it marks none up to that.
+/// The least id from this one on that the row marks as free, or the one after the last where it marks none up to that.
 fn next_free(row: &Vec<bool>, from: u32, last: u32) -> u32
     requires length { last + 1 ≤ length row.now.items }
     requires few { last ≤ 8192 }

@@ -36,7 +36,7 @@ impl<const SLOTS: usize> Tables<SLOTS> {
         }
     }
 
-    /// Makes the looks that come next, over the slots of one object where it is at a slot. Tells the event that comes behind
+    /// Makes the looks that come next, over the slots of one object where it is at a slot. Tells the event that comes after
     /// them, or `None`, and then it has got further. All pages are held.
     #[inline(always)]
     fn look_at(&mut self, held: &Three<SLOTS>, at: RoundAt) -> Option<RoundAt>

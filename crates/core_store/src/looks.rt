@@ -137,7 +137,7 @@ impl<const SLOTS: usize> Tables<SLOTS> {
         }
     }
 
-    /// What is looked at or done next, behind the slots that the held pages show to be null.
+    /// What is looked at or done next, after the slots that the held pages show to be null.
     #[inline(always)]
     fn next_look(&mut self, held: &Three<SLOTS>) -> RoundAt
         requires standing { IsStanding (view_of self.old) held.now }
@@ -179,7 +179,7 @@ impl<const SLOTS: usize> Tables<SLOTS> {
         true
     }
 
-    /// Goes on to this slot of the object that is looked at, or behind the object where it has no such slot.
+    /// Goes on to this slot of the object that is looked at, or after the object where it has no such slot.
     fn look_to(&mut self, at: RoundAt, slot: u8)
         requires at { at ≡ asked (view_of self.old).round }
         requires look { (id : ℕ) × (k : ℕ) × (slot_at at ≡ Some (id, k)) }

@@ -265,7 +265,7 @@ impl<const SLOTS: usize> Round<SLOTS> {
         self.red.scan(id, copy);
     }
 
-    /// The object changed: it is marked as touched, where a verdict is to come and some object was copied, and behind the
+    /// The object changed: it is marked as touched, where a verdict is to come and some object was copied, and after the
     /// verdict the green walk looks again at what it knew.
     pub(crate) fn touch(&mut self, id: u32)
         ensures touched { self.new ≡ record self.old { view = touched_in self.old.view id } }

@@ -29,7 +29,7 @@ pub(crate) struct HeldFrame<const SLOTS: usize> {
 pub struct Three<const SLOTS: usize> {
     /// The frames of the pages from 0 on, if they are all held.
     all: Option<Vec<Frame<SLOTS>>>,
-    /// Those that were put, of which the first so many are held, behind all others.
+    /// Those that were put, of which the first so many are held, after all others.
     frames: [HeldFrame<SLOTS>; MOST],
     count: usize,
 }

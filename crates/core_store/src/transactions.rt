@@ -19,7 +19,7 @@ use std::marker::Model;
 /// The active clients, each with its transaction.
 #[derive(Debug, Drop)]
 pub(crate) struct Transactions {
-    /// The transaction of each client, at its number. The clients behind the last row have none.
+    /// The transaction of each client, at its number. The clients after the last row have none.
     rows: Vec<Option<Transaction>>,
     /// How many clients have one.
     count: usize,

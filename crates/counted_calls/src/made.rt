@@ -85,7 +85,7 @@ pub(crate) fn new_store(alloc: Global) -> Result<(MemoryStore, MemoryPass)>
     }
 }
 
-/// A pass for the client of this number, behind those of the clients before it.
+/// A pass for the client of this number, after those of the clients before it.
 pub(crate) fn share_next<D: Disk>(
     store: &Store<SLOTS, D>,
     main: &mut Pass<SLOTS, D>,

@@ -16,7 +16,7 @@ use std::time::{Duration, Instant};
 pub struct Tally {
     /// The calls of all clients together.
     pub calls: u64,
-    /// The time from before the first one to behind the last one, in microseconds.
+    /// The time from before the first one to after the last one, in microseconds.
     pub micros: u64,
 }
 

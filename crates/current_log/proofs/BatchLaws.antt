@@ -15,7 +15,7 @@ use Rattle.opened_images.proofs.GoesOnLog.{fit_both}
 use Rattle.current_log.specs.Tested.{IsTesting, FitsBody, StopsBody, HasTested, IsTestedLog}
 use Rattle.current_log.proofs.TestLaws.{spelled_both}
 
--- what stands behind batches
+-- what stands after batches
 behind : (batches : List (List ℕ)) (area : List ℕ) (begins : Begins batches area) → drop (length (batches_bytes batches)) area ≡ begins.rest
 behind batches area begins =
     let n = length (batches_bytes batches) in
@@ -117,12 +117,12 @@ tested_end slots pages at v area tested closed short =
       all = omega (arith, tested.so_far);
     }
 
--- no batch stands behind them
+-- no batch stands after them
 pub tested_cut : (slots pages at place : ℕ) (v : Replaying) (area : List ℕ) → HasTested slots pages at v area → IsDamaged at place area → IsDamagedLog slots area place
 tested_cut slots pages at place v area tested damaged =
     no_batch pages tested.batches tested.begins.rest tested.are tested.begins.are (subst (λ (n : ℕ). IsDamaged n place area) tested.so_far damaged)
 
--- in the batch behind them a record doesn't fit
+-- in the batch after them a record doesn't fit
 pub tested_stop : (slots pages at offset place : ℕ) (v : Replaying) (body area : List ℕ) → (tested : HasTested slots pages at v area) → IsBatchAt at body area → length area ≤ most_bytes
     → StopsBody slots pages (unended_behind tested.batches) body offset → place ≡ at + 5 + offset → IsDamagedLog slots area place
 tested_stop slots pages at offset place v body area tested batch short stops is =

@@ -55,7 +55,7 @@ refused_first (Some bytes) slots area (LogDamaged at) damaged = (refl, no_first 
 refused_first (Some bytes) slots area (LogLogFull used) damaged = tt
 refused_first (Some bytes) slots area LogMemory damaged = tt
 
--- a refusal of the batches behind it
+-- a refusal of the batches after it
 pub refused_later : (o : Option (List ℕ)) (slots : ℕ) (area : Area) (e : LogRefusal) → ((place : ℕ) → e ≡ LogDamaged place → IfSome o (λ c. IsDamagedLog slots c place)) → IfSome o (RefusesLogIn slots area (refusal_in area e))
 refused_later None slots area e damaged = tt
 refused_later (Some bytes) slots area LogDisk damaged = tt

@@ -53,7 +53,7 @@ fits_replay slots pages us v r is fits = (
 same_count : (f : ℕ → StoredCell) (n : ℕ) (cells : List StoredCell) → length cells ≡ n → length (map f (range_with_len 0 (length cells))) ≡ n
 same_count f n cells is = length-map (range_with_len 0 (length cells)) f ∙ length-range_with_len 0 (length cells) ∙ is
 
--- it tests on behind a record of single cells
+-- it tests on after a record of single cells
 pub tests_on : (slots pages : ℕ) (us : List (ℕ × Unended)) (v w : Replaying) (r : CellRecord) → IsTesting pages us v → w ≡ after_taking {slots = slots} (OfCells r) v
     → IsTesting pages (unended_by {slots = slots} us (OfCells r)) w
 tests_on slots pages us v w r is are =

@@ -15,14 +15,14 @@ pub record IsTesting (pages : ℕ) (us : List (ℕ × Unended)) (v : Replaying) 
   pub awaits : (page : ℕ) → page < pages → 1 ≤ slice_index v.skips page
   pub unended : v.unended ≡ us
 
--- The bytes begin with a record that fits, which has so many of them, and the replay tests on behind it.
+-- The bytes begin with a record that fits, which has so many of them, and the replay tests on after it.
 pub record FitsFirst (slots pages : ℕ) (us : List (ℕ × Unended)) (bytes : List ℕ) (len : ℕ) (w : Replaying) : Type 0 where
   pub r : Record slots
   pub begins : BeginsWith bytes r len
   pub fits : FitsLog pages us r
   pub testing : IsTesting pages (unended_by us r) w
 
--- The first bytes of the body, so many, are records that fit, and the replay tests on behind them.
+-- The first bytes of the body, so many, are records that fit, and the replay tests on after them.
 pub record FitsFront (slots pages : ℕ) (us : List (ℕ × Unended)) (body : List ℕ) (at : ℕ) (w : Replaying) : Type 0 where
   pub rs : List (Record slots)
   pub spelled : HaveSpellings rs
@@ -31,7 +31,7 @@ pub record FitsFront (slots pages : ℕ) (us : List (ℕ × Unended)) (body : Li
   pub split : body ≡ body_of rs ++ drop at body
   pub testing : IsTesting pages (unended_by_all us rs) w
 
--- The body is records that fit, and the replay tests on behind them.
+-- The body is records that fit, and the replay tests on after them.
 pub record FitsBody (slots pages : ℕ) (us : List (ℕ × Unended)) (body : List ℕ) (w : Replaying) : Type 0 where
   pub rs : List (Record slots)
   pub spelled : HaveSpellings rs
@@ -50,7 +50,7 @@ pub record StopsBody (slots pages : ℕ) (us : List (ℕ × Unended)) (body : Li
   pub none : HasNoNext slots pages (unended_by_all us rs) left
   pub split : body ≡ body_of rs ++ left
 
--- The area begins with batches of a store of so many pages, up to this offset, and the replay tests on behind them.
+-- The area begins with batches of a store of so many pages, up to this offset, and the replay tests on after them.
 pub record HasTested (slots pages at : ℕ) (v : Replaying) (area : List ℕ) : Type 0 where
   pub batches : List (List (Record slots))
   pub are : AreBatches pages batches

@@ -32,7 +32,7 @@ pub struct FoundLog {
     pub len: u64,
 }
 
-/// Where the batch behind the first one begins, which is one `Turn` of four bytes.
+/// Where the batch after the first one begins, which is one `Turn` of four bytes.
 const FIRST_END: u64 = 9;
 
 /// The log area that the super area names, or nothing where the super area is empty: then there is no store.

@@ -34,7 +34,7 @@ fn placeholders<const SLOTS: usize>(
     Ok(held)
 }
 
-/// A replay that tests the records behind the first one of a log, in a store of so many pages. It awaits an image of each page,
+/// A replay that tests the records after the first one of a log, in a store of so many pages. It awaits an image of each page,
 /// and so looks at no cell.
 pub(crate) fn replay_of_tests<const SLOTS: usize>(
     alloc: Global,
@@ -89,7 +89,7 @@ fn test_batch<D: Disk, const SLOTS: usize>(
     }
 }
 
-/// Tests the batches behind the first one, which ends at this offset, up to the closed commit byte. It answers how many bytes there
+/// Tests the batches after the first one, which ends at this offset, up to the closed commit byte. It answers how many bytes there
 /// are up to that byte, which counts. The bodies take the memory of the spare one.
 ///
 /// [`LogRefusal::Damaged`] comes exactly where the area is damaged, and tells the place. [`LogRefusal::Disk`] comes only where the

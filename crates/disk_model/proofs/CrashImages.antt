@@ -136,7 +136,7 @@ write_follows area at bytes outcome image now =
     )
 
 -- ---- a cut
--- the image before: behind its end the synced bytes stand again
+-- the image before: after its end the synced bytes stand again
 longer_byte : List ℕ → List ℕ → ℕ → ℕ
 longer_byte synced image i = cond (ltb i (length image)) (slice_index image i) (slice_index synced i)
 

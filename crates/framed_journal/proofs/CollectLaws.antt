@@ -26,7 +26,7 @@ looks-past_limit slots i j needed l = ap (λ (x : JournalView). is_past_limit x 
 looks-queue : (slots : ℕ) (i j : JournalView) → OnlyLooks slots i j → j.queue ≡ i.queue
 looks-queue slots i j l = ap (λ (x : JournalView). x.queue) l.same
 
--- no round is open behind looks where none was before, and none was before where none is behind
+-- no round is open after looks where none was before, and none was before where none is after
 closed-alike : (u v : RoundView) → round_of u ≡ round_of v → v ≡ Closed → u ≡ Closed
 closed-alike Closed v same e = refl
 closed-alike (Walking w) v same e = absurd (let none : round_of (Walking w) ≡ None = same ∙ ap round_of e in cc)
@@ -35,7 +35,7 @@ closed-alike (Sweeping w s slot g) v same e = absurd (let none : round_of (Sweep
 looks-round : (slots : ℕ) (i j : JournalView) → OnlyLooks slots i j → round_of j.round ≡ round_of i.round
 looks-round slots i j l = ap (λ (c : Core). c.round) l.core
 
--- where the collector is idle behind its looks it was idle before, and looked at nothing
+-- where the collector is idle after its looks it was idle before, and looked at nothing
 idle-before : (slots : ℕ) (i j : JournalView) (r : Collect) → OnlyLooks slots i j → (r ≡ Idle) ↔ (is_past_limit j 1 ≡ false) × (j.queue ≡ []) × (j.round ≡ Closed) → (r ≡ Idle) ↔ (is_past_limit i 1 ≡ false) × (i.queue ≡ []) × (i.round ≡ Closed)
 idle-before slots i j r l idle = (
   λ e. let h = idle.0 e in (sym (looks-past_limit slots i j 1 l) ∙ h.0, sym (looks-queue slots i j l) ∙ h.1, closed-alike i.round j.round (sym (looks-round slots i j l)) h.2),
@@ -68,7 +68,7 @@ opening-before slots i j k l start = (start.0 ∙ ap (λ (x : JournalView). x.op
 
 -- ---- the log, from the value before the looks on
 
--- a step behind the looks is a step of the collector on frames
+-- a step after the looks is a step of the collector on frames
 collects-on_frames : (slots : ℕ) (i j k : JournalView) (step : Collect) → OnlyLooks slots i j → DoesCollect slots j k step → CollectsOnFrames slots i k step
 collects-on_frames slots i j k step l does = record {
   full = full-before slots i j step l does.full;

@@ -53,7 +53,7 @@ smaller-put {slots} j k held new h left room added =
     (λ l. omega (arith, l, less))
     left
 
--- frames are let go only behind a look
+-- frames are let go only after a look
 pub smaller-let_go : {slots : ℕ} (j k : JournalView) (held new : List (HeldFrame slots)) → (k.round ≡ j.round) ⊎ (left_of slots k.round < left_of slots j.round) → k ≡ record j { round = k.round } → want_of (pages_for_collector j) (pages_held held) ≢ LetGo → LetGo ≡ want_of (pages_for_collector k) (pages_held held) → left_of slots k.round * 4 + (3 - length new) < left_of slots j.round * 4 + (3 - length held)
 smaller-let_go {slots} j k held new left e kept go =
     ⊎_elim

@@ -1,4 +1,4 @@
--- Upkeep changes no cell, so the frames are the store's pages also behind it.
+-- Upkeep changes no cell, so the frames are the store's pages also after it.
 use Rattle.std.proofs.Common.{◌≡◌, ◌⊎◌, ℕ, ◌*◌, ◌<◌, List, [], ◌∷◌, ◌++◌, Option, Some, None, IsSome, length, get_or, refl, sym, ap, ◌∙◌, subst}
 use Rattle.std.specs.Prelude.{IfSome, true}
 use Rattle.std.proofs.lemmas.List.{map-append}

@@ -1,4 +1,4 @@
--- The collector's looks with the event behind them, and all steps of an abort.
+-- The collector's looks with the event after them, and all steps of an abort.
 use Rattle.std.specs.Prelude.{◌≡◌, ◌↔◌, ℕ, suc, ◌<◌, ◌++◌, [], true, false, Option, Some, option_map, replicate}
 use Rattle.plain_model.specs.declared.calls.Call.TheVariants.{Abort}
 use Rattle.plain_model.specs.declared.calls.Reply.TheVariants.{Done}

@@ -67,7 +67,7 @@ impl<const SLOTS: usize, D: Disk> Model for FramedJournal<SLOTS, D> {
 impl<const SLOTS: usize, D: Disk> FramedJournal<SLOTS, D> {
     /// The store that opens with these frames, one for each page from 0 on, on a disk on which its log stands: the pages
     /// and the log are what it opened to, and its log tells of no transaction that hasn't ended. In it no transaction is
-    /// active, and the log goes on behind what it has. Where there is no memory the disk is handed back.
+    /// active, and the log goes on after what it has. Where there is no memory the disk is handed back.
     pub fn resume(
         alloc: Global,
         disk: D,

@@ -1,4 +1,4 @@
-//! Which frames are held before a call, and how they are put back behind it.
+//! Which frames are held before a call, and how they are put back after it.
 ghost use Rattle.std.specs.Prelude.{◌≡◌, ◌≢◌, ◌⊎◌, ◌↔◌, ℕ, ◌*◌, ◌<◌, ◌≤◌, [], length, true, None, IfSome};
 ghost use Rattle.std.specs.List.{AllByRecursion};
 ghost use Rattle.plain_model.specs.Machine.{IsInRange, transaction_of};

@@ -57,7 +57,7 @@ abbrev pub forced : LogState → LogState
 forced s = record s { durable = s.durable + batch_length s.tail; tail = [] }
 
 -- a log area after a tail was forced at this offset: its batch stands there, and a closed commit byte of zero
--- behind it; an empty tail changes nothing
+-- after it; an empty tail changes nothing
 abbrev pub forced_area : ℕ → List ℕ → List ℕ → List ℕ
 forced_area at [] area = area
 forced_area at (byte ∷ more) area = written at (batch_bytes (byte ∷ more) ++ 0 ∷ []) area

@@ -1,4 +1,4 @@
--- Words that clap refuses and that ask nothing, and words that it takes: from the words behind a word to all of them.
+-- Words that clap refuses and that ask nothing, and words that it takes: from the words after a word to all of them.
 use Rattle.std.proofs.Common.{◌≡◌, ◌∙◌, ◌⊎◌, inl, inr, ap, refl, sym, subst, true, List, [], ◌∷◌, Option, Some, None, option_map, unwrap_or}
 use Rattle.clap.specs.Words.{Text}
 use Rattle.clap.specs.Walk.{Walk}
@@ -27,7 +27,7 @@ pub record Takes (w : Walk) (awaited : Option Text) (words : List Text) (f : Fie
 abbrev pub Decided : Walk → Option Text → List Text → Fields → Type 0
 Decided w awaited words f = Refuses w awaited words f ⊎ Takes w awaited words f
 
--- ---- from the words behind to the words
+-- ---- from the words after to the words
 
 pub pass-on : (w v : Walk) (a b : Option Text) (words rest : List Text) (f : Fields) → total w words ≡ total v rest → end_rows w words ≡ end_rows v rest → options_of a words ≡ options_of b rest
     → Decided v b rest f → Decided w a words f

@@ -1,4 +1,4 @@
--- What clap does behind the last word: each of the three options has to be there.
+-- What clap does after the last word: each of the three options has to be there.
 use Rattle.std.proofs.Common.{◌≡◌, ◌∙◌, ap, refl, Bool, true, false, ◌||◌, not, if◌then◌else◌, List, [], ◌∷◌, None, is_some}
 use Rattle.clap.specs.Words.{Row}
 use Rattle.clap.specs.Walk.{finished, has_row, settled_rows, with_default}

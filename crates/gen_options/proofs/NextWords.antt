@@ -1,4 +1,4 @@
--- What is decided by the next word, where it is decided for the words behind it.
+-- What is decided by the next word, where it is decided for the words after it.
 use Rattle.std.proofs.Common.{◌≡◌, ◌∙◌, inl, ap, refl, sym, subst, ℕ, Bool, true, false, ◌==◌, List, [], ◌∷◌, Option, Some, None, codes}
 use Rattle.std.specs.List.{before_first, after_first, list_any}
 use Rattle.clap.specs.Words.{Row, Text}
@@ -105,7 +105,7 @@ module _ (words : List Text) (rec : (stage : Stage) (rows : List Row) (f : Field
   other-next : (word : Text) (rows : List Row) (pending : Pending) (f : Fields) → IsOther word → Fails (turn (at idle false rows pending) word) → Decided (walk_at (between pending) rows) None (word ∷ words) f
   other-next word rows pending f o fails = inl (record { fails = total-fails (at idle false rows pending) word words fails; asks = other-asks word words f o })
 
-  -- ---- a word behind an option's name
+  -- ---- a word after an option's name
 
   value-asks : (n : Name) (value : Text) (f : Fields) → ((more : List Given) → ask f ((word_of n, value) ∷ more) ≡ None) → (more : List Given) → options_of (Some (word_of n)) (value ∷ words) ≡ Some more → ask f more ≡ None
   value-asks n value f h = asks-none (word_of n, value) f (options_of None words) (options_of (Some (word_of n)) (value ∷ words)) refl (λ more e. h more)

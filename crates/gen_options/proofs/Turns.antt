@@ -1,4 +1,4 @@
--- What clap makes of one word, between two options and behind the name of one.
+-- What clap makes of one word, between two options and after the name of one.
 use Rattle.std.proofs.Common.{◌≡◌, ◌∙◌, ap, ap₂, refl, sym, ℕ, Bool, true, false, ◌==◌, if◌then◌else◌, List, [], ◌∷◌, length, Option, Some, None, codes, bytes_eq, slice_get, chars, fold}
 use Rattle.std.proofs.lemmas.Slice.Eq.{bytes_eq-Decides}
 use Rattle.std.specs.List.{before_first, after_first, list_any}
@@ -90,7 +90,7 @@ pub end-fails : (w : Walk) → Fails (settle_fault rules false w.held) → Fails
 unfolding walk_fault
 end-fails w h = first-fails (settle_fault rules false w.held) _ h
 
--- ---- behind `--`
+-- ---- after `--`
 
 pub trailing-fails : (waiting : Waiting) (rows : List Row) (pending : Pending) (word : Text) → Fails (turn (at waiting true rows pending) word)
 trailing-fails waiting rows pending word = some-fails UnknownArgument []
@@ -224,7 +224,7 @@ flag_turn waiting word flags rest o h = or_else (bundle_step_fault rules false o
 abbrev flag_walk : Waiting → Text → Text → Text → Option ℕ → List Row → Pending → Walk
 flag_walk waiting word flags rest o rows pending = after_step rules word (at waiting false rows pending) (flag_met waiting word flags rest o (held rows pending)).0 (flag_met waiting word flags rest o (held rows pending)).1
 
--- the first character behind the hyphen, where the text has one
+-- the first character after the hyphen, where the text has one
 abbrev pub flag_of : ℕ → Text → Option ℕ
 flag_of x xs = slice_get (chars (x ∷ xs)) 0
 
@@ -270,7 +270,7 @@ short-walk waiting rows pending x xs e o =
     ∙ ap (λ (s : Option Text). word_walk waiting (45 ∷ x ∷ xs) s rows pending) (short-is x xs e)
     ∙ flags-walk waiting (45 ∷ x ∷ xs) x xs rows pending
 
--- a hyphen with a character behind it is no option of the command
+-- a hyphen with a character after it is no option of the command
 flag-fails : (waiting : Waiting) (word flags rest : Text) (c : ℕ) (h : Held) → Fails (flag_turn waiting word flags rest (Some c) h)
 flag-fails waiting word flags rest c h = some-fails UnknownArgument _
 
@@ -287,7 +287,7 @@ flag-word-fails waiting rows pending x xs c e other f =
     (short-turn waiting rows pending x xs e other ∙ ap (λ (o : Option ℕ). flag_turn waiting (45 ∷ x ∷ xs) (x ∷ xs) xs o (held rows pending)) f)
     (flag-fails waiting (45 ∷ x ∷ xs) (x ∷ xs) xs c (held rows pending))
 
--- ---- the value behind an option's name
+-- ---- the value after an option's name
 
 pub pending-fails : (n : Name) (rows : List Row) → Fails (settle_fault rules false (held rows (Some (id_of n, []))))
 pending-fails of_seed rows = no-value of_seed rows

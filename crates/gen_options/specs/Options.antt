@@ -1,4 +1,4 @@
--- What the words behind `gen` ask: three options, each given once with its value, as `--NAME VALUE` or `--NAME=VALUE`, in any
+-- What the words after `gen` ask: three options, each given once with its value, as `--NAME VALUE` or `--NAME=VALUE`, in any
 -- order. A last `--` may end them.
 use Rattle.std.specs.Prelude.{ℕ, ◌*◌, ◌==◌, ◌||◌, Bool, nat_le, if◌then◌else◌, List, [], ◌∷◌, map, Option, Some, None, option_and_then, option_map, bytes_eq, codes}
 use Rattle.std.specs.List.{list_any, list_all, filter, before_first, after_first}
@@ -15,7 +15,7 @@ Given = List ℕ × List ℕ
 abbrev pub is_equals : ℕ → Bool
 is_equals byte = byte == 61
 
--- a word with `=` is an option with its value behind the first one
+-- a word with `=` is an option with its value after the first one
 abbrev pub split : List ℕ → Given
 split word = (before_first is_equals word, after_first is_equals word)
 
@@ -23,8 +23,8 @@ abbrev pub none_behind : List (List ℕ) → Option (List Given)
 none_behind [] = Some []
 none_behind (word ∷ words) = None
 
--- the options that the words give. A word without `=` is the name of one, and the word behind it is its value, whatever that is;
--- behind `--` none may stand
+-- the options that the words give. A word without `=` is the name of one, and the word after it is its value, whatever that is;
+-- after `--` none may stand
 abbrev pub options_of : Option (List ℕ) → List (List ℕ) → Option (List Given)
 options_of None [] = Some []
 options_of None (word ∷ words) =
@@ -63,6 +63,6 @@ asked_for seed clients transactions = asked_with (option_and_then seed_of seed) 
 abbrev pub asked_by : List Given → Option Asked
 asked_by options = if list_all (λ o. is_name o.0) options then asked_for (only (values_of (codes "--seed") options)) (only (values_of (codes "--clients") options)) (only (values_of (codes "--txns") options)) else None
 
--- what the words behind `gen` ask, where they ask something
+-- what the words after `gen` ask, where they ask something
 abbrev pub asked_of : List (List ℕ) → Option Asked
 asked_of words = option_and_then asked_by (options_of None words)

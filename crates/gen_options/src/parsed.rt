@@ -18,7 +18,7 @@ fn option<'a>(alloc: Global, name: &'a str) -> Arg<'a>
         .action(ArgAction::Set)
 }
 
-/// The command, of which the words begin behind its name.
+/// The command, of which the words begin after its name.
 fn gen_command<'a>(alloc: Global) -> Result<Command<'a>, AllocError>
     ensures { IfOk result (λ c. app_of c ≡ gen_app) }
 {

@@ -37,7 +37,7 @@ fn asked_in(matches: &ArgMatches<'_>) -> Option<Asked>
     Some(asked)
 }
 
-/// What the words behind `gen` ask, where they have a reading. `Err` is want of memory.
+/// What the words after `gen` ask, where they have a reading. `Err` is want of memory.
 pub fn asked_of(alloc: Global, words: &[String]) -> Result<Option<Asked>, AllocError>
     ensures value { IfOk result (λ asked. asked ≡ asked_of (map string_bytes words.now)) }
 {

@@ -103,7 +103,7 @@ pub next-head : (g : Greening) (flipped rest place : ℕ) (s : CopiedSlot) → g
 next-head g flipped rest place s at h l there =
     next-some g flipped (drop rest g.copied) s (head-first g flipped rest place s h l there) ∙ ap next (sym (at-stage g (AtInto flipped (drop rest g.copied)) at))
 
--- behind the last green object the next seed comes
+-- after the last green object the next seed comes
 pub out-behind : (green seeds : List ℕ) (place slot done : ℕ) (at : GreenAt) → at ≡ first_seed (drop (done + 1) seeds) → length green ≤ place
     → at ≡ (if nat_lt place (length green) then Out (get_or green place 0) slot else first_seed (drop 1 (drop done seeds)))
 out-behind green seeds place slot done at e l =

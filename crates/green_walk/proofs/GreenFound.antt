@@ -42,7 +42,7 @@ seed-settled-at g (AtOut place slot) e = absurd (cc)
 pub seed-settled : (g : Greening) → g.stage ≡ AtSeed → settled g ≡ g
 seed-settled g e = seed-settled-at g g.stage e
 
--- a slot of an object is there, and behind all of them is the next object
+-- a slot of an object is there, and after all of them is the next object
 pub gone-on : (g : Greening) (place slot : ℕ) → slot ≡ g.slots → (moved_to g place slot).stage ≡ AtOut (place + 1) 0
 gone-on g place slot e = ap (λ b. if b then AtOut (place + 1) 0 else AtOut place slot) (eq-eqb slot g.slots e)
 
@@ -106,7 +106,7 @@ module _ (slots limit : ℕ) (seeds : Ids) (done : ℕ) (live green : Ids) (at :
   pub made-out-within : (seen : Greening) (place slot : ℕ) (what : Found) (id : ℕ) → given ≡ seen → what ≡ Made id → IsAnswer seen (asked_at seen (AtOut place slot)) what → (1 ≤ id) × (id ≤ limit)
   made-out-within seen place slot what id e f a = waiting-within given id k.sound (seen-answer seen (λ v. asked_at v (AtOut place slot)) what (Made id) e f a)
 
-  -- the walk of green objects goes on here, at a slot of the object at this place or behind the object
+  -- the walk of green objects goes on here, at a slot of the object at this place or after the object
   abbrev IsMovedTo : ℕ → ℕ → Stage → Type 0
   IsMovedTo place slot after = (p : ℕ) × (q : ℕ) × (after ≡ stage.Out p q) × ((moved_to given place slot).stage ≡ AtOut p q)
 
@@ -116,7 +116,7 @@ module _ (slots limit : ℕ) (seeds : Ids) (done : ℕ) (live green : Ids) (at :
   pub goes-within : (place slot : ℕ) (after : Stage) → slot ≢ slots → after ≡ stage.Out place slot → IsMovedTo place slot after
   goes-within place slot after n a = (place, slot, a, gone-within given place slot n)
 
-  -- behind a slot
+  -- after a slot
   abbrev IsMoved : ℕ → ℕ → Stage → Type 0
   IsMoved place slot after = IsMovedTo place (slot + 1) after
 
@@ -144,14 +144,14 @@ module _ (slots limit : ℕ) (seeds : Ids) (done : ℕ) (live green : Ids) (at :
         sound = moves;
       })
 
-  -- behind a slot whose pointer was made strong
+  -- after a slot whose pointer was made strong
   pub made-out-in-step : (seen : Greening) (place slot : ℕ) (what : Found) (id : ℕ) (now : Ids) (after : Stage) → given ≡ seen → seen.stage ≡ AtOut place slot → settled seen ≡ seen → IsAnswer seen (asked_at seen (AtOut place slot)) what
       → what ≡ Made id → now ≡ record green { ids = green.ids ++ id ∷ [] } → IsMoved place slot after → AreInStep slots limit seeds done live now after None walked changed current copied
   made-out-in-step seen place slot what id now after v at s answer w e m =
       out-in-step seen place slot what now after v at s answer (ap (λ (n : Ids). n.limit) e)
       (ap (found_at_out given place slot) w ∙ sym (ap (λ (n : Ids). record (moved given place slot) { green = n.ids }) e)) m
 
-  -- behind any other slot
+  -- after any other slot
   pub passed-out-in-step : (seen : Greening) (place slot : ℕ) (what : Found) (after : Stage) → given ≡ seen → seen.stage ≡ AtOut place slot → settled seen ≡ seen → IsAnswer seen (asked_at seen (AtOut place slot)) what
       → ((id : ℕ) → what ≡ Made id → ⊥) → IsMoved place slot after → AreInStep slots limit seeds done live green after None walked changed current copied
   passed-out-in-step seen place slot what after v at s answer n m = out-in-step seen place slot what green after v at s answer refl (moved-only given place slot what n) m

@@ -53,7 +53,7 @@ found-first P s rest e = ap (λ b. if b then Some s else first_with P rest) e
 pub passed-behind : (P : CopiedSlot → Bool) (s : CopiedSlot) (rest : List CopiedSlot) → P s ≡ false → behind_first P (s ∷ rest) ≡ behind_first P rest
 passed-behind P s rest e = ap (λ b. if b then rest else behind_first P rest) e
 
--- what passes over each slot without the property is the same behind such slots
+-- what passes over each slot without the property is the same after such slots
 skip-some : {X : Type 0} (P : CopiedSlot → Bool) (F : List CopiedSlot → X) → ((s : CopiedSlot) (rest : List CopiedSlot) → P s ≡ false → F (s ∷ rest) ≡ F rest)
     → (slots : List CopiedSlot) (n rest : ℕ) → rest + n ≤ length slots → ((k : ℕ) (d : CopiedSlot) → rest ≤ k → k < rest + n → P (get_or slots k d) ≡ true → ⊥) → F (drop rest slots) ≡ F (drop (rest + n) slots)
 skip-some P F pass slots zero rest l none = let same : rest ≡ rest + 0 = omega arith in ap (λ m. F (drop m slots)) same

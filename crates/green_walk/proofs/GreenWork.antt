@@ -40,7 +40,7 @@ one-less all at each l =
 pub no-more : (all at each : ℕ) → (all - at) * each ≤ all * each
 no-more all at each = mul-le (all - at) each all each (omega arith) (omega arith)
 
--- the seed in hand and those behind it
+-- the seed in hand and those after it
 pub seeds-more : (seeds : List ℕ) (each : ℕ) → 0 < length seeds → length seeds * each ≡ length (drop 1 seeds) * each + each
 seeds-more [] each l = absurd (omega (arith, l))
 seeds-more (seed ∷ seeds) each l = let e = one-more (length seeds) each in omega (arith, e)

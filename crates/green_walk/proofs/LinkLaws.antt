@@ -5,7 +5,7 @@ use Rattle.std.proofs.lemmas.List.{get_or-set_same, get_or-set_other}
 use Rattle.green_walk.specs.declared.copied_slots.CopiedSlot.{CopiedSlot}
 use Rattle.green_walk.specs.Linked.{IsNextNaming, AreLinked, target_at}
 
--- behind the last slot nothing is to be linked
+-- after the last slot nothing is to be linked
 pub linked-end : (slots : List CopiedSlot) (n limit : ℕ) (first next : List ℕ) → length slots ≤ n → AreLinked slots n limit first next
 linked-end slots n limit first next l = record {
   firsts = λ k f w z s. absurd (omega arith);

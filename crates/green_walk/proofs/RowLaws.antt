@@ -17,7 +17,7 @@ use Rattle.green_walk.proofs.CopiedLaws.{length-numbered, numbered-within}
 pub first-in : {X : Type 0} (x : X) (xs : List X) → Contains (x ∷ xs) x
 first-in x xs = (0, omega arith, refl)
 
--- the rows behind the first one
+-- the rows after the first one
 pub rows-behind : (slots : ℕ) (row : List ℕ) (rows : List (List ℕ)) → AreRowsOf slots (row ∷ rows) → AreRowsOf slots rows
 rows-behind slots row rows long r m = long r (Contains-later row rows r m)
 

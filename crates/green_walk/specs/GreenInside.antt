@@ -49,7 +49,7 @@ pub record AreInStep (slots limit : ℕ) (seeds : Ids) (done : ℕ) (live green 
   pub sound : IsGreening (greening_of slots limit seeds.ids done live.ids green.ids at test walked changed current copied.slots)
 
 -- the slots from one place on and those from another one on have the same first slot that may lead to the flipped object, and the
--- same slots behind it; at the second place it is that one, or the end
+-- same slots after it; at the second place it is that one, or the end
 pub record IsHead (g : Greening) (flipped rest place : ℕ) : Type 0 where
   pub within : place ≤ length g.copied
   pub behind : place < length g.copied → rest ≤ place

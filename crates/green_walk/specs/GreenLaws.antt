@@ -67,7 +67,7 @@ TestLaw = (g : Greening) (t : Test) → IsGreening g → g.test ≡ Some t → I
 
 -- ---- how much is left
 
--- what a green walk over so many objects takes at most: each of them is a seed, and behind each all slots are looked at and
+-- what a green walk over so many objects takes at most: each of them is a seed, and after each all slots are looked at and
 -- walked, with a test at each
 abbrev pub most_work : ℕ → ℕ → ℕ
 most_work slots objects = objects * ((slots + 3) + (objects * slots + 2) + (objects * slots) * (slots + 2))

@@ -78,7 +78,7 @@ idle slots limit =
       limit = limit;
     }
 
--- the walk begins behind the verdict
+-- the walk begins after the verdict
 abbrev pub started : ℕ → Judged → Walk → Greening
 started slots j w =
     record {
@@ -106,7 +106,7 @@ waits g id = has g.live id && not (has g.green id)
 abbrev pub may_lead_to : Greening → ℕ → CopiedSlot → Bool
 may_lead_to g flipped s = waits g s.id && (not g.current || (s.target == flipped))
 
--- the first slot with the property, and the slots behind it
+-- the first slot with the property, and the slots after it
 abbrev pub first_with : (CopiedSlot → Bool) → List CopiedSlot → Option CopiedSlot
 first_with P [] = None
 first_with P (s ∷ rest) = if P s then Some s else first_with P rest
@@ -178,7 +178,7 @@ greened g id = record g { green = g.green ++ id ∷ [] }
 abbrev pub moved_to : Greening → ℕ → ℕ → Greening
 moved_to g place slot = record g { stage = if slot == g.slots then AtOut (place + 1) 0 else AtOut place slot; test = None }
 
--- it is behind this slot
+-- it is after this slot
 abbrev pub moved : Greening → ℕ → ℕ → Greening
 moved g place slot = moved_to g place (slot + 1)
 
@@ -240,7 +240,7 @@ IsTestable g _ id = ⊥
 abbrev pub testing : Greening → ℕ → Greening
 testing g id = record (settled g) { test = Some (record { id = id; slot = 0 }) }
 
--- the test goes on behind the slot that was looked at
+-- the test goes on after the slot that was looked at
 abbrev pub next_of_test : Test → Test
 next_of_test t = record t { slot = t.slot + 1 }
 
@@ -269,7 +269,7 @@ again g = record g { test = None; changed = true; current = false }
 abbrev pub walk_work : Greening → ℕ
 walk_work g = (length g.live * g.slots) * (g.slots + 2)
 
--- what a seed takes at most: its test and its flip, the looks at the slots that may lead to it, and the walk behind it
+-- what a seed takes at most: its test and its flip, the looks at the slots that may lead to it, and the walk after it
 abbrev pub seed_work : Greening → ℕ
 seed_work g = (g.slots + 3) + (length g.copied + 2) + walk_work g
 

@@ -131,7 +131,7 @@ fn first_from<const SLOTS: usize>(rows: &[[u32; SLOTS]], first: &[u32], from: us
     }
 }
 
-/// Links one slot, where those behind it are linked. A null one has no link.
+/// Links one slot, where those after it are linked. A null one has no link.
 #[inline(always)]
 fn link<const SLOTS: usize>(
     rows: &[[u32; SLOTS]],
@@ -160,7 +160,7 @@ fn link<const SLOTS: usize>(
     }
 }
 
-/// Links the slots of one object, from the last one on, where those of the objects behind it are linked.
+/// Links the slots of one object, from the last one on, where those of the objects after it are linked.
 #[inline(always)]
 fn link_object<const SLOTS: usize>(
     rows: &[[u32; SLOTS]],

@@ -207,7 +207,7 @@ impl<const SLOTS: usize> Green<SLOTS> {
         self.test
     }
 
-    /// The green objects are walked, behind the seed in hand.
+    /// The green objects are walked, after the seed in hand.
     fn walk(&mut self)
         requires some { 0 < length self.old.seeds }
         ensures walking { self.new ≡ walking self.old }
@@ -221,7 +221,7 @@ impl<const SLOTS: usize> Green<SLOTS> {
         self.changed = false;
     }
 
-    /// The walk behind a flip begins where no slot is left that may lead to the flipped object.
+    /// The walk after a flip begins where no slot is left that may lead to the flipped object.
     fn settle_into(&mut self)
         ensures settled { self.new ≡ settled_into self.old }
         ensures sound { IsGreening self.new }
@@ -324,7 +324,7 @@ impl<const SLOTS: usize> Green<SLOTS> {
         }
     }
 
-    /// Goes on behind the first slot that may lead to the flipped object.
+    /// Goes on after the first slot that may lead to the flipped object.
     fn found_into(&mut self, flipped: u32, rest: usize, named: usize)
         requires at { self.old.stage ≡ AtInto flipped (drop rest self.old.copied) }
         requires settled { settled self.old ≡ self.old }

@@ -41,7 +41,7 @@ pub struct Test {
     pub slot: u8,
 }
 
-/// The first seed behind so many that are done, or the end.
+/// The first seed after so many that are done, or the end.
 pub(crate) fn seed_after(seeds: &[u32], done: usize) -> GreenAt
     ensures { result ≡ first_seed (drop done seeds.now) }
 {

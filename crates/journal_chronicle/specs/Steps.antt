@@ -43,7 +43,7 @@ log_mark = (false, false, true)
 abbrev pub marks_with : Flags → ℕ → Marks
 marks_with f n = (if f.0 then Some n else None, f.1, f.2)
 
--- the disk's count of faults behind the call that it failed, or 0
+-- the disk's count of faults after the call that it failed, or 0
 abbrev pub count_kept : {D : Type 0} → LoggedView D → ℕ
 count_kept v = unwrap_or (count_failed v) 0
 

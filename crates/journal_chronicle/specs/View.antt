@@ -29,7 +29,7 @@ pub record Origin : Type 0 where
 abbrev pub origin_of : {D : Type 0} → LoggedView D → Origin
 origin_of v = record { limits = v.journal.limits; opening = v.journal.opening; ids = v.journal.history.ids; faults = v.opened }
 
--- the note of a commit that the disk failed, behind these notes: it logs nothing, and leaves of the round what they tell
+-- the note of a commit that the disk failed, after these notes: it logs nothing, and leaves of the round what they tell
 abbrev pub failed_note : List Note → ℕ → Note
 failed_note notes client = record { entry = Call client Commit DiskFault; logged = None; left = last_left notes; act = Other }
 
@@ -37,7 +37,7 @@ failed_note notes client = record { entry = Call client Commit DiskFault; logged
 abbrev pub notes_of : {D : Type 0} → LoggedView D → List Note
 notes_of v = v.journal.notes ++ option_map_or (λ client. failed_note v.journal.notes client ∷ []) (failed_commit v) []
 
--- the disk's count of faults behind the call that it failed, if it failed one
+-- the disk's count of faults after the call that it failed, if it failed one
 abbrev pub count_failed : {D : Type 0} → LoggedView D → Option ℕ
 count_failed v = option_map (λ f. f.faults) v.failed
 

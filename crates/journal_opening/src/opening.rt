@@ -59,7 +59,7 @@ fn open_frames<D: Disk, const SLOTS: usize>(
 /// cells. Nothing is written where what the disk reads does not open, whatever is answered. [`OpenRefusal::Disk`] comes only
 /// where the disk's count of faults rose in this call, and at each other answer that count is as before.
 /// [`OpenRefusal::LogFull`] comes exactly where the store opens but its log has no room for the batch of the undo, and for two
-/// commit bytes and a length behind it. [`OpenRefusal::Memory`] comes for want of memory.
+/// commit bytes and a length after it. [`OpenRefusal::Memory`] comes for want of memory.
 ///
 /// The log area that the super area names gets the batch of the undo, where there is something to undo, and the pages area
 /// may become longer. The super area and the other log area stay as they were, at each moment.

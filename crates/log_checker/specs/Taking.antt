@@ -23,6 +23,6 @@ pub record IsBeside (v : Replaying) (t : Tallying) (records : RecordRun) : Type 
   pub sized : length t.cells ≡ 8 * length v.skips + 1
   pub room : t.commits + length records.bytes < 2 ^ 32
 
--- whatever records a tally told of, it tells of those of the batch behind them
+-- whatever records a tally told of, it tells of those of the batch after them
 abbrev pub TellsMore : {slots : ℕ} → List (Record slots) → Tallying → Tallying → Type 0
 TellsMore {slots} rs t u = (base : List Cell) (before : List (Record slots)) → Tells base before t → Tells base (before ++ rs) u

@@ -22,7 +22,7 @@ ok_more (Err e) P Q more is = is
 
 -- ---- what was written
 
--- only nothing has nothing behind it
+-- only nothing has nothing after it
 empty : (a b : List ℕ) → a ++ b ≡ [] → a ≡ []
 empty [] b e = refl
 empty (x ∷ a) b e = absurd (cc e)
@@ -36,7 +36,7 @@ front_of_more old new piece more whole is cut =
       λ none. cut.2 (empty cut.0 more none),
     )
 
--- behind what was written
+-- after what was written
 pub front_behind : (old mid new : Option (List ℕ)) (text piece : List ℕ) → ((a b : List ℕ) → Appends old mid a → Appends mid new b → Appends old new (a ++ b)) → Appends old mid text
     → AppendsFront mid new piece → AppendsFront old new (text ++ piece)
 front_behind old mid new text piece both first cut =

@@ -112,7 +112,7 @@ no_record_there {slots} known log p size some fits most none whole gives =
 pub at_end : (slots : ℕ) (log : List ℕ) (at : ℕ) → slice_index log at ≢ 1 → PrintsAll slots log (record { at = at; end = at }) []
 at_end slots log at shut whole gives = gives.2 ∙ ap (λ (l : List (ℕ × Record slots)). lines_of l) (ends_there log gives.0 (record { at = at; end = at }) refl shut gives.1)
 
--- a batch behind an open one
+-- a batch after an open one
 pub into_batch : (slots : ℕ) (log : List ℕ) (at size : ℕ) → slice_index log at ≡ 1 → size < 2 ^ 32 → to_be_bytes w32 size ≡ take 4 (drop (at + 1) log)
     → PrintsTo slots log (record { at = at; end = at }) (record { at = at + 5; end = at + 5 + size }) []
 into_batch slots log at size opened typed spelled whole gives = (
@@ -142,7 +142,7 @@ no_body slots log at size len long opened typed spelled short whole gives =
 pub no_log : (slots len : ℕ) (area : List ℕ) (p : Place) → len ≡ 0 → IsNoPlace slots (take len area) p
 no_log slots len area p none whole gives = let within = left_within (take len area) gives.0 p gives.1 in omega (arith, within.1, length-take len area, none)
 
--- ---- steps one behind another
+-- ---- steps one after another
 
 pub goes_nowhere : (slots : ℕ) (log : List ℕ) (p : Place) → PrintsTo slots log p p []
 goes_nowhere slots log p whole gives = (whole, refl, gives)

@@ -14,7 +14,7 @@ first_place = record { at = 0; end = 0 }
 abbrev pub place_of : Span → Place
 place_of s = record { at = s.at; end = s.end }
 
--- The text that the log has from the first place on is this one, and behind it the text that it has from the second one on.
+-- The text that the log has from the first place on is this one, and after it the text that it has from the second one on.
 abbrev pub PrintsTo : (slots : ℕ) → List ℕ → Place → Place → List ℕ → Type 0
 PrintsTo slots log p q text = (whole : List ℕ) → GivesText slots log whole p → (rest : List ℕ) × (whole ≡ text ++ rest) × GivesText slots log rest q
 

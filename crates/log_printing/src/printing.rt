@@ -43,7 +43,7 @@ fn damaged(area: Area, at: u64) -> OpenRefusal
 ///
 /// [`PrintRefusal::Unread`] has the refusal of [`find_log`], and nothing was written then. Where it is [`OpenRefusal::Disk`], some
 /// front of the text may have been. Where the disk doesn't tell what it reads, its bytes may have changed since they were tested: then
-/// [`OpenRefusal::Damaged`] comes behind some lines. [`PrintRefusal::Write`] comes only where the sink's count of faults rose in this
+/// [`OpenRefusal::Damaged`] comes after some lines. [`PrintRefusal::Write`] comes only where the sink's count of faults rose in this
 /// call, and the disk's refusal only where the disk's count did.
 pub fn print_log<D: Disk, W: Sink, const SLOTS: usize>(
     alloc: Global,

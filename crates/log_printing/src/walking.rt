@@ -132,7 +132,7 @@ fn print_record<D: Disk, W: Sink, const SLOTS: usize>(
     }
 }
 
-/// Goes to the next record, into the next body where this one has ended, and prints it. It answers where the one behind it stands,
+/// Goes to the next record, into the next body where this one has ended, and prints it. It answers where the one after it stands,
 /// or where the next body begins; or nothing at the log's end.
 fn print_next<D: Disk, W: Sink, const SLOTS: usize>(
     disk: &mut D,

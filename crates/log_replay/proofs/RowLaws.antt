@@ -170,7 +170,7 @@ read rows xs k o e l h = ap (λ (rs : Rows). slice_get rs k) (sym e) ∙ slice_g
 pub found-in : (rows xs : Rows) (k : ℕ) (o : Option Unended) → xs ≡ rows → k < length xs → o ≡ slice_index_or xs k o → unended_at (entries_of rows) k ≡ o
 found-in rows xs k o e l h = found rows k ∙ ap option_flatten (read rows xs k o e l h)
 
--- a client behind the last row has none
+-- a client after the last row has none
 pub missed-in : (rows xs : Rows) (k : ℕ) → xs ≡ rows → length xs ≤ k → unended_at (entries_of rows) k ≡ None
 missed-in rows xs k e l = found rows k ∙ (ap (λ (rs : Rows). row_at rs k) (sym e) ∙ ap option_flatten (slice_get_past xs k l))
 
@@ -179,7 +179,7 @@ set_past [] k o l = refl
 set_past (r ∷ rows) zero o l = absurd (omega (arith, l))
 set_past (r ∷ rows) (suc k) o l = ap (λ (rs : Rows). r ∷ rs) (set_past rows k o (omega (arith, l)))
 
--- what is behind the last row is not there to be removed
+-- what is after the last row is not there to be removed
 pub removed-past : (rows : Rows) (k : ℕ) → length rows ≤ k → entries_of rows ≡ remove_entry (is_at (nat_cmp k)) (entries_of rows)
 removed-past rows k l = ap entries_of (sym (set_past rows k None l)) ∙ entries-removed rows k
 

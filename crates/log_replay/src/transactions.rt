@@ -16,7 +16,7 @@ use std::marker::Model;
 /// The clients whose transactions haven't ended, each with its transaction.
 #[derive(Debug, Drop)]
 pub(crate) struct Transactions {
-    /// The transaction of each client, at its number. The clients behind the last row have none.
+    /// The transaction of each client, at its number. The clients after the last row have none.
     rows: Vec<Option<Transaction>>,
 }
 

@@ -26,7 +26,7 @@ copied_more area at count before mid after piece copied more is =
     both None p q = tt
     both (Some c) p q = ap (λ (l : List ℕ). l ++ piece) p ∙ ap (λ (l : List ℕ). take at c ++ l) q ∙ sym (take-add at count c)
 
--- only nothing has nothing behind a front
+-- only nothing has nothing after a front
 empty : (a b : List ℕ) → a ++ b ≡ [] → a ≡ []
 empty [] b e = refl
 empty (x ∷ a) b e = absurd (cc e)

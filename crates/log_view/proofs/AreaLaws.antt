@@ -8,7 +8,7 @@ use Rattle.gate_log.specs.Batches.{sized, batch_bytes, IsBody}
 use Rattle.gate_log.specs.CommitBytes.{IsBatchAt}
 use Rattle.gate_log.proofs.Logs.{length-sized}
 
--- ---- a body behind its length
+-- ---- a body after its length
 
 -- the length in front of a body is how many bytes it has
 pub same_size : (size : ℕ) (body rest bytes : List ℕ) → size < 2 ^ 32 → to_be_bytes w32 size ≡ take 4 bytes → IsBody body → bytes ≡ sized body ++ rest → size ≡ length body
@@ -27,7 +27,7 @@ sized_there size body bytes is long are =
     ∙ ap (λ (l : List ℕ). to_be_bytes w32 (length body) ++ l) (sym (take-append-drop size (drop 4 bytes)) ∙ ap (λ (l : List ℕ). l ++ drop size (drop 4 bytes)) (sym are))
     ∙ sym (append_assoc (to_be_bytes w32 (length body)) body (drop size (drop 4 bytes)))
 
--- ---- a batch behind its commit byte
+-- ---- a batch after its commit byte
 
 pub batch_there : (front body more area : List ℕ) → area ≡ front ++ (batch_bytes body ++ more) → IsBody body → IsBatchAt (length front) body area
 batch_there front body more area is whole =
@@ -53,7 +53,7 @@ batch_of_sized at body rest area inside is_open whole are =
     let size : length (batch_bytes body) ≡ 5 + length body = omega (arith, length-sized body) in
     record { whole = whole; there = ap (λ (l : List ℕ). take (5 + length body) l) here ∙ take_at (batch_bytes body) rest (5 + length body) size }
 
--- where no body stands behind the commit byte, no batch does
+-- where no body stands after the commit byte, no batch does
 pub no_batch_there : (at : ℕ) (area : List ℕ) → at < length area → ((body rest : List ℕ) → IsBody body → drop (at + 1) area ≡ sized body ++ rest → ⊥) → (body : List ℕ) → IsBatchAt at body area → ⊥
 no_batch_there at area inside none body batch =
     let split : slice_index area at ∷ drop (at + 1) area ≡ 1 ∷ (sized body ++ drop (5 + length body) (drop at area)) =
@@ -63,7 +63,7 @@ no_batch_there at area inside none body batch =
 pub batch_within : (at : ℕ) (body rest area : List ℕ) → at < length area → drop (at + 1) area ≡ sized body ++ rest → at + 5 + length body ≤ length area
 batch_within at body rest area inside are = omega (arith, long_sized body rest (drop (at + 1) area) are, length-drop (at + 1) area, inside)
 
--- ---- a body that was found behind its length
+-- ---- a body that was found after its length
 
 pub sized_found : (size : ℕ) (body bytes : List ℕ) → size < 2 ^ 32 → 1 ≤ size → size ≤ length bytes - 4 → to_be_bytes w32 size ≡ take 4 bytes → body ≡ take (4 + size - 4) (drop 4 bytes)
     → IsBody body × (rest : List ℕ) × (bytes ≡ sized body ++ rest)

@@ -78,7 +78,7 @@ ends_there area items p is shut left =
     let e = ended area items p is left in
     none_behind area items p.at e.batches e.commit_byte e.rest e.are e.items_are shut
 
--- an open commit byte stands there, and a batch behind it
+-- an open commit byte stands there, and a batch after it
 pub record IsBatchLeft {slots : ℕ} (area : List ℕ) (items : List (ℕ × Record slots)) (at : ℕ) : Type 0 where
   pub batch : List (Record slots)
   pub later : List (List (Record slots))
@@ -119,7 +119,7 @@ batch_left area items p is opened left =
 cons_tail : (x y : ℕ) (xs ys : List ℕ) → x ∷ xs ≡ y ∷ ys → xs ≡ ys
 cons_tail x y xs ys e = cc
 
--- what stands behind the commit byte
+-- what stands after the commit byte
 pub behind_byte : {slots : ℕ} (area : List ℕ) (items : List (ℕ × Record slots)) (at : ℕ) (b : IsBatchLeft area items at) → at < length area
     → drop (at + 1) area ≡ sized (body_of b.batch) ++ (batches_bytes (bodies_of b.later) ++ b.commit_byte ∷ b.rest)
 behind_byte area items at b inside =
@@ -169,7 +169,7 @@ entered area items p q size is opened typed spelled at_is end_is left =
 
 -- ---- at a record
 
--- this record stands there, and these are left behind it
+-- this record stands there, and these are left after it
 pub record IsHead {slots : ℕ} (area : List ℕ) (items : List (ℕ × Record slots)) (p : Place) : Type 0 where
   pub r : Record slots
   pub begins : BeginsWith (take (p.end - p.at) (drop p.at area)) r (length (record_bytes r))

@@ -37,7 +37,7 @@ pub other_count : (slots version count pages len : ℕ) (body : List ℕ) → Is
 other_count slots version count pages len body known b apart =
     other_first known body (Turn version count) len pages b (λ e. apart (turns_apart slots version (known_version slots) pages count e))
 
--- the one `Turn`, and what stands behind it
+-- the one `Turn`, and what stands after it
 pub turn_split : (slots version pages len : ℕ) (body : List ℕ) (b : BeginsWith {slots = slots} body (Turn version pages) len) → body ≡ body_of (first_records slots pages) ++ b.rest
 turn_split slots version pages len body b =
     b.are ∙ ap (λ (v : ℕ). record_bytes {slots = slots} (Turn v pages) ++ b.rest) b.rules.0
@@ -151,7 +151,7 @@ bytes_more {slots} pages batches rs =
     ap (λ (l : List (List ℕ)). batches_bytes (body_of (first_records slots pages) ∷ l)) (bodies_more batches rs)
     ∙ bytes-push (body_of (first_records slots pages) ∷ bodies_of batches) (body_of rs)
 
--- behind the first batch
+-- after the first batch
 pub read_first : (slots pages : ℕ) (body area : List ℕ) → IsFirstBody slots pages body → IsBatchAt 0 body area → HasRead slots pages area (5 + length body) (fitting_from pages)
 read_first slots pages body area first batch =
     let bytes : batch_bytes body ≡ log_bytes {slots = slots} pages [] = ap batch_bytes first.are ∙ sym (append-nil (batch_bytes (body_of (first_records slots pages)))) in

@@ -9,7 +9,7 @@ pub record Fitting : Type 0 where
   -- the transactions that haven't ended
   pub unended : List (ℕ × Unended)
 
--- behind the first record of a log
+-- after the first record of a log
 abbrev pub fitting_from : ℕ → Fitting
 fitting_from pages = record { pages = pages; unended = [] }
 

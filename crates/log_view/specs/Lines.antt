@@ -11,8 +11,8 @@ pub record Place : Type 0 where
   pub at : ℕ
   pub end : ℕ
 
--- From this place of the area on these records are left, each with its offset: those of the body, and those of the batches behind
--- it, behind which stands a closed commit byte.
+-- From this place of the area on these records are left, each with its offset: those of the body, and those of the batches after
+-- it, after which stands a closed commit byte.
 pub record AreLeft {slots : ℕ} (area : List ℕ) (items : List (ℕ × Record slots)) (p : Place) : Type 0 where
   pub records : List (Record slots)
   pub batches : List (List (Record slots))

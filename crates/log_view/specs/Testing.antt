@@ -14,7 +14,7 @@ pub record IsFirstBody (slots pages : ℕ) (body : List ℕ) : Type 0 where
   pub rules : HasSpelling {slots = slots} (Turn (known_version slots) pages)
   pub are : body ≡ body_of (first_records slots pages)
 
--- the body of the first batch begins with another record, or more stands behind the `Turn`
+-- the body of the first batch begins with another record, or more stands after the `Turn`
 pub data IsDamagedFirst (slots pages : ℕ) (body : List ℕ) (place : ℕ) : Type 0 where
   other : ((len : ℕ) → BeginsWith {slots = slots} body (Turn (known_version slots) pages) len → ⊥) → place ≡ 5 → IsDamagedFirst slots pages body place
   more : (left : List ℕ) → HasSpelling {slots = slots} (Turn (known_version slots) pages) → 1 ≤ length left → body ≡ body_of (first_records slots pages) ++ left → place ≡ 9
@@ -59,7 +59,7 @@ pub record StopsInBody (slots : ℕ) (body : List ℕ) (offset : ℕ) (old : Fit
 
 -- ---- batches
 
--- The area begins with the first batch of a store of so many pages, and with batches behind it whose records fit; the next commit
+-- The area begins with the first batch of a store of so many pages, and with batches after it whose records fit; the next commit
 -- byte stands at this place.
 pub record HasRead (slots pages : ℕ) (area : List ℕ) (at : ℕ) (fitting : Fitting) : Type 0 where
   pub batches : List (List (Record slots))
@@ -68,7 +68,7 @@ pub record HasRead (slots pages : ℕ) (area : List ℕ) (at : ℕ) (fitting : F
   pub are : area ≡ log_bytes pages batches ++ drop at area
   pub fitting_is : fitting ≡ record { pages = pages; unended = unended_behind batches }
 
--- Behind batches whose records fit the area is damaged at this place.
+-- After batches whose records fit the area is damaged at this place.
 pub data StopsLog (slots pages : ℕ) (area : List ℕ) (place : ℕ) : Type 0 where
   no_batch : (batches : List (List (Record slots))) (rest : List ℕ) → AreBatches pages batches → area ≡ log_bytes pages batches ++ rest
       → IsDamaged (length (log_bytes pages batches)) place area → StopsLog slots pages area place

@@ -43,7 +43,7 @@ fields_of (Flip id) = id ∷ []
 fields_of (CutDead id slot target was_strong) = id ∷ slot ∷ target ∷ flag was_strong ∷ []
 fields_of (Free id) = id ∷ []
 
--- a record's name, and behind it a blank and the decimal digits for each field; of an image only the page's number is printed
+-- a record's name, and after it a blank and the decimal digits for each field; of an image only the page's number is printed
 abbrev pub record_text : {slots : ℕ} → Record slots → List ℕ
 record_text (OfCells r) = name_of r ++ numbers (fields_of r)
 record_text (Image page cells) = codes "Image" ++ numbers (page ∷ [])
@@ -55,12 +55,12 @@ line_at at r = decimal at ++ 32 ∷ record_text r ++ newline ∷ []
 
 -- ---- all records of a log
 
--- records that stand one behind another, each with its offset, where the first one stands at this offset
+-- records that stand one after another, each with its offset, where the first one stands at this offset
 abbrev pub located : {slots : ℕ} → ℕ → List (Record slots) → List (ℕ × Record slots)
 located at [] = []
 located at (r ∷ rs) = (at, r) ∷ located (at + length (record_bytes r)) rs
 
--- The records of batches that stand one behind another, each record with its offset, where the first batch stands at this offset.
+-- The records of batches that stand one after another, each record with its offset, where the first batch stands at this offset.
 -- In front of a batch's body stand its commit byte and the four bytes of the length.
 abbrev pub located_in : {slots : ℕ} → ℕ → List (List (Record slots)) → List (ℕ × Record slots)
 located_in at [] = []
@@ -70,6 +70,6 @@ located_in at (rs ∷ batches) = located (at + 5) rs ++ located_in (at + 5 + len
 abbrev pub lines_of : {slots : ℕ} → List (ℕ × Record slots) → List ℕ
 lines_of items = flat_map (λ item. line_at item.0 item.1) items
 
--- the text of the log of a store of so many pages, which has these batches behind its first one
+-- the text of the log of a store of so many pages, which has these batches after its first one
 abbrev pub text_of : {slots : ℕ} → ℕ → List (List (Record slots)) → List ℕ
 text_of {slots} pages batches = lines_of (located_in 0 (first_records slots pages ∷ batches))

@@ -1,4 +1,4 @@
-//! Which records fit behind those of a log so far.
+//! Which records fit after those of a log so far.
 ghost use Rattle.std.specs.Prelude.{◌≡◌, ◌≢◌, ◌↔◌, ◌≤◌, [], Err, length, IfOk, OnOk, OnErr};
 ghost use Rattle.cell_page.specs.Format.{IsSlotCount};
 ghost use Rattle.log_record.specs.Spelling.{HasSpelling};
@@ -51,7 +51,7 @@ fn placeholders<const SLOTS: usize>(
 }
 
 impl<const SLOTS: usize> LogFitting<SLOTS> {
-    /// Behind the first record of the log of a store of so many pages.
+    /// After the first record of the log of a store of so many pages.
     pub(crate) fn new(alloc: Global, pages: u16) -> Result<LogFitting<SLOTS>, AllocError>
         requires count { IsSlotCount SLOTS }
         requires pages { (1 ≤ pages) × (pages ≤ 1024) }

@@ -55,7 +55,7 @@ impl<const SLOTS: usize> LogLines<SLOTS> {
         }
     }
 
-    /// Goes into the batch behind the commit byte that stands here, where that is open. Whether it is.
+    /// Goes into the batch after the commit byte that stands here, where that is open. Whether it is.
     fn enter(&mut self, area: &[u8]) -> bool
         requires place { IsPlaceIn SLOTS area.now self.old }
         requires ended { self.old.at ≡ self.old.end }

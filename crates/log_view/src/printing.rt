@@ -33,7 +33,7 @@ fn push_flag(line: &mut ArrayString<LINE_ROOM>, is: bool)
     push_field(line, number);
 }
 
-/// Appends the numbers of a client and of an object, each behind a blank.
+/// Appends the numbers of a client and of an object, each after a blank.
 fn push_object(line: &mut ArrayString<LINE_ROOM>, pass: u8, id: u32)
     requires { array_string_len line.old + 42 ≤ LINE_ROOM }
     ensures text { line.new.bytes ≡ line.old.bytes ++ 32 ∷ decimal pass ++ 32 ∷ decimal id }
@@ -43,7 +43,7 @@ fn push_object(line: &mut ArrayString<LINE_ROOM>, pass: u8, id: u32)
     push_field(line, u64::from(id));
 }
 
-/// Appends a target, or a value, and the truth value that belongs to it, each behind a blank.
+/// Appends a target, or a value, and the truth value that belongs to it, each after a blank.
 fn push_side(line: &mut ArrayString<LINE_ROOM>, side: u64, is: bool)
     requires { array_string_len line.old + 42 ≤ LINE_ROOM }
     ensures text { line.new.bytes ≡ line.old.bytes ++ 32 ∷ decimal side ++ 32 ∷ decimal (flag is) }
@@ -75,7 +75,7 @@ fn push_name(line: &mut ArrayString<LINE_ROOM>, rec: &CellRecord)
     }
 }
 
-/// Appends the fields of a record of single cells, each behind a blank.
+/// Appends the fields of a record of single cells, each after a blank.
 fn push_fields(line: &mut ArrayString<LINE_ROOM>, rec: &CellRecord)
     requires { array_string_len line.old + 168 ≤ LINE_ROOM }
     ensures text { line.new.bytes ≡ line.old.bytes ++ numbers (fields_of rec.now) }

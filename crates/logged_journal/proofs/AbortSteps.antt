@@ -37,7 +37,7 @@ use Rattle.logged_journal.proofs.CollectorEvents.{bytes-length}
 abbrev pub stepped : {D : Type 0} → LoggedView D → JournalView → List PageMark → LoggedView D
 stepped v j marks = record v { journal = j; log = appended v.log (last_bytes j.notes); marks = marks }
 
--- one note more, whose record and what is owed behind it were owed
+-- one note more, whose record and what is owed after it were owed
 pub record HasOwed (old new : JournalView) : Type 0 where
   pub note : Note
   pub entry : new.history ≡ Rattle.plain_model.specs.History.with_entry old.history note.entry

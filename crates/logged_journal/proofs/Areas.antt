@@ -47,7 +47,7 @@ cleans-still {D} content may_leave old new page held r same never = record {
   batch = λ done. absurd (never done);
 }
 
--- it was done behind a reservation of room
+-- it was done after a reservation of room
 pub cleans-behind : {D : Type 0} {slots : ℕ} (content : D → Area → Option (List ℕ)) (may_leave : D → Area → List ℕ → Type 0) (old mid new : LoggedView D) (page : ℕ) (held : List (PageCell slots)) (r : Upkeep) → OnlyTakesRoom old mid → OnlyCleans content may_leave mid new page held r → OnlyCleans content may_leave old new page held r
 cleans-behind {D} content may_leave old mid new page held r takes on =
     let a = subst (λ (w : LoggedView D). OnlyCleans content may_leave w new page held r) takes on in

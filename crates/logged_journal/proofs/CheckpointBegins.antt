@@ -137,7 +137,7 @@ module _ {D : Type 0} (may_leave : D → Area → List ℕ → Type 0) (slots : 
       has)
       run pages
 
-  -- what is kept behind it
+  -- what is kept after it
   pub kept-anew : (log : LogState) (now : D) (marks : List PageMark) (peak : ℕ) → IsKept may_leave v → v.durable ≡ length v.journal.notes → v.log.tail ≡ [] → log ≡ turned v.log anew
       → IsOn may_leave log now (anew ∷ []) → EachImage may_leave now (HasLog (anew ∷ [])) → ((area : List ℕ) → may_leave now Pages area → may_leave v.disk Pages area) → marks ≡ replicate (length v.marks) unmarked
       → v.peak ≤ peak → used log + bytes_owed (end_of v.journal.history) ≤ peak → IsKept may_leave (record v { log = log; disk = now; marks = marks; peak = peak })

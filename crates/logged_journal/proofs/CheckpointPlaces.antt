@@ -1,4 +1,4 @@
--- Changed pages are written in place behind their images: what is kept, and that all pages stand in place then.
+-- Changed pages are written in place after their images: what is kept, and that all pages stand in place then.
 use Rattle.std.proofs.Common.{◌≡◌, inl, ℕ, ◌*◌, ◌<◌, Bool, true, false, List, [], ◌++◌, length, Option, refl, sym, ◌∙◌, subst, arith}
 use Rattle.std.specs.Prelude.{IfSome}
 use Rattle.disk_model.specs.declared.area.Area.{Area}

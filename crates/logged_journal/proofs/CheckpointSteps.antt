@@ -1,4 +1,4 @@
--- The steps of a turn one behind another.
+-- The steps of a turn one after another.
 use Rattle.std.proofs.Common.{◌≡◌, inl, ℕ, zero, suc, ◌+◌, ◌<◌, ◌≤◌, max, Bool, true, false, List, [], length, None, refl, sym, ◌∙◌, ap, subst, arith}
 use Rattle.std.specs.Prelude.{if◌then◌else◌, replicate}
 use Rattle.disk_model.specs.Areas.{Bytes}
@@ -25,7 +25,7 @@ use Rattle.logged_journal.proofs.Upkeeps.{have-same, have-all}
 use Rattle.logged_journal.proofs.CleanSteps.{LeadsOn, leads-then, leads-forced}
 use Rattle.logged_journal.proofs.CheckpointBegins.{idle-owes}
 
--- ---- marks behind the images
+-- ---- marks after the images
 
 imaged-changed : (m : PageMark) → (imaged m).changed ≡ m.changed
 imaged-changed m = by m.changed refl

@@ -1,4 +1,4 @@
--- The steps of upkeep one behind another, and a page that was cleaned by them.
+-- The steps of upkeep one after another, and a page that was cleaned by them.
 use Rattle.std.proofs.Common.{◌≡◌, ◌⊎◌, inl, inr, ⊎_elim, ℕ, ◌≤◌, max, List, [], ◌∷◌, length, None, refl, sym, ◌∙◌, ap, subst, arith}
 use Rattle.std.proofs.lemmas.List.{length-append}
 use Rattle.disk_model.specs.Areas.{Bytes}
@@ -86,7 +86,7 @@ module _ {D : Type 0} where
         opened = ap (λ (v : LoggedView D). v.opened) is;
       }
 
-  -- behind such steps upkeep failed
+  -- after such steps upkeep failed
   pub fails-behind : (faults : D → ℕ) (old mid new : LoggedView D) → LeadsOn old mid → faults old.disk ≤ faults mid.disk → FailsUpkeep faults mid new → FailsUpkeep faults old new
   fails-behind faults old mid new leads later fails =
       let peak = leads.peak in
@@ -116,7 +116,7 @@ module _ {D : Type 0} where
         (λ image has. have-same v imaged image (ap (λ (w : LoggedView D). w.journal) logs.same) (ap (λ (w : LoggedView D). w.durable) logs.same) (ap (λ (w : LoggedView D). w.failed) logs.same) has) run)
 
     module _ (all : LoggedView D) (forces : ForcesAll imaged all) where
-      -- and behind it
+      -- and after it
       pub placed-moments : (moment : D → ℕ) (left_since : D → ℕ → Bytes → Type 0) (now : D) → LeavesOnlyImages moment left_since imaged.disk all.disk (MayHaveAll imaged) → LeavesOnlyImages moment left_since all.disk now (MayHaveAll all)
           → LeavesOnlyImages moment left_since v.disk now (MayHaveAll v)
       placed-moments moment left_since now run next =

@@ -55,7 +55,7 @@ pub tail-empty : (slots pages : ℕ) (cells : List Cell) (notes : List Note) (by
 tail-empty slots pages cells notes bytes none empty =
     record { logged = sym (ap (λ (ns : List Note). logged_records {slots = slots} (logged_of ns)) none); images = tt; are = empty }
 
--- the cells behind the tail are those after all notes
+-- the cells after the tail are those after all notes
 pub cells-behind-tail : (slots pages : ℕ) (opening : List Cell) (notes more : List Note) (rs : List (Record slots)) (bytes : List ℕ) → AreRecords pages (cells_after_notes slots opening notes) more rs bytes
     → cells_after slots (cells_after_notes slots opening notes) (records_in (items_of rs)) ≡ cells_after_notes slots opening (notes ++ more)
 cells-behind-tail slots pages opening notes more rs bytes tail =
@@ -109,7 +109,7 @@ records-of j pages area notes batches ids hold =
 -- ---- a force
 
 module _ (slots pages : ℕ) (opening : List Cell) (area : List ℕ) (notes more : List Note) (batches : List (List ℕ)) (hold : HaveRecords slots pages opening area notes batches) where
-  -- the cells behind the log are those after its notes
+  -- the cells after the log are those after its notes
   pub cells-behind : cells_after slots (cells_after_notes slots opening hold.first) (records_in (items_of (all_of hold.parts))) ≡ cells_after_notes slots opening notes
   cells-behind =
       cells_are_of_events (logged_of hold.later) (all_of hold.parts) (cells_after_notes slots opening hold.first) hold.logged

@@ -152,7 +152,7 @@ first-facts slots j «first» rest t split =
       typed = first-have _ «first» rest (subst AreTypedNotes split t.typed);
     }
 
--- the entries of the first notes, and those behind them
+-- the entries of the first notes, and those after them
 all-entries : (j : JournalView) («first» rest : List Note) → j.notes ≡ «first» ++ rest → AreEntries j → map (λ n. n.entry) «first» ++ map (λ n. n.entry) rest ≡ j.history.entries
 all-entries j «first» rest split entries =
     sym (map-append (λ (n : Note). n.entry) «first» rest) ∙ ap (λ (l : List Note). map (λ n. n.entry) l) (sym split) ∙ entries

@@ -29,7 +29,7 @@ pub same_unchanged_then : (slots : ℕ) (marks : List PageMark) (before mid now 
 same_unchanged_then slots marks before mid now one more =
     record { no_shorter = (let a = one.no_shorter in let b = more.no_shorter in omega (arith, a, b)); same = λ page low none. more.same page low none ∙ one.same page low none }
 
--- the page stands before the pages of a write, or behind them, or is one of them
+-- the page stands before the pages of a write, or after them, or is one of them
 where_is : (page first count : ℕ) → (page < first) ⊎ ((first ≤ page) × (page < first + count)) ⊎ (first + count ≤ page)
 where_is page first count = ⊎_elim (λ front. inl front) (λ behind. ⊎_elim (λ inside. inr (inl (behind, inside))) (λ past. inr (inr past)) (cases_lt page (first + count))) (cases_lt page first)
 
@@ -50,7 +50,7 @@ same_some a b e = cc
 
 -- ---- the run
 
--- what stands behind so many bytes
+-- what stands after so many bytes
 drop_front : (front more : List ℕ) (n : ℕ) → length front ≡ n → drop n (front ++ more) ≡ more
 drop_front front more n is = subst (λ (k : ℕ). drop k (front ++ more) ≡ more) is (drop-append_seam front more)
 
@@ -228,7 +228,7 @@ module _ {D : Type 0} (content : D → Area → Option (List ℕ)) (may_leave : 
           ap (λ (n : ℕ). bytes_of_page slots n area) (sym e) ∙ wrote k (omega (arith, l, whole_run)) ∙ h.bytes k (omega (arith, e, low)) ∙ ap (λ (n : ℕ). page_bytes (page_in frames n)) e)
           (cases_lt p first)
 
-  -- a new run begins behind a page that didn't change
+  -- a new run begins after a page that didn't change
   pub begins_run : (start after : D) (page : ℕ) → OnlyPlaces content may_leave moment left_since faults slots marks start after → IfSome (content after Pages) (AreThere frames marks page) → has_changed marks page ≡ false → IsPlacing start after (page + 1) (page + 1) []
   begins_run start after page only there unchanged = record {
     only = only;

@@ -35,7 +35,7 @@ module _ {D : Type 0} where
   pub room-full : (v w u : LoggedView D) → OnlyTakesRoom v w → u ≡ record w { log_full = true } → OnlyTakesRoom (record v { log_full = true }) u
   room-full v w u takes is = by-room (record v { log_full = true }) u w.journal.reserved w.log.room (is ∙ ap (λ (x : LoggedView D). record x { log_full = true }) takes)
 
-  -- ---- what is said behind it is said of the view before it
+  -- ---- what is said after it is said of the view before it
 
   pub room-have : (v w : LoggedView D) (image : Bytes) → OnlyTakesRoom v w → MayHaveAll w image → MayHaveAll v image
   room-have v w image takes has =

@@ -76,7 +76,7 @@ pub record KeepsDisk {D : Type 0} (old new : LoggedView D) : Type 0 where
   pub disk : new.disk ≡ old.disk
   pub durable : new.durable ≡ old.durable
 
--- the log with the records of the notes that joined behind its tail
+-- the log with the records of the notes that joined after its tail
 abbrev pub log_joined : {D : Type 0} → LoggedView D → LoggedView D → LogState
 log_joined old new = appended old.log (bytes_joined old.journal new.journal)
 

@@ -63,7 +63,7 @@ pub record OnlyPlaces {D : Type 0} (content : D → Area → Option (List ℕ)) 
 
 -- ---- images join the tail
 
--- the mark behind an image of a changed page
+-- the mark after an image of a changed page
 abbrev pub imaged : PageMark → PageMark
 imaged m = if m.changed then record { changed = true; current = true } else m
 

@@ -18,8 +18,8 @@ use Rattle.core_store.specs.Safe.{IsDurable}
 use Rattle.logged_journal.specs.View.{LoggedView, failed_commit, bytes_counted, image_bytes, image_need}
 use Rattle.logged_journal.specs.Records.{AreTypedNotes, HoldsNotes, durable_notes, MayBeLeft}
 
--- The log stands on the disk: with whatever pages a power loss leaves, its batches hold the records of the durable notes behind
--- what it began with, its tail those of the notes behind them, both with images of pages among them, and the marks are those of
+-- The log stands on the disk: with whatever pages a power loss leaves, its batches hold the records of the durable notes after
+-- what it began with, its tail those of the notes after them, both with images of pages among them, and the marks are those of
 -- all these records. The pages area is as long as the pages are, and there is room for what the active transactions owe.
 pub record IsStanding {D : Type 0} (may_leave : D → Area → List ℕ → Type 0) (v : LoggedView D) : Type 0 where
   pub stage : v.log.stage ≡ Standing

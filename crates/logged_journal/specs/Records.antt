@@ -37,7 +37,7 @@ logged_of notes = map (λ n. n.logged) notes
 abbrev pub note_bytes : Note → List ℕ
 note_bytes n = option_map_or cell_record_bytes n.logged []
 
--- the records of the notes that joined from one journal to the other, spelled one behind another
+-- the records of the notes that joined from one journal to the other, spelled one after another
 abbrev pub bytes_joined : (old new : JournalView) → List ℕ
 bytes_joined old new = flat_map note_bytes (drop (length old.notes) new.notes)
 
@@ -56,12 +56,12 @@ OpenedWith j area begun marks = (count : ℕ) × (j.history.ids ≡ 8 * count) �
 
 -- With these bytes in the pages area, these batches have the records of these notes, in order, and images of pages among them.
 -- The log began over what the first of these notes make of the cells of the opening, where no transaction was active: with the
--- batches that the store opened with, or with that of a checkpoint. Behind these stands one batch for each part of the records of
+-- batches that the store opened with, or with that of a checkpoint. After these stands one batch for each part of the records of
 -- the later notes and of images, each image being that page of the cells as they are there. A page that has an image may have any
 -- bytes in place.
 pub record HaveRecords (slots pages : ℕ) (opening : List Cell) (area : List ℕ) (notes : List Note) (batches : List (List ℕ)) : Type 0 where
   pub opens : AreConsistent slots (8 * pages) opening
-  -- the notes before the log began, and those behind them
+  -- the notes before the log began, and those after them
   pub «first» : List Note
   pub later : List Note
   pub split : notes ≡ «first» ++ later
@@ -96,7 +96,7 @@ pub record HaveMarked {slots : ℕ} (pages : ℕ) (opening : List Cell) (area : 
   pub marked : AreMarks (all_of (have.earlier ++ have.parts) ++ tail) marks
 
 -- Whatever a power loss leaves in the pages area, the batches have the records of these notes, the tail has those of the notes
--- behind them, and the marks are those of all these records.
+-- after them, and the marks are those of all these records.
 pub record HoldsNotes {D : Type 0} (may_leave : D → Area → List ℕ → Type 0) (slots pages : ℕ) (opening : List Cell) (notes more : List Note) (marks : List PageMark) (disk : D) (batches : List (List ℕ)) (tail : List ℕ) : Type 0 where
   pub rs : List (Record slots)
   pub behind : AreRecords pages (cells_after_notes slots opening notes) more rs tail

@@ -1,4 +1,4 @@
-//! The log is turned: a checkpoint, behind which it begins anew.
+//! The log is turned: a checkpoint, after which it begins anew.
 ghost use Rattle.std.specs.Prelude.{◌≡◌, ◌≢◌, ◌⊎◌, ◌↔◌, ℕ, ◌+◌, ◌*◌, ◌<◌, ◌≤◌, [], true, false, length, vec_capacity, IfOk, IfSome, IsSome, Some, None, OnOk, OnErr};
 ghost use Rattle.disk_model.specs.declared.area.Area.TheVariants.{Pages};
 ghost use Rattle.disk_model.specs.Told.{Keeps, KeepsOthers, EachImage, Leaves};

@@ -36,7 +36,7 @@ use std::marker::Model;
 
 /// A journal whose events stand in a log on a disk, which it holds.
 ///
-/// It goes on with a store that was opened, behind what the log has then. Each event with a record appends it to the tail
+/// It goes on with a store that was opened, after what the log has then. Each event with a record appends it to the tail
 /// of the log at the same event. A commit makes the tail last before its event, and is answered after that. Where the disk
 /// fails that, the store is stopped: each later call answers so and does nothing, and the store has to be opened again.
 #[derive(Drop)]
@@ -74,7 +74,7 @@ impl<const SLOTS: usize, D: Disk> Model for LoggedJournal<SLOTS, D> {
 impl<const SLOTS: usize, D: Disk> LoggedJournal<SLOTS, D> {
     /// The store that opens with these frames, one for each page from 0 on, on a disk on which its log stands: the pages
     /// and the log are what it opened to, its log tells of no transaction that hasn't ended, and the marks of the pages are
-    /// those of its log. In it no transaction is active, and the log goes on behind what it has. Where there is no memory the
+    /// those of its log. In it no transaction is active, and the log goes on after what it has. Where there is no memory the
     /// disk is handed back.
     pub fn resume(
         alloc: Global,

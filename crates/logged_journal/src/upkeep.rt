@@ -8,7 +8,7 @@ pub enum Upkeep {
     /// The log was not turned, since a transaction is active: the least such client, by its number from 1 to 64. That entered the
     /// history.
     Busy { pass: u8 },
-    /// The disk failed a call before. This was its count of faults just behind the failed call. Nothing was done.
+    /// The disk failed a call before. This was its count of faults just after the failed call. Nothing was done.
     Stopped { faults: u64 },
     /// The history has no room left. Nothing was done.
     TraceFull,

@@ -40,7 +40,7 @@ crash_of (first ∷ []) = do
   Some (line.Crash pick)
 crash_of operands = None
 
--- what a line asks, by its first field and those behind it; no other word has a meaning
+-- what a line asks, by its first field and those after it; no other word has a meaning
 abbrev pub request_of : List ℕ → List (List ℕ) → Option Line
 request_of verb operands =
     if bytes_eq verb (codes "put") then put_of operands

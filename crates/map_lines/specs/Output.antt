@@ -31,7 +31,7 @@ pair_text pair = codes " " ++ decimal pair.0 ++ codes "=" ++ decimal pair.1
 abbrev pub list_line : List (ℕ × ℕ) → List ℕ
 list_line pairs = codes "list:" ++ flat_map pair_text pairs ++ newline ∷ []
 
--- the line of a crash, behind which the map has so many keys
+-- the line of a crash, after which the map has so many keys
 abbrev pub reopened_line : ℕ → List ℕ
 reopened_line keys = codes "crash: keys " ++ decimal keys ++ newline ∷ []
 

@@ -3,7 +3,7 @@ ghost use Rattle.std.specs.Prelude.{◌≡◌, ◌<◌, [], ◌∷◌, not, Matc
 ghost use Rattle.script_lines.specs.Fields.{is_blank, fields_of};
 ghost use Rattle.map_lines.specs.Operands.{listed};
 
-/// The fields behind the first one.
+/// The fields after the first one.
 #[derive(Clone, Copy)]
 pub(crate) enum Operands<'a> {
     Nil,
@@ -31,7 +31,7 @@ fn blank_start(bytes: &[u8]) -> Option<usize>
     bytes.iter().position(|b| is_blank(*b))
 }
 
-/// The first field, and bytes behind it that hold the other fields.
+/// The first field, and bytes after it that hold the other fields.
 pub(crate) fn next_field(bytes: &[u8]) -> Option<(&[u8], &[u8])>
     ensures { MatchOption result (fields_of bytes.now ≡ [])
         (λ p. fields_of bytes.now ≡ p.0.now ∷ fields_of p.1.now) }

@@ -32,7 +32,7 @@ fn is_comment(field: &[u8]) -> bool
     matches!(field, [b'#', ..])
 }
 
-/// What a line asks, by its first field and those behind it.
+/// What a line asks, by its first field and those after it.
 fn request_of(verb: &[u8], operands: Operands<'_>) -> Option<Line>
     ensures { result ≡ request_of verb.now (listed operands.entry) }
 {

@@ -76,7 +76,7 @@ pub fn deleted_line(old: Option<u64>) -> ArrayString<LINE_ROOM>
     line
 }
 
-/// The line of a crash, behind which the map has so many keys. It takes no memory.
+/// The line of a crash, after which the map has so many keys. It takes no memory.
 pub fn reopened_line(keys: u64) -> ArrayString<LINE_ROOM>
     ensures { result.bytes ≡ reopened_line keys }
 {

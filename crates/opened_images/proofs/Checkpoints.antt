@@ -1,4 +1,4 @@
--- Pages that are written in place behind their images, and a log that begins anew.
+-- Pages that are written in place after their images, and a log that begins anew.
 use Rattle.std.proofs.Common.{◌≡◌, ◌⊎◌, inl, inr, ⊎_elim, ℕ, ◌+◌, ◌*◌, ◌<◌, ◌≤◌, Bool, true, false, List, [], ◌∷◌, ◌++◌, length, fold, Option, Some, None, refl, sym, ap, subst, ◌∙◌, append_assoc, arith}
 use Rattle.std.specs.Prelude.{◌==◌, if◌then◌else◌, Contains}
 use Rattle.std.specs.List.{AllByRecursion}
@@ -53,7 +53,7 @@ any_bytes slots pages first count rs before was now same long imaged torn page l
 
 -- ---- copies
 
--- these records have an image of the page that is this one, and no other one behind it
+-- these records have an image of the page that is this one, and no other one after it
 record HasLast {slots : ℕ} (page : ℕ) (rs : List (Record slots)) (held : List (PageCell slots)) : Type 0 where
   front : List (Record slots)
   back : List (Record slots)
@@ -67,7 +67,7 @@ HasNone {slots} page rs = (other : List (PageCell slots)) → Contains rs (Image
 same_some : {X : Type 0} (a b : X) → Some a ≡ Some b → a ≡ b
 same_some a b e = cc
 
--- behind a record that is no image of the page
+-- after a record that is no image of the page
 none_with : {slots : ℕ} (page : ℕ) (r : Record slots) (rs : List (Record slots)) → ((other : List (PageCell slots)) → r ≡ Image page other → ⊥) → HasNone page rs → HasNone page (r ∷ rs)
 none_with page r rs differs none other has = ⊎_elim (λ e. differs other e) (λ h. none other h) (Contains-cons r rs (Image page other) has)
 
@@ -160,7 +160,7 @@ begins_anew slots pages area cells some few sound stand = (
   },
 )
 
--- ---- records behind first ones
+-- ---- records after first ones
 
 fit_later : (slots : ℕ) (cells : List Cell) (first later : List (Option StoredRecord)) → AllFit slots cells (first ++ later) → AllFit slots (cells_after slots cells first) later
 fit_later slots cells [] later fit = fit

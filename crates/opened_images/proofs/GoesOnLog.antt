@@ -10,7 +10,7 @@ use Rattle.opened_images.specs.GoesOn.{logged_records, stored_records, in_parts,
 
 -- ---- the records of the parts
 
--- the records that the events of two lists logged are those of the first, and behind them those of the second
+-- the records that the events of two lists logged are those of the first, and after them those of the second
 pub logged_append : {slots : ℕ} (rs ss : List (Option CellRecord)) → logged_records {slots = slots} (rs ++ ss) ≡ logged_records rs ++ logged_records ss
 logged_append [] ss = refl
 logged_append {slots} (Some r ∷ rs) ss = ap (λ (l : List (Record slots)). OfCells r ∷ l) (logged_append rs ss)
@@ -32,7 +32,7 @@ pub all_bodies : {slots : ℕ} (earlier : List (List (Record slots))) (parts : L
 all_bodies {slots} [] parts = body_parts slots parts
 all_bodies (b ∷ bs) parts = ap (λ (l : List (List ℕ)). body_of b ∷ l) (all_bodies bs parts)
 
--- ---- one list of records behind another
+-- ---- one list of records after another
 
 -- both have spellings
 pub spelled_both : {slots : ℕ} (rs ss : List (Record slots)) → HaveSpellings rs → HaveSpellings ss → HaveSpellings (rs ++ ss)

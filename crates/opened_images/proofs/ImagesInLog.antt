@@ -17,7 +17,7 @@ use Rattle.opened_images.specs.GoesOn.{logged_records, stored_records}
 use Rattle.opened_images.proofs.GoesOnLog.{logged_append}
 use Rattle.opened_images.specs.WithImages.{without_images, AreOfEvents, HaveImages, AreSamePages}
 
--- the records of some batches, and of others behind them
+-- the records of some batches, and of others after them
 pub all_both : {slots : ℕ} (earlier later : List (List (Record slots))) → all_of (earlier ++ later) ≡ all_of earlier ++ all_of later
 all_both {slots} earlier later = flat_map-append (λ (rs : List (Record slots)). rs) earlier later
 
@@ -110,7 +110,7 @@ logged_images slots pages cells [] = tt
 logged_images slots pages cells (Some r ∷ events) = logged_images slots pages (after_record slots cells (record_of r)) events
 logged_images slots pages cells (None ∷ events) = logged_images slots pages cells events
 
--- ---- one list behind another
+-- ---- one list after another
 
 -- the records without images
 pub without_both : {slots : ℕ} (rs ss : List (Record slots)) → without_images (rs ++ ss) ≡ without_images rs ++ without_images ss

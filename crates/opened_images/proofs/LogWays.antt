@@ -12,7 +12,7 @@ use Rattle.opened_images.specs.LogRecords.{body_of, bodies_of, HaveSpellings, Al
 use Rattle.opened_images.proofs.Bodies.{spelled_front, spelled_back}
 use Rattle.opened_images.proofs.Ways.{first_byte, Stops, shut_byte, no_byte, cut_batch, bad_record, CanBeRead, unended_through, Told, IsLogOf, IsDamagedAt, HasVersion, told_of, IsUnknown, by_version, by_no_turn, by_more, by_batches, Way, too_long, no_first, by_first, one_way}
 
--- ---- a batch that stands behind some bytes
+-- ---- a batch that stands after some bytes
 
 pub front_byte : (front rest area : List ℕ) → area ≡ front ++ rest → slice_index area (length front) ≡ slice_index rest 0
 front_byte front rest area is =
@@ -101,7 +101,7 @@ start_way area place (no_batches short closed zero_is is) =
 start_way area place (no_batch_behind short cut is) =
     at_place area 0 place is (no_first short (λ body rest whole are. cut.none body (batch_there [] body rest area are whole)))
 
--- the commit byte of the batch behind some bytes
+-- the commit byte of the batch after some bytes
 behind_way : {slots : ℕ} (pages : ℕ) (batches : List (List (Record slots))) (rest area : List ℕ) (place : ℕ) → AreBatches pages batches → area ≡ log_bytes pages batches ++ rest
     → IsDamaged (length (log_bytes pages batches)) place area → Way slots area (IsDamagedAt place)
 behind_way pages batches rest area place are e (long_area long is) = at_place area most_bytes place is (too_long long)

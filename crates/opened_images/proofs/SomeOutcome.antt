@@ -129,7 +129,7 @@ nested : {slots : ℕ} (batches : List (List (Record slots))) (prior : List (Rec
 nested [] prior r later e = absurd (none_split prior r later e)
 nested (b ∷ bs) prior r later e = nested_on b bs prior r later (λ over f. nested bs over r later f) (which_batch b (all_of bs) prior r later e)
 
--- ---- behind a log
+-- ---- after a log
 
 -- the image opens to nothing
 abbrev OpensNowhere : ℕ → Bytes → Type 0
@@ -210,7 +210,7 @@ batches_more {slots} pages batches rs are whole spelled fit =
       fit = subst (λ (l : List (Record slots)). AllFitLog pages [] l) (sym (all_more batches rs)) (fit_more pages [] (all_of batches) rs are.fit fit);
     }
 
--- what stands behind a batch
+-- what stands after a batch
 behind_batch : (body bytes : List ℕ) → take (5 + length body) bytes ≡ batch_bytes body → bytes ≡ batch_bytes body ++ drop (5 + length body) bytes
 behind_batch body bytes e = sym (take-append-drop (5 + length body) bytes) ∙ ap (λ (l : List ℕ). l ++ drop (5 + length body) bytes) e
 
@@ -248,7 +248,7 @@ module _ {slots : ℕ} (area : List ℕ) (pages : ℕ) (whole_area : (place : �
       }) refl
       )
 
-  -- the batches, behind which stand fewer than so many bytes
+  -- the batches, after which stand fewer than so many bytes
   batches_go : (n : ℕ) (batches : List (List (Record slots))) (rest : List ℕ) → length rest < n → AreBatches pages batches → area ≡ log_bytes pages batches ++ rest → ⊥
   batches_go zero batches rest low are e = absurd (omega (arith, low))
   batches_go (suc n) batches [] low are e =
@@ -287,7 +287,7 @@ module _ {slots : ℕ} (area : List ℕ) (pages : ℕ) (whole_area : (place : �
 
 module _ {slots : ℕ} (area : List ℕ) (whole_area : (place : ℕ) → IsDamagedLog slots area place → ⊥) (no_version : (number : ℕ) → IsOfVersion slots number area → ⊥)
     (no_log : (pages : ℕ) (batches : List (List (Record slots))) → IsRecordLog pages batches area → ⊥) (short : length area ≤ most_bytes) where
-  -- behind the first batch's `Turn`
+  -- after the first batch's `Turn`
   turn_goes : (pages : ℕ) (body : List ℕ) → BeginsWithBody body area → HasSpelling {slots = slots} (Turn (known_version slots) pages) → (left : List ℕ) → body ≡ body_of (first_records slots pages) ++ left → ⊥
   turn_goes pages body first rules [] e =
       batches_go {slots = slots} area pages whole_area (no_log pages) short (suc (length first.rest)) [] first.rest (omega arith)

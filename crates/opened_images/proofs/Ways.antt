@@ -52,7 +52,7 @@ same_ways {slots} known pages us (r ∷ rs) (s ∷ ss) left more a b f g none no
     (subst (λ (t : Record slots). HasNoNext slots pages (unended_by_all (unended_by us t) ss) more) (sym same) nope) rest in
     (cons_same r s rs ss same later.0, later.1)
 
--- ---- what stands behind batches that were read, and how far on from there the damage is, if there is one
+-- ---- what stands after batches that were read, and how far on from there the damage is, if there is one
 
 pub data Stops (slots pages : ℕ) (us : List (ℕ × Unended)) (rest : List ℕ) : Option ℕ → Type 0 where
   shut_byte : (byte : ℕ) (more : List ℕ) → byte ≢ 1 → rest ≡ byte ∷ more → Stops slots pages us rest None

@@ -1,4 +1,4 @@
--- Pages that are written in place behind their images, and a log that begins anew.
+-- Pages that are written in place after their images, and a log that begins anew.
 use Rattle.std.specs.Prelude.{◌≡◌, ℕ, ◌+◌, ◌*◌, ◌<◌, ◌≤◌, true, List, [], ◌∷◌, ◌++◌, length, Option, Some}
 use Rattle.cell_model.specs.Cells.{Cell}
 use Rattle.cell_model.specs.Records.{Record as StoredRecord, cells_after, AllFit}
@@ -50,7 +50,7 @@ BeginsAnewLaw =
     (slots pages : ℕ) (area : List ℕ) (cells : List Cell) → 1 ≤ pages → pages ≤ 1024 → AreConsistent slots (8 * pages) cells
     → ((page : ℕ) → page < pages → StandsInPlace slots area cells page) → IsBegun slots pages area (body_of (first_records slots pages) ∷ []) cells
 
--- Later records fit what stands behind the first ones, and do to it what they do behind them; with the first ones and without
+-- Later records fit what stands after the first ones, and do to it what they do after them; with the first ones and without
 -- them they tell of the same transactions that haven't ended, and open to the same cells.
 pub record GoOnFrom (slots : ℕ) (cells : List Cell) («first» later : List (Option StoredRecord)) : Type 0 where
   pub fit : AllFit slots cells («first» ++ later) → AllFit slots (cells_after slots cells «first») later
@@ -63,7 +63,7 @@ pub record GoOnFrom (slots : ℕ) (cells : List Cell) («first» later : List (O
 abbrev pub GoOnFromLaw : Type 0
 GoOnFromLaw = (slots : ℕ) (cells : List Cell) («first» later : List (Option StoredRecord)) → unended_after_all [] «first» ≡ [] → GoOnFrom slots cells «first» later
 
--- Where a log began anew behind first records, which had ended, and goes on with what events logged and with images of pages, the
+-- Where a log began anew after first records, which had ended, and goes on with what events logged and with images of pages, the
 -- image opens to what the cells at the beginning are after the first records and the events, and after the undo of what has not
 -- ended.
 abbrev pub BehindCheckpointLaw : Type 0

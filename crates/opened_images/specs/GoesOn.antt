@@ -1,4 +1,4 @@
--- A log that goes on behind what its store opened with.
+-- A log that goes on after what its store opened with.
 use Rattle.std.specs.Prelude.{◌≡◌, ℕ, ◌*◌, ◌<◌, List, [], ◌∷◌, ◌++◌, map, Option, Some, None, option_map, IfSome}
 use Rattle.std.specs.List.{flat_map, AllByRecursion}
 use Rattle.cell_model.specs.Cells.{Cell}
@@ -20,7 +20,7 @@ use Rattle.opened_images.specs.LogRecords.{body_of, bodies_of, all_of, unended_b
 use Rattle.opened_images.specs.Replayed.{cells_of_log, IsDamagedPage, AllFitCells}
 use Rattle.opened_images.specs.Opened.{Opened, OpensTo}
 
--- With these bytes in the pages area, these batches behind a log's first one make these cells of a store of so many pages,
+-- With these bytes in the pages area, these batches after a log's first one make these cells of a store of so many pages,
 -- and tell of no transaction that hasn't ended.
 pub record IsEndedLog {slots : ℕ} (pages : ℕ) (area : List ℕ) (batches : List (List (Record slots))) (cells : List Cell) : Type 0 where
   pub read : AreBatches pages batches
@@ -43,7 +43,7 @@ logged_records (None ∷ rs) = logged_records rs
 abbrev pub stored_records : List (Option CellRecord) → List (Option StoredRecord)
 stored_records rs = map (option_map record_of) rs
 
--- what the events of these parts logged, one part behind another
+-- what the events of these parts logged, one part after another
 abbrev pub in_parts : List (List (Option CellRecord)) → List (Option CellRecord)
 in_parts parts = flat_map (λ (part : List (Option CellRecord)). part) parts
 

@@ -12,7 +12,7 @@ use Rattle.log_replay.specs.Replays.{IsWithin}
 
 -- ---- bodies
 
--- the bytes of these records, one behind another
+-- the bytes of these records, one after another
 abbrev pub body_of : {slots : ℕ} → List (Record slots) → List ℕ
 body_of rs = flat_map record_bytes rs
 
@@ -27,7 +27,7 @@ HaveSpellings (r ∷ rs) = HasSpelling r × IsTypedRecord r × HaveSpellings rs
 
 -- ---- which record fits
 
--- the record fits behind the log's first one, in a store of so many pages, where these transactions haven't ended
+-- the record fits after the log's first one, in a store of so many pages, where these transactions haven't ended
 abbrev pub FitsLog : {slots : ℕ} → ℕ → List (ℕ × Unended) → Record slots → Type 0
 FitsLog pages us (OfCells r) = IsWithin (8 * pages) r × FitsUnended us (record_of r)
 FitsLog pages us (Image page cells) = page < pages
@@ -54,7 +54,7 @@ AllFitLog pages us (r ∷ rs) = FitsLog pages us r × AllFitLog pages (unended_b
 abbrev pub all_of : {slots : ℕ} → List (List (Record slots)) → List (Record slots)
 all_of batches = flat_map (λ rs. rs) batches
 
--- the transactions that haven't ended behind them
+-- the transactions that haven't ended after them
 abbrev pub unended_behind : {slots : ℕ} → List (List (Record slots)) → List (ℕ × Unended)
 unended_behind batches = unended_by_all [] (all_of batches)
 
@@ -74,11 +74,11 @@ pub record AreBatches {slots : ℕ} (pages : ℕ) (batches : List (List (Record 
 abbrev pub log_bytes : {slots : ℕ} → ℕ → List (List (Record slots)) → List ℕ
 log_bytes {slots} pages batches = batches_bytes (body_of (first_records slots pages) ∷ bodies_of batches)
 
--- where the next record stands, behind these batches and these records of the batch behind them
+-- where the next record stands, after these batches and these records of the batch after them
 abbrev pub next_record_at : {slots : ℕ} → ℕ → List (List (Record slots)) → List (Record slots) → ℕ
 next_record_at pages batches rs = length (log_bytes pages batches) + 5 + length (body_of rs)
 
--- The area is the log of a store of so many pages, with these batches of records behind its first one.
+-- The area is the log of a store of so many pages, with these batches of records after its first one.
 pub record IsRecordLog {slots : ℕ} (pages : ℕ) (batches : List (List (Record slots))) (area : List ℕ) : Type 0 where
   pub batches_are : AreBatches pages batches
   pub log : IsLog most_bytes (body_of (first_records slots pages) ∷ bodies_of batches) area
@@ -103,7 +103,7 @@ pub record IsOfVersion (slots version : ℕ) (area : List ℕ) : Type 0 where
   pub first : BeginsWithBody (14 ∷ version ∷ pages) area
   pub unknown : version ≢ known_version slots
 
--- Behind these batches stands one whose body begins with these records, which fit, and no record that fits
+-- After these batches stands one whose body begins with these records, which fit, and no record that fits
 -- begins what is left of it.
 pub record StopsBehind {slots : ℕ} (pages : ℕ) (batches : List (List (Record slots))) (rs : List (Record slots)) (area : List ℕ) : Type 0 where
   pub read : AreBatches pages batches
@@ -119,7 +119,7 @@ pub record StopsBehind {slots : ℕ} (pages : ℕ) (batches : List (List (Record
 
 -- The area is damaged at this place.
 pub data IsDamagedLog (slots : ℕ) (area : List ℕ) (place : ℕ) : Type 0 where
-  -- it is too long, has no commit byte or a closed one, or no batch stands behind it
+  -- it is too long, has no commit byte or a closed one, or no batch stands after it
   no_first : IsDamaged 0 place area → IsDamagedLog slots area place
   -- the first body begins with no `Turn`, and isn't that of an unknown version
   no_turn : (body : List ℕ) → BeginsWithBody body area → ((version : ℕ) → IsOfVersion slots version area → ⊥)
@@ -127,9 +127,9 @@ pub data IsDamagedLog (slots : ℕ) (area : List ℕ) (place : ℕ) : Type 0 whe
   -- something follows the `Turn`
   not_alone : (pages : ℕ) (left : List ℕ) → HasSpelling {slots = slots} (Turn (known_version slots) pages) → 1 ≤ length left
       → BeginsWithBody (body_of (first_records slots pages) ++ left) area → place ≡ 9 → IsDamagedLog slots area place
-  -- behind these batches the commit byte is missing, or the batch behind it is cut off
+  -- after these batches the commit byte is missing, or the batch after it is cut off
   no_batch : (pages : ℕ) (batches : List (List (Record slots))) (rest : List ℕ) → AreBatches pages batches → area ≡ log_bytes pages batches ++ rest
       → IsDamaged (length (log_bytes pages batches)) place area → IsDamagedLog slots area place
-  -- in the batch behind these, no record that fits follows these records
+  -- in the batch after these, no record that fits follows these records
   no_record : (pages : ℕ) (batches : List (List (Record slots))) (rs : List (Record slots)) → StopsBehind pages batches rs area
       → place ≡ next_record_at pages batches rs → IsDamagedLog slots area place

@@ -67,7 +67,7 @@ pub data Opened (slots : ℕ) (image : Bytes) : Outcome → Type 0 where
   damaged_page : (area : Area) (pages : ℕ) (batches : List (List (Record slots))) (page at : ℕ) → IsLogRead image area pages batches → page < pages
       → IsDamagedPage image.pages (all_of batches) page at
       → ((lower place : ℕ) → lower < page → IsDamagedPage image.pages (all_of batches) lower place → ⊥) → Opened slots image (DamagedPage page at)
-  -- the first record that doesn't fit the cells: it stands in the batch behind `front`, behind the records `before`
+  -- the first record that doesn't fit the cells: it stands in the batch after `front`, after the records `before`
   unfit : (area : Area) (pages : ℕ) (front : List (List (Record slots))) (before : List (Record slots)) (r : Record slots) (after : List (Record slots)) (back : List (List (Record slots)))
       → ArePagesRead image area pages (front ++ (before ++ r ∷ after) ∷ back)
       → AllFitCells pages image.pages [] (all_of front ++ before) (r ∷ (after ++ all_of back))

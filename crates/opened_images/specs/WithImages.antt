@@ -53,7 +53,7 @@ AreSamePages {slots} pages rs before now = (page : ℕ) → page < pages → is_
 
 -- ---- the laws
 
--- With these bytes in the pages area, these records behind a log's first batch make these cells of a store of so many pages.
+-- With these bytes in the pages area, these records after a log's first batch make these cells of a store of so many pages.
 pub record MakesCells {slots : ℕ} (pages : ℕ) (area : List ℕ) (rs : List (Record slots)) (cells : List Cell) : Type 0 where
   pub spelled : HaveSpellings rs
   pub fit_log : AllFitLog pages [] rs

@@ -56,7 +56,7 @@ pub fn pages_are_written_behind_images()
 {}
 
 /// Where all pages stand in place and no transaction is active, the log may begin anew with its first batch alone. What follows
-/// opens to the same cells as it would behind the old log.
+/// opens to the same cells as it would after the old log.
 pub fn logs_begin_anew()
     ensures anew { BeginsAnewLaw }
     ensures from { GoOnFromLaw }

@@ -82,7 +82,7 @@ no-records : {slots : ℕ} (rs : List (Record slots)) → HaveSpellings rs → b
 no-records [] spelled e = refl
 no-records (r ∷ rs) spelled e = absurd (omega (arith, few_records (r ∷ rs) spelled, ap length e))
 
--- the batches behind which the undo stands, and those with it
+-- the batches after which the undo stands, and those with it
 pub begun-after : {D : Type 0} (may_leave : D → Area → List ℕ → Type 0) (slots : ℕ) (image : Bytes) (v w : Replaying) (before now : List PageMark) (log : LogState) (disk : D) (bytes : List ℕ) (ids : ℕ) (f : AreCellsFound may_leave slots image v before log disk)
     → AreConsistent slots ids v.cells → IsUndoneWithMarks slots v bytes w before now → AreBodies (with_batch (body_of (first_records slots f.count) ∷ bodies_of f.batches) bytes)
     → IsMarkedBegun slots (length w.skips) image.pages (with_batch (body_of (first_records slots f.count) ∷ bodies_of f.batches) bytes) w.cells now

@@ -26,7 +26,7 @@ fits-appended log bytes none room =
     let long = batch-long bytes in
     omega (arith, room, tail, empty, long)
 
--- and what begins a batch behind it does so too
+-- and what begins a batch after it does so too
 pub fits-forced : (log new : LogState) (bytes : List ℕ) → log.tail ≡ [] → used log + batch_length bytes ≤ most_bytes → new.durable ≡ log.durable + batch_length bytes → new.tail ≡ [] → used new ≤ most_bytes
 fits-forced log new bytes none room is gone =
     let empty = ap (λ (t : List ℕ). length t) none in

@@ -1,4 +1,4 @@
--- Bytes behind the end of the pages area change nothing that a store opens to.
+-- Bytes after the end of the pages area change nothing that a store opens to.
 use Rattle.std.proofs.Common.{◌≡◌, ℕ, zero, suc, ◌+◌, ◌-◌, ◌*◌, ◌<◌, ◌≤◌, ◌⊎◌, inl, inr, Bool, true, false, cond, List, [], ◌∷◌, ◌++◌, length, map, take, drop, Some, refl, sym, ap, subst, ◌∙◌, append_assoc, lit<, arith}
 use Rattle.std.specs.Prelude.{◌||◌, ◌==◌, if◌then◌else◌, nat_le, ◌%◌}
 use Rattle.std.specs.List.{range_with_len}
@@ -43,7 +43,7 @@ whole_size slots page area whole = by (cases_lt (length (drop (page_size slots *
     by (inl low) = absurd (whole (length (bytes_of_page slots page area)) (inl (take_short (page_size slots) (drop (page_size slots * page) area) low, refl)))
     by (inr long) = long
 
--- what stands behind a list that is long enough
+-- what stands after a list that is long enough
 take-front : (n : ℕ) (xs ys : List ℕ) → n ≤ length xs → take n (xs ++ ys) ≡ take n xs
 take-front zero xs ys l = refl
 take-front (suc n) [] ys l = absurd (omega (arith, l))

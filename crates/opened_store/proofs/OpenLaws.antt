@@ -83,7 +83,7 @@ opens-before slots image other area count batches v ids r k can h =
     (opens area count batches v.cells (cells-moved slots image other area count batches v.cells (cells-are slots image area count batches v r none) h) (consistent-rules slots ids v.cells k)
     (subst (λ us. CanRestart slots v.cells us) r.unended can))
 
--- ---- with the batch of the undo behind them
+-- ---- with the batch of the undo after them
 
 -- where a page has no image in more records, it has none in fewer
 or-left : (a b : Bool) → (a || b) ≡ false → a ≡ false
@@ -144,7 +144,7 @@ none-in v w (OfCells r ∷ rs) f x = none-in f.0 w rs f.4 x
 none-in v w (Image p cells ∷ rs) f x = absurd f.2
 none-in v w (Turn version pages ∷ rs) f x = absurd f.2
 
--- lists of records, one behind another
+-- lists of records, one after another
 spelled-both : {slots : ℕ} (rs ss : List (Record slots)) → HaveSpellings rs → HaveSpellings ss → HaveSpellings (rs ++ ss)
 spelled-both [] ss h k = k
 spelled-both (r ∷ rs) ss h k = (h.0, h.1, spelled-both rs ss h.2 k)
@@ -160,11 +160,11 @@ behind-both us (r ∷ rs) ss = behind-both (unended_by us r) rs ss
 all-pushed : {slots : ℕ} (batches : List (List (Record slots))) (rs : List (Record slots)) → all_of (batches ++ rs ∷ []) ≡ all_of batches ++ rs
 all-pushed batches rs = flat_map-append (λ (l : List _). l) batches (rs ∷ []) ∙ ap (λ (l : List _). all_of batches ++ l) (append-nil rs)
 
--- the bodies of the batches with the undo's behind them
+-- the bodies of the batches with the undo's after them
 pub bodies-behind : {slots : ℕ} (batches : List (List (Record slots))) (rs : List (Record slots)) (bytes : List ℕ) → bytes ≡ body_of rs → bodies_of (batches ++ rs ∷ []) ≡ bodies_of batches ++ bytes ∷ []
 bodies-behind batches rs bytes are = map-append body_of batches (rs ∷ []) ∙ ap (λ (b : List ℕ). bodies_of batches ++ b ∷ []) (sym are)
 
--- with the undo's batch behind it the log has ended, and makes the cells that are undone
+-- with the undo's batch after it the log has ended, and makes the cells that are undone
 pub ended-behind : (slots : ℕ) (image : Bytes) (area : Area) (count : ℕ) (batches : List (List (Record slots))) (v w : Replaying) (bytes : List ℕ) → IsReplayed slots image area count batches v → (u : IsUndone slots v bytes w)
     → AreBodies (bodies_of batches ++ bytes ∷ []) → IsEndedLog count image.pages (batches ++ u.records ∷ []) w.cells
 ended-behind slots image area count batches v w bytes r u formed = record {

@@ -46,7 +46,7 @@ module _ {D : Type 0} (content : D → Area → Option (List ℕ)) (may_leave : 
     commit_byte = on.commit_byte;
   }
 
-  -- where each image of a disk opens to the cells, so does one whose pages area goes on behind what the disk reads there
+  -- where each image of a disk opens to the cells, so does one whose pages area goes on after what the disk reads there
   pub opens-longer : ((disk : D) (area : Area) → IfSome (content disk area) (may_leave disk area)) → (slots : ℕ) (disk : D) (c : List ℕ) (cells : List Cell) (other : Bytes) → content disk Pages ≡ Some c
       → EachImage may_leave disk (λ image. Opened slots image (OpensTo cells)) → IsImageBut may_leave disk Pages (Extends c) other → Opened slots other (OpensTo cells)
   opens-longer stays slots disk c cells other told each but =

@@ -18,7 +18,7 @@ pub record IsStoreOf (slots : ℕ) (image : Bytes) (v : Replaying) : Type 0 wher
   pub batches : List (List (Record slots))
   pub replayed : IsReplayed slots image area count batches v
 
--- an image with the same pages, which names the log in this area, and that has these batches behind its first one
+-- an image with the same pages, which names the log in this area, and that has these batches after its first one
 pub record HasBatches (slots : ℕ) (image : Bytes) (area : Area) (count : ℕ) (bodies : List (List ℕ)) (other : Bytes) : Type 0 where
   pub pages : other.pages ≡ image.pages
   pub named : named_by other.super_area ≡ Some area

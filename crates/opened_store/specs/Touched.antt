@@ -15,7 +15,7 @@ use Rattle.store_opening.specs.Room.{undo_size}
 use Rattle.store_opening.specs.Store.{Reads}
 
 -- An image at a moment of an opening of this disk, which read so: the super area and the other log area are ones from before. The
--- pages area is one from before, or what was read there with more bytes behind.
+-- pages area is one from before, or what was read there with more bytes after.
 pub record IsTouched {D : Type 0} (may_leave : D → Area → List ℕ → Type 0) (before : D) (log : Area) (read image : Bytes) : Type 0 where
   pub others : (area : Area) → area ≢ log → area ≢ Pages → may_leave before area (in_area image area)
   pub pages : may_leave before Pages image.pages ⊎ Extends read.pages image.pages
@@ -23,7 +23,7 @@ pub record IsTouched {D : Type 0} (may_leave : D → Area → List ℕ → Type 
 module _ {D : Type 0} (content : D → Area → Option (List ℕ)) (may_leave : D → Area → List ℕ → Type 0) (moment : D → ℕ) (left_since : D → ℕ → Bytes → Type 0) where
   -- Only the log area that the super area names was touched, and the pages area: the super area and the other log area read as
   -- before, and a power loss leaves nothing new there. In the pages area it leaves what it might have left before, or what was
-  -- read there with more bytes behind. So it is at each moment.
+  -- read there with more bytes after. So it is at each moment.
   pub record TouchesOnly (before now : D) (log : Area) : Type 0 where
     pub is_log : IsLogArea log
     pub named : IfSome (content before Super) (λ bytes. named_by bytes ≡ Some log)

@@ -29,18 +29,18 @@ fn batch_len(body: &[u8]) -> u64
     HEAD + body.len() as u64
 }
 
-/// Whether the log area has no room for a batch with this body, and for two commit bytes and a length behind it.
+/// Whether the log area has no room for a batch with this body, and for two commit bytes and a length after it.
 fn lacks_room(log: &GateLog, body: &[u8]) -> bool
     ensures { (result ≡ true) ↔ (most_bytes < used log.now + batch_length body.now) }
 {
     MOST < log.used().saturating_add(batch_len(body))
 }
 
-/// Makes the records of an undo last, as one batch behind those of the log; where there are none, no disk call is made.
+/// Makes the records of an undo last, as one batch after those of the log; where there are none, no disk call is made.
 ///
 /// At each moment of the call a power loss leaves what it might have left before, or the batches from before, or them and
 /// this one. [`OpenRefusal::Disk`] comes only where the disk's count of faults rose in this call. [`OpenRefusal::LogFull`]
-/// comes exactly where the log area has no room for this batch, and for two commit bytes and a length behind it, with which
+/// comes exactly where the log area has no room for this batch, and for two commit bytes and a length after it, with which
 /// a further one begins. [`OpenRefusal::Memory`] comes for want of memory, and not where there is nothing to undo. Both come
 /// before any disk call.
 pub fn force_undo<D: Disk>(log: &mut GateLog, disk: &mut D, bytes: &[u8]) -> Result<(), OpenRefusal>

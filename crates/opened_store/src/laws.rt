@@ -2,7 +2,7 @@
 ghost use Rattle.opened_store.specs.Longer.{LongerPagesLaw};
 ghost use Rattle.opened_store.specs.Unopened.{RefusedLaw};
 
-/// A store opens to the same cells with any bytes behind the end of its pages area. So that area may be lengthened.
+/// A store opens to the same cells with any bytes after the end of its pages area. So that area may be lengthened.
 pub fn pages_may_be_longer()
     ensures { LongerPagesLaw }
 {}

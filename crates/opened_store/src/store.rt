@@ -29,7 +29,7 @@ use page_lengths::{LengthRefusal, lengthen};
 use std::alloc::Global;
 use store_opening::{OpenRefusal, ReplayedLog};
 
-/// How many bytes the pages of a replay take, one behind another.
+/// How many bytes the pages of a replay take, one after another.
 fn pages_len<const SLOTS: usize>(replay: &Replay<SLOTS>) -> u64
     requires count { IsSlotCount SLOTS }
     ensures len { result ≡ page_size SLOTS * length replay.now.skips }
@@ -49,7 +49,7 @@ fn pages_len<const SLOTS: usize>(replay: &Replay<SLOTS>) -> u64
 /// and so does all that it leaves afterwards.
 /// Nothing is written where what the disk reads does not open, whatever is answered. [`OpenRefusal::Disk`] comes only where
 /// the disk's count of faults rose in this call. [`OpenRefusal::LogFull`] comes exactly where the store opens but the log area
-/// has no room for the batch of the undo, and for two commit bytes and a length behind it; [`OpenRefusal::Memory`] comes for
+/// has no room for the batch of the undo, and for two commit bytes and a length after it; [`OpenRefusal::Memory`] comes for
 /// want of memory.
 ///
 /// The log area that the super area names gets the batch of the undo, where there is something to undo, and the pages area

@@ -41,7 +41,7 @@ same_part size at from l m within there same =
     let few : i < size = omega (arith, low, here) in
     part_byte size at l i few ∙ same i few ∙ sym (part_byte size from m i few))
 
--- the page behind another one
+-- the page after another one
 behind : (size page : ℕ) → size * (page + 1) ≡ size * page + size
 behind size page = omega arith
 

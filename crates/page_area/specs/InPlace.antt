@@ -26,7 +26,7 @@ module _ {D : Type 0} (may_leave : D → Area → List ℕ → Type 0) where
   HasTornPages disk slots «first» count image =
       IsImageBut may_leave disk Pages (λ area. (was : List ℕ) × may_leave disk Pages was × AreTorn slots «first» count was area) image
 
--- the bytes of these records, one behind another
+-- the bytes of these records, one after another
 abbrev pub bytes_of_records : {slots : ℕ} → List (Record slots) → List ℕ
 bytes_of_records records = flat_map record_bytes records
 
@@ -40,7 +40,7 @@ pub record HasCopy (slots page : ℕ) (bytes : List ℕ) (image : Bytes) : Type 
   pub log : IsLog most_bytes (map bytes_of_records batches) (in_area image area)
   -- each of them is spelled by the rules of the format
   pub spelled : AllByRecursion (λ (r : Record slots). HasSpelling r × IsTypedRecord r) (flat_map (λ rs. rs) batches)
-  -- the image, and the records before it and behind it
+  -- the image, and the records before it and after it
   pub front : List (Record slots)
   pub held : List (Cell slots)
   pub back : List (Record slots)

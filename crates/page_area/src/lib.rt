@@ -1,4 +1,4 @@
-//! The pages of a store in the pages area of a disk, one behind another.
+//! The pages of a store in the pages area of a disk, one after another.
 #![tactic(auto)]
 
 mod laws;

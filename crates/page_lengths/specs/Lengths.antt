@@ -4,12 +4,12 @@ use Rattle.disk_model.specs.Causes.{Rose}
 use Rattle.page_lengths.specs.declared.behind.LengthRefusal.{LengthRefusal}
 use Rattle.page_lengths.specs.declared.behind.LengthRefusal.TheVariants.{Disk}
 
--- these bytes, and any behind them
+-- these bytes, and any after them
 pub record Extends (before now : List ℕ) : Type 0 where
   pub rest : List ℕ
   pub are : now ≡ before ++ rest
 
--- these bytes, and behind them zero bytes up to so many
+-- these bytes, and after them zero bytes up to so many
 abbrev pub lengthened : ℕ → List ℕ → List ℕ
 lengthened wanted bytes = bytes ++ replicate (wanted - length bytes) 0
 

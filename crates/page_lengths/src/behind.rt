@@ -20,7 +20,7 @@ pub enum LengthRefusal {
 
 /// Writes these bytes at the end of the pages area, which has so many, and makes them last.
 ///
-/// At each moment a power loss leaves the bytes from before, and any behind them.
+/// At each moment a power loss leaves the bytes from before, and any after them.
 fn write_behind<D: Disk>(disk: &mut D, len: u64, bytes: &[u8]) -> Result<(), DiskFailed>
     requires len { IfSome (D.content disk.old Pages) (λ c. len ≡ length c) }
     ensures left { (c : List ℕ) → IsSettled D.content D.may_leave disk.old Pages → D.content disk.old Pages ≡ Some c → Leaves D.may_leave disk.new Pages (Extends c) }
@@ -39,7 +39,7 @@ fn write_behind<D: Disk>(disk: &mut D, len: u64, bytes: &[u8]) -> Result<(), Dis
 
 /// Lengthens the pages area by zero bytes to so many, where it has fewer, and makes it last.
 ///
-/// At each moment a power loss leaves the bytes from before, and any behind them. An area that has so many stays as it is,
+/// At each moment a power loss leaves the bytes from before, and any after them. An area that has so many stays as it is,
 /// and a power loss leaves nothing new.
 pub fn lengthen<D: Disk>(alloc: Global, disk: &mut D, wanted: u64) -> Result<(), LengthRefusal>
     requires few { wanted ≤ 2 ^ 24 }

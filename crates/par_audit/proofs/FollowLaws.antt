@@ -81,7 +81,7 @@ follows-within f g a b xs ys e p = record {
   new = p.new;
 }
 
--- what is listed alone may be listed behind others
+-- what is listed alone may be listed after others
 pub follows-behind : (f : ℕ → Bool) (a b : List Bool) (xs ys zs : List ℕ) → zs ≡ xs ++ ys → Follows f a b [] ys → Follows f a b xs zs
 follows-behind f a b xs ys zs e p = record {
   len = p.len;

@@ -279,7 +279,7 @@ marking-begins cells a b ys all s = subst (λ (l : List ℕ). IsMarking (graph_o
     single x (zero, lt, at) = at
     single x (suc k, lt, at) = absurd (omega (arith, lt))
 
--- a level more, where the list has the level from one place on and the next level behind it
+-- a level more, where the list has the level from one place on and the next level after it
 pub marking-goes_on : {slots : ℕ} (cells : List (PageCell slots)) (a b : List Bool) (xs ys : List ℕ) («from» : ℕ) → AreObjects (map cell_of cells) a
     → IsMarking (graph_of (map cell_of cells)) (root ∷ []) (is_reached (map cell_of cells) a) (drop «from» xs) → Follows (is_named cells (drop «from» xs)) a b xs ys
     → IsMarking (graph_of (map cell_of cells)) (root ∷ []) (is_reached (map cell_of cells) b) (drop (length xs) ys)

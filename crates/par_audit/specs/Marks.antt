@@ -39,7 +39,7 @@ abbrev pub AreObjects : List StoredCell → List Bool → Type 0
 AreObjects cells table = (id : ℕ) → is_marked table id ≡ true → is_object cells id ≡ true
 
 -- from these unreached objects and this list of found ones to those after it: each unreached object with one of the names is
--- reached, and found, behind what was found before
+-- reached, and found, after what was found before
 pub record Follows (has_name : ℕ → Bool) (before after : List Bool) (listed listed_after : List ℕ) : Type 0 where
   pub len : length after ≡ length before
   pub kept : (id : ℕ) → is_marked after id ≡ (is_marked before id && not (has_name id))

@@ -54,7 +54,7 @@ fn follow<const SLOTS: usize>(
     Ok(())
 }
 
-/// Follows the objects that are listed from this place on, one after another. Those that it finds stand behind them.
+/// Follows the objects that are listed from this place on, one after another. Those that it finds stand after them.
 pub(crate) fn follow_in_turn<const SLOTS: usize>(
     cells: &[Cell<SLOTS>],
     unreached: &mut [bool],

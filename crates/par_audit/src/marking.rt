@@ -56,7 +56,7 @@ fn append(found: &mut Vec<u32>, mut next: Vec<u32>) -> Result<(), Memory>
     Ok(())
 }
 
-/// Follows the objects of a level, which are those that are listed from this place on. The next level stands behind them.
+/// Follows the objects of a level, which are those that are listed from this place on. The next level stands after them.
 fn follow_level<const SLOTS: usize>(
     rt: &(impl Threads + Sync),
     alloc: Global,

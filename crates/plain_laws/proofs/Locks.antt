@@ -40,7 +40,7 @@ other_fails : (test : ActiveTransaction → Bool) (pass : ℕ) (e : ℕ × Activ
 other_fails test pass e es f =
     elim (e.0 == pass) as (λ b. option_map (λ (x : ℕ × ActiveTransaction). x.0) (cond (not b && test e.1) (Some e) (find (λ (x : ℕ × ActiveTransaction). not (x.0 == pass) && test x.1) es)) ≡ least_other test pass es) [ true ↦ refl | false ↦ rw f ]
 
--- a client behind the others is above them
+-- a client after the others is above them
 at_above : (n p : ℕ) (t : ActiveTransaction) (es : List (ℕ × ActiveTransaction)) → AllByRecursion (λ e. n < e.0) es → at p es ≡ Some t → n < p
 at_above n p t [] a h = absurd (cc)
 at_above n p t (e ∷ es) a h =

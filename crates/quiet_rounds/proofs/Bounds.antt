@@ -52,7 +52,7 @@ pub record IsWalked (slots n : ℕ) (w : Walk) : Type 0 where
   pub few : w.place * slots + w.slot ≤ slots * length w.list
   pub events : n ≤ w.place * slots + w.slot + length w.copies
 
--- so many events came: behind the verdict one for each slot of a condemned object and one for each that was freed, and the score
+-- so many events came: after the verdict one for each slot of a condemned object and one for each that was freed, and the score
 -- of the green walk, which is of objects that live
 pub record IsSwept (slots n : ℕ) (w : Walk) (s : Sweep) (slot : ℕ) (g : Greening) : Type 0 where
   pub within : slot < slots

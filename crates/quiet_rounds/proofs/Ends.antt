@@ -73,7 +73,7 @@ record IsOver (g : Greening) (st : GreenStage) : Type 0 where
   all_walked : (place slot : ℕ) → place < length g.green → WasWalked g st place slot
   all_green : (id : ℕ) → Contains g.seeds id → Contains g.green id
 
--- behind the last green object the end comes only where no seed is left
+-- after the last green object the end comes only where no seed is left
 out-over : (g : Greening) (place slot : ℕ) → next_of_green (record g { stage = AtOut place slot }) ≡ green.End → (length g.green ≤ place) × (drop 1 g.seeds ≡ [])
 out-over g place slot e = by (nat_lt place (length g.green)) refl
   where

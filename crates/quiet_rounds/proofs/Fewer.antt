@@ -52,7 +52,7 @@ without_strong-like cells new y k = (
   λ u. record { live = k.live ∙ u.live; not_root = u.not_root; zero = k.strong u.live ∙ u.zero },
 )
 
--- behind the verdict the other objects are without strong pointers exactly where they were at the start, and those of the round
+-- after the verdict the other objects are without strong pointers exactly where they were at the start, and those of the round
 -- that are no more in it were freed
 record IsBehind (began cells : List Cell) (w : Walk) : Type 0 where
   others : (y : ℕ) → (Contains w.list y → ⊥) → IsWithoutStrong cells y ↔ IsWithoutStrong began y
@@ -147,7 +147,7 @@ module _ (began : List Cell) (x slots : ℕ) (cells : List Cell) where
   looks-along u _ no_look k = k
   looks-along u _ (more v before idle) k = look-along v (looks-along u v before k)
 
--- ---- events behind the verdict
+-- ---- events after the verdict
 
 some-same : {X : Type 0} (x y : X) → Some x ≡ Some y → x ≡ y
 some-same x y e = ap (λ o. unwrap_or o x) e

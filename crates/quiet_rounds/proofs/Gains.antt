@@ -52,7 +52,7 @@ count-both : (P Q R : CopiedSlot → Bool) (xs : List CopiedSlot) → ((s : Copi
 count-both P Q R [] f g h = omega arith
 count-both P Q R (s ∷ rest) f g h = let one = one-both (P s) (R s) (Q s) (f s) (g s) (h s) in let more = count-both P Q R rest f g h in omega (arith, one, more)
 
--- behind the first one there are no more
+-- after the first one there are no more
 count-behind : (P Q : CopiedSlot → Bool) (xs : List CopiedSlot) → count Q (behind_first P xs) ≤ count Q xs
 count-behind P Q [] = omega arith
 count-behind P Q (s ∷ rest) = by (P s) (count-behind P Q rest)

@@ -331,7 +331,7 @@ module _ {slots : ℕ} {c : Core} {w : Walk} {s : Sweep} {g : Greening} (h : IsQ
         sweeping = λ n. absurd (n h.over);
       }
 
-  -- the walk is behind the pointer
+  -- the walk is after the pointer
   moved-quiet : IsQuietSweep (switched_at c.cells «from» slot) slots w s (moved (greened g to) a.place slot)
   moved-quiet = by (slot + 1 == g.slots) refl
     where

@@ -132,7 +132,7 @@ journal-looks slots i j s quiet l =
 
 -- ---- steps
 
--- the journal behind the steps is one whose history was told
+-- the journal after the steps is one whose history was told
 pub steps-told : (slots : ℕ) (i k : JournalView) (notes : List Note) → IsSoundJournal slots i → CollectorSteps slots i k notes → IsSoundJournal slots k
 steps-told slots i _ _ s none = s
 steps-told slots i _ _ s (looks j k notes before l) = looked-told slots j k (steps-told slots i j notes s before) l

@@ -55,7 +55,7 @@ waits-apart g u id n e z = true≢false (sym e ∙ ap (waits g) (sym z) ∙ n)
 
 -- ---- slots that are passed over
 
--- a slot with the property is the first one with it, or behind that
+-- a slot with the property is the first one with it, or after that
 pub behind-first : (P : CopiedSlot → Bool) (rest : List CopiedSlot) (first s : CopiedSlot) → first_with P rest ≡ Some first → Contains rest s → P s ≡ true → (first ≡ s) ⊎ Contains (behind_first P rest) s
 behind-first P [] first s e m p = absurd (cc)
 behind-first P (t ∷ rest) first s e m p = by (P t) refl (λ f q. behind-first P rest first s f q p)
@@ -92,7 +92,7 @@ module _ {cells new : List Cell} (same : AreSameGraph cells new) where
         subst (λ y. IsLedTo new (record g { green = green; stage = stage; test = test }) y) (same.target id slot)
         (over id slot (led-kept more l) (subst (λ y. Contains g.live y) (sym (same.target id slot)) m))
 
--- ---- a quiet round behind its sweep
+-- ---- a quiet round after its sweep
 
 pub record IsQuietGreen (slots : ℕ) (c : Core) (w : Walk) (s : Sweep) (g : Greening) : Type 0 where
   pub sound : IsSound c

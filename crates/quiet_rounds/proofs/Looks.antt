@@ -158,7 +158,7 @@ module _ (slots : ℕ) (cells : List Cell) where
       by true = (k.0, swept cells slots w s id g e k.1)
       by false = k
 
-  -- a look of the sweep, or of the green walk behind it, keeps that
+  -- a look of the sweep, or of the green walk after it, keeps that
   pub quiet-sweep-look : (w : Walk) (s : Sweep) (slot : ℕ) (g : Greening) (a : SweepAt) → next_of_sweep s ≡ a → is_event cells (asked_by_sweep slot g a) ≡ false → IsQuietIn slots cells (Sweeping w s slot g) → IsQuietIn slots cells (passed_by_sweep slots cells w s slot g a)
   quiet-sweep-look w s slot g (sweep.Slots id) e idle k = next-quiet w s slot id g e k
   quiet-sweep-look w s slot g (sweep.Free id) e idle k = absurd (cc)

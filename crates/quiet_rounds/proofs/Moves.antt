@@ -132,7 +132,7 @@ moved-quiet slots cells w within weak q = by (w.slot + 1 == slots) refl
     }
     by false e = record { untouched = q.untouched; zero = q.zero; walked = q.walked; here = λ a. more; copies = q.copies }
 
--- it is in its list, or at the first slot behind it
+-- it is in its list, or at the first slot after it
 abbrev pub IsAtSlot : Walk → Type 0
 IsAtSlot w = (w.place ≤ length w.list) × (w.place ≡ length w.list → w.slot ≡ 0)
 

@@ -44,7 +44,7 @@ pub scan-none : (ns : List Note) (n : Note) → is_scan n.act ≡ false → has_
 scan-none [] n e = ap (λ b. if b then true else false) e
 scan-none (m ∷ ns) n e = ap (λ b. if is_scan m.act then true else b) (scan-none ns n e)
 
--- behind a copy no object joins the list
+-- after a copy no object joins the list
 pub list-scanned : (slots : ℕ) (cells : List Cell) (list : List ℕ) (ns : List Note) (n : Note) → has_scan ns ≡ true → list_from slots cells list (ns ++ n ∷ []) ≡ list_from slots cells list ns
 list-scanned slots cells list [] n e = absurd (cc)
 list-scanned slots cells list (m ∷ ns) n e =

@@ -114,7 +114,7 @@ idle-steps slots i _ _ none e = refl
 idle-steps slots i _ _ (looks j k notes before l) e = l.core ∙ idle-steps slots i j notes before e
 idle-steps slots i _ _ (event j k notes r before m opening told) e = absurd (snoc-some notes (note_of slots j k r m) (sym e))
 
--- a start and steps behind it, none of which ends the round
+-- a start and steps after it, none of which ends the round
 abbrev StartsWith : ℕ → JournalView → JournalView → ℕ → List Note → Type 0
 StartsWith slots i k x notes = («first» : Note) (rest : List Note) → notes ≡ «first» ∷ rest → «first».act ≡ act.Start x → ((n : Note) → Contains rest n → n.act ≢ act.End) → IsOpenRound slots (core_of i) x rest (core_of k) k.round
 

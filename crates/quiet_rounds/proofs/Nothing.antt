@@ -134,7 +134,7 @@ module _ (cells : List Cell) (slots : ℕ) (w : Walk) (s : Sweep) (ends : next_o
         (λ (b : slot ≤ n). let same : slot ≡ n = omega (arith, m, b) in subst (λ (x : ℕ). waits g (pointer_at cells here x).target ≡ false) same idle)
         (cases_lt n slot)
 
-    -- behind the last slot there is nothing
+    -- after the last slot there is nothing
     out-all : slot + 1 ≡ g.slots → (n : ℕ) → waits g (pointer_at cells here n).target ≡ false
     out-all last n =
         ⊎_elim
@@ -146,7 +146,7 @@ module _ (cells : List Cell) (slots : ℕ) (w : Walk) (s : Sweep) (ends : next_o
         subst (λ (p : Pointer). waits g p.target ≡ false) (sym none) (null-waits g i.greening.live_ids))
         (cases_lt n (slot + 1))
 
-    -- the walk goes on to a stage behind this slot
+    -- the walk goes on to a stage after this slot
     out-stage : (at k' : ℕ) → ((p n : ℕ) → (p < at) ⊎ ((p ≡ at) × (n < k')) → p < length g.green → waits g (pointer_at cells (get_or g.green p 0) n).target ≡ false) → IsQuietSweep cells slots w s (record g { stage = AtOut at k'; test = None })
     out-stage at k' was = quiet-staged cells slots w s (record g { stage = AtOut place slot }) g.seeds (AtOut at k') None g.walked g.changed k ends (record {
       none_out = k.none_out;

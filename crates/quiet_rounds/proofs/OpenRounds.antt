@@ -129,7 +129,7 @@ abbrev IsNoted : ℕ → List Cell → ℕ → List Note → RoundView → Type 
 IsNoted slots first_cells x notes v = (list_of v ≡ list_from slots first_cells (x ∷ []) notes) × (has_scan notes ≡ has_copies v)
 
 module _ (slots : ℕ) (first_cells : List Cell) (x : ℕ) (notes : List Note) (entry : Entry) (left : ℕ) where
-  -- an event behind the first copy that lets no object join
+  -- an event after the first copy that lets no object join
   later : (which : Act) (logged : Option CellRecord) (cells : List Cell) (u v : RoundView) → IsListed slots first_cells x notes cells u → has_copies u ≡ true → IsAlike u v → IsNoted slots first_cells x (notes ++ note entry left which logged ∷ []) v
   later which logged cells u v k copied a = (
     a.list ∙ (k.list ∙ sym (list-scanned slots first_cells (x ∷ []) notes (note entry left which logged) (k.scanned ∙ copied))),
@@ -187,7 +187,7 @@ module _ (slots : ℕ) (first_cells : List Cell) (x : ℕ) (notes : List Note) (
 
 -- ---- a round since its start
 
--- the round opened with the object and is open, with the notes behind its start
+-- the round opened with the object and is open, with the notes after its start
 pub record IsOpenRound (slots : ℕ) (c : Core) (x : ℕ) (notes : List Note) (d : Core) (v : RoundView) : Type 0 where
   pub opening : Core
   pub starts : IsQuietEvent slots c opening Closed (Walking (opened c.moment.state.ids x)) (act.Start x) None

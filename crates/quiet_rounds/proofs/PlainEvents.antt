@@ -48,7 +48,7 @@ LivesIn cells _ = Unit {0}
 
 -- ---- looks
 
--- what holds behind looks
+-- what holds after looks
 pub record IsPassed (cells : List Cell) (u v : RoundView) : Type 0 where
   pub looks : LooksOn cells (plain_in u) (plain_in v)
   pub lives : LivesIn cells v

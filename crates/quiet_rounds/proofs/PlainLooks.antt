@@ -51,7 +51,7 @@ waits-before g id u w = waits-less g id u w
 more-green : (g : Greening) (id : ℕ) → g.walked ≤ length g.green → g.walked ≤ length (g.green ++ id ∷ [])
 more-green g id few = let n = length_push g.green id in omega (arith, n, few)
 
--- where a slot is left to be looked at behind a flip, it is asked for
+-- where a slot is left to be looked at after a flip, it is asked for
 asked-into : (g : Greening) (flipped : ℕ) (rest : List CopiedSlot) (first : CopiedSlot) → first_with (may_lead_to g flipped) rest ≡ Some first → asked_at g (AtInto flipped rest) ≡ green.Into first.id first.slot flipped
 asked-into g flipped rest first e = ap (look_into flipped) e
 
@@ -67,7 +67,7 @@ module _ (cells : List Cell) where
       let out = spent w (eq-eqb (cell_at cells id).strong 0 white.zero) in
       white.none_out out.slot (pointer_at cells id out.slot).target (strong-at cells id out.slot (lives w) out.strong)
 
-  -- ---- behind a flip
+  -- ---- after a flip
 
   module _ (g : Greening) (flipped : ℕ) (current : g.current ≡ true → (c : CopiedSlot) → Contains g.copied c → Contains g.live c.id → (pointer_at cells c.id c.slot).target ≡ c.target) where
     -- a slot that is not looked at holds no strong pointer to the flipped object, or its object doesn't wait
@@ -152,7 +152,7 @@ module _ (cells : List Cell) where
           let at : n + 1 ≡ suc n = omega arith in
           looks-then before (subst (λ (k : ℕ). LooksOn cells (plain_at g (AtOut n 0)) (plain_at g (AtOut k 0))) at (pass-object n (omega (arith, few)) (λ slot l. spent n slot (omega arith) l)))
 
-    -- a walk behind a seed begins where nothing is known
+    -- a walk after a seed begins where nothing is known
     pub pass-walked : (s : Sweep) (st : GreenStage) → 0 < g.slots → g.walked ≤ length g.green → ((place slot : ℕ) → place < g.walked → WasPassed g.walked st place slot) → AreSaved cells s (record g { stage = st }) → LooksOn cells (plain_at g (AtOut 0 0)) (plain_of (walking g))
     pass-walked s st some few before saved = by g.changed refl
       where

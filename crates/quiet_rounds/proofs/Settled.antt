@@ -34,7 +34,7 @@ first-none P (t ∷ rest) s none m has_it = by (P t) refl (λ e later. first-non
         (λ (later : Contains rest s). again (sym (passed-over P t rest e) ∙ none) later)
         (Contains-cons t rest s m)
 
--- a slot with the property is the first one, or behind it
+-- a slot with the property is the first one, or after it
 pub first-or-behind : (P : CopiedSlot → Bool) (rest : List CopiedSlot) (s : CopiedSlot) → Contains rest s → P s ≡ true → (first_with P rest ≡ Some s) ⊎ Contains (behind_first P rest) s
 first-or-behind P [] s m has_it = absurd (omega (arith, m.1))
 first-or-behind P (t ∷ rest) s m has_it = by (P t) refl (λ later. first-or-behind P rest s later has_it)
@@ -55,7 +55,7 @@ first-or-behind P (t ∷ rest) s m has_it = by (P t) refl (λ later. first-or-be
         (again later))
         (Contains-cons t rest s m)
 
--- ---- behind the sweep
+-- ---- after the sweep
 
 end-freed : (xs ys : List ℕ) → first_of xs ys ≡ sweep.End → ys ≡ []
 end-freed [] [] e = refl

@@ -58,7 +58,7 @@ same-back same id = record { live = sym (same id).live; object = sym (same id).o
 
 -- ---- at a moment of the round
 
--- behind the verdict: the chosen objects of the list are those that nothing leads to from outside, all others are as at the
+-- after the verdict: the chosen objects of the list are those that nothing leads to from outside, all others are as at the
 -- start, and chosen ones are live only until they are freed
 pub record IsStayed (start cells : List Cell) (list chosen waiting : List ℕ) : Type 0 where
   pub chosen_are : (id : ℕ) → Contains chosen id → Contains list id × (IsLedFrom start list id → ⊥)
@@ -75,7 +75,7 @@ HasStayed start cells (Sweeping w s slot g) = IsStayed start cells w.list s.list
 
 -- ---- looks
 
--- the sweep goes on behind a slot
+-- the sweep goes on after a slot
 pub stayed-next : (slots : ℕ) (start cells : List Cell) (w : Walk) (s : Sweep) (slot id : ℕ) (g : Greening) → next_of_sweep s ≡ sweep.Slots id → IsStayed start cells w.list s.list (unfreed s) → HasStayed start cells (next_slot slots w s slot g)
 stayed-next slots start cells w s slot id g at h = by (slot + 1 == slots) behind h
   where

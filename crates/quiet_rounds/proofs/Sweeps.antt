@@ -65,7 +65,7 @@ led-live cells g k x (from_seed id m) = k.seeds_live id m
 led-live cells g k x (from_green id m) = k.green_live id m
 led-live cells g k x (over id slot l m) = m
 
--- what is led to over objects that stay is led to behind the change
+-- what is led to over objects that stay is led to after the change
 led-kept : (cells later : List Cell) (g : Greening) → IsGreening g → ((x k : ℕ) → Contains g.live x → pointer_at later x k ≡ pointer_at cells x k) → (x : ℕ) → IsLedTo cells g x → IsLedTo later g x
 led-kept cells later g k others x (from_seed id m) = from_seed id m
 led-kept cells later g k others x (from_green id m) = from_green id m
@@ -133,7 +133,7 @@ strong-cut cells id slot x n l z =
     ap (λ (o : Bool). cond (same o bit) (cell_at later x).strong (cell_at later x).weak) (relinked-bit cells id slot null x) ∙ ap (λ (t : Bool). cond t (cell_at later x).strong (cell_at later x).weak) (same-self bit) in
     omega (arith, c, nothing, before, after, z)
 
--- a strong pointer behind the change was there
+-- a strong pointer after the change was there
 strong-was : (cells : List Cell) (id slot x k : ℕ) → id ≢ 0 → id < length cells → slot < length (cell_at cells id).pointers
     → is_counted_strong (relinked cells id slot null) (pointer_at (relinked cells id slot null) x k) ≡ true → is_counted_strong cells (pointer_at cells x k) ≡ true
 strong-was cells id slot x k n l within h =
@@ -146,7 +146,7 @@ strong-was cells id slot x k n l within h =
     sym (ap (λ (b : Bool). not (p.target == 0) && same b p.bit) (relinked-bit cells id slot null p.target)) ∙ was)
     (relinked-which cells id slot null x k n l within)
 
--- the sweep goes on behind a slot, or behind an object: nothing is freed
+-- the sweep goes on after a slot, or after an object: nothing is freed
 pub calm-next : (slots : ℕ) (cells : List Cell) (w : Walk) (s : Sweep) (slot id : ℕ) (g : Greening) → next_of_sweep s ≡ sweep.Slots id
     → ((t : Sweep) → unfreed t ≡ unfreed s → IsQuietSweep cells slots w t g) → IsQuietRound slots cells (next_slot slots w s slot g)
 calm-next slots cells w s slot id g at q =

@@ -35,7 +35,7 @@ pub record IsUsedUp (taken : ℕ) (queue behind : List ℕ) : Type 0 where
 abbrev pub QueueLaw : Type 0
 QueueLaw = (slots : ℕ) (c d : Core) (rounds passed : ℕ) → IsCollection slots c d rounds passed → IsUsedUp (rounds + passed) c.queue d.queue
 
--- where the queue is empty behind it, there were as many rounds as objects to which no strong pointer led, and there is no such
+-- where the queue is empty after it, there were as many rounds as objects to which no strong pointer led, and there is no such
 -- object any more
 abbrev pub AtRestLaw : Type 0
 AtRestLaw =

@@ -24,7 +24,7 @@ pub record IsSoundJournal (slots : ℕ) (j : JournalView) : Type 0 where
 abbrev pub note_of : (slots : ℕ) (i j : JournalView) (r : Collect) → MakesEvent slots i j r → Note
 note_of slots i j r m = record { entry = entry_of m.logged; logged = m.logged; left = left_of slots j.round; act = m.event }
 
--- looks and events of the collector one after another, with the notes that they add and with what the history tells behind each
+-- looks and events of the collector one after another, with the notes that they add and with what the history tells after each
 -- event
 pub data CollectorSteps (slots : ℕ) (i : JournalView) : JournalView → List Note → Type 0 where
   none : CollectorSteps slots i i []

@@ -12,7 +12,7 @@ use Rattle.core_store.specs.Events.{core_after}
 use Rattle.core_store.specs.RoundView.{RoundView, round_of, Passes, Proceeds, IsInStep}
 use Rattle.quiet_rounds.specs.Quiet.{NoneActive, IsQuietRound}
 
--- an event of the collector on a sound journal beside which no client is active, with the cursor before and behind it
+-- an event of the collector on a sound journal beside which no client is active, with the cursor before and after it
 pub record IsQuietEvent (slots : ℕ) (c d : Core) (u v : RoundView) (event : Act) (logged : Option CellRecord) : Type 0 where
   pub sound : IsSound c
   pub slots_are : c.moment.state.slots ≡ slots

@@ -1,4 +1,4 @@
--- The plain green walk, which saves no look: behind each seed all green objects are walked from the first one on, with all their
+-- The plain green walk, which saves no look: after each seed all green objects are walked from the first one on, with all their
 -- slots, and each look asks what the cells hold at that moment.
 use Rattle.std.specs.Prelude.{◌≡◌, ◌≢◌, ℕ, ◌+◌, ◌<◌, ◌≤◌, ◌==◌, ◌&&◌, not, if◌then◌else◌, Bool, true, false, List, [], ◌∷◌, ◌++◌, map, length, drop, slice_index_or, Option, Some, None}
 use Rattle.cell_model.specs.Cells.{Cell, cell_at, pointer_at}
@@ -58,7 +58,7 @@ pub record IsWhite (cells : List Cell) (p : PlainWalk) (id : ℕ) : Type 0 where
 abbrev pub greened : PlainWalk → ℕ → PlainWalk
 greened p id = record p { green = p.green ++ id ∷ [] }
 
--- behind a seed all green objects are walked, from the first slot of the first one on
+-- after a seed all green objects are walked, from the first slot of the first one on
 abbrev pub behind_seed : PlainWalk → PlainWalk
 behind_seed p = record p { stage = AtGreen 0 0 }
 
@@ -80,7 +80,7 @@ pub data Looks (cells : List Cell) (p : PlainWalk) : PlainWalk → Type 0 where
   bound_seed : (id : ℕ) (ids : List ℕ) (slot to : ℕ) → p.stage ≡ AtSeeds → p.seeds ≡ id ∷ ids → waits p id ≡ true → (cell_at cells id).strong ≡ 0 → IsStrongAt cells id slot to → Looks cells p (behind_seed p)
   -- a slot that holds no strong pointer to the flipped object, or whose object doesn't wait
   other_slot : (flipped id slot : ℕ) (rest : List (ℕ × ℕ)) → p.stage ≡ AtPointers flipped ((id, slot) ∷ rest) → (waits p id ≡ true → IsStrongAt cells id slot flipped → ⊥) → Looks cells p (record p { stage = AtPointers flipped rest })
-  -- no slot is left to be looked at behind the flip
+  -- no slot is left to be looked at after the flip
   all_weak : (flipped : ℕ) → p.stage ≡ AtPointers flipped [] → Looks cells p (behind_seed p)
   -- the slot of a green object names none that may become green
   no_white : (place slot : ℕ) → p.stage ≡ AtGreen place slot → place < length p.green → (IsWhite cells p (target_of cells p place slot) → ⊥) → Looks cells p (behind_slot p place slot)
@@ -107,7 +107,7 @@ pub data Makes (cells : List Cell) (p : PlainWalk) : Act → Option CellRecord �
   -- no seed is left
   ends : p.stage ≡ AtSeeds → p.seeds ≡ [] → Makes cells p act.End None no_walk
 
--- the event is the one that the walk finds next, and behind it the walk goes on so
+-- the event is the one that the walk finds next, and after it the walk goes on so
 pub record Finds (cells : List Cell) (p : PlainWalk) (event : Act) (logged : Option CellRecord) (q : PlainWalk) : Type 0 where
   pub at : PlainWalk
   pub looks : LooksOn cells p at
@@ -127,7 +127,7 @@ plain_stage (AtOut place slot) = AtGreen place slot
 abbrev pub plain_of : Greening → PlainWalk
 plain_of g = record { seeds = g.seeds; live = g.live; green = g.green; stage = plain_stage g.stage; around = map place_of g.copied; slots = g.slots }
 
--- that of a round behind its verdict
+-- that of a round after its verdict
 abbrev pub plain_in : RoundView → PlainWalk
 plain_in (Sweeping w s slot g) = plain_of g
 plain_in _ = no_walk
@@ -147,7 +147,7 @@ IsPlain cells _ event logged v = Unit {0}
 abbrev pub PlainLooksLaw : Type 0
 PlainLooksLaw = (slots : ℕ) (i j : JournalView) → IsSoundJournal slots i → IsTested (cells_of i) i.round → OnlyLooks slots i j → LooksOn (cells_of i) (plain_in i.round) (plain_in j.round)
 
--- its events behind a sweep are those that the plain walk finds
+-- its events after a sweep are those that the plain walk finds
 abbrev pub PlainEventsLaw : Type 0
 PlainEventsLaw =
     (slots : ℕ) (i j : JournalView) (r : Collect) → IsSoundJournal slots i → IsTested (cells_of i) i.round → (m : MakesEvent slots i j r) → j.opening ≡ i.opening → IsSoundJournal slots j

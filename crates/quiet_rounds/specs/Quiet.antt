@@ -30,7 +30,7 @@ pub record IsQuietWalk (slots : ℕ) (cells : List Cell) (w : Walk) : Type 0 whe
   pub here : w.place < length w.list → HasNoStrongIn cells (slice_index_or w.list w.place 0) w.slot
   pub copies : (id : ℕ) (copy : Copy) → Contains w.copies (id, copy) → copy ≡ copy_of (cell_at cells id)
 
--- ---- behind the verdict
+-- ---- after the verdict
 
 -- a pointer leads to the object from a live one that isn't in the list
 abbrev pub HasOther : List Cell → List ℕ → ℕ → Type 0
@@ -78,7 +78,7 @@ pub record IsQuietSweep (cells : List Cell) (slots : ℕ) (w : Walk) (s : Sweep)
   pub led : (id : ℕ) → Contains g.live id → IsLedTo cells g id
   -- what is left of the round is condemned or lives
   pub parted : (id : ℕ) → Contains w.left id → Contains (unfreed s) id ⊎ Contains g.live id
-  -- the green walk begins behind the sweep
+  -- the green walk begins after the sweep
   pub sweeping : next_of_sweep s ≢ SweepEnd → (g.stage ≡ AtSeed) × (g.green ≡ [])
 
 -- ---- together

@@ -39,7 +39,7 @@ is_to_join cells list target = not (target == root) && (not (has list target) &&
 abbrev pub listed_if : Bool → List ℕ → ℕ → List ℕ
 listed_if joins list target = if joins then list ++ target ∷ [] else list
 
--- the list after a note that logged this, by the cells behind it: the target of a pointer that became weak joins where it is to
+-- the list after a note that logged this, by the cells after it: the target of a pointer that became weak joins where it is to
 abbrev pub list_after : List Cell → List ℕ → Option CellRecord → List ℕ
 list_after cells list (Some (logs.Weaken id slot target)) = listed_if (is_to_join cells list target) list target
 list_after cells list _ = list

@@ -50,7 +50,7 @@ StepsRoundsLaw = (slots : ℕ) (i k : JournalView) (notes : List Note) → AreFr
 abbrev pub StepsEndLaw : Type 0
 StepsEndLaw = (slots : ℕ) (i k : JournalView) (notes : List Note) → AreFromRest slots i k notes → length notes ≤ most_events slots i.history.ids * length i.queue
 
--- where the collector is idle behind them, no such object is left, and there were exactly as many rounds
+-- where the collector is idle after them, no such object is left, and there were exactly as many rounds
 abbrev pub StepsIdleLaw : Type 0
 StepsIdleLaw =
     (slots : ℕ) (i k : JournalView) (notes : List Note) → AreFromRest slots i k notes → k.queue ≡ [] → k.round ≡ Closed

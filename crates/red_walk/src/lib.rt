@@ -3,7 +3,7 @@
 //! A round opens with one object without strong pointers. The walk goes over the round's objects in the
 //! order in which they joined, and over each object's slots in ascending order, and asks for a look at
 //! each slot, save those that the caller goes over since they give nothing to do. The caller makes a
-//! strong pointer weak and tells which object joins by this. Behind the last slot the walk asks for a copy
+//! strong pointer weak and tells which object joins by this. After the last slot the walk asks for a copy
 //! of each object's slots and counts, in the same order, and then for the verdict. From the first copy on,
 //! an object that changes is marked as touched.
 //!

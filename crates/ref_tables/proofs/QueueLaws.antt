@@ -159,7 +159,7 @@ IsQueueInside-drop ids count links marks limit id changed k there same_linked ne
       small = k.small;
     }
 
--- behind 0 stands the first
+-- after 0 stands the first
 pub IsQueueInside-first : {S : Type 0} (ids : List ℕ) (count : ℕ) (links : IndexMap ℕ Link S) (marks : List Bool) (limit : ℕ) → IsQueueInside ids count links marks limit → next_of links 0 ≢ 0 → ids ≡ next_of links 0 ∷ without ids (next_of links 0)
 IsQueueInside-first [] count links marks limit k some = absurd (some k.ring.0)
 IsQueueInside-first (x ∷ xs) count links marks limit k some = subst (λ y. x ∷ xs ≡ y ∷ without (x ∷ xs) y) (sym k.ring.0) (ap (λ ys. x ∷ ys) (sym (without-first x xs (first-once x xs k.distinct))))

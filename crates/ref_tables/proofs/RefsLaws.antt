@@ -22,7 +22,7 @@ use Rattle.ref_tables.specs.Refs.{Table, entries_of, Names, numbered, seen, sum_
 at-key : (x y : ℕ) → is_at (nat_cmp x) y ≡ (x == y)
 at-key x y = grind (arith, nat_tests)
 
--- the client that is so far behind the first one has the list at that place
+-- the client that is so far after the first one has the list at that place
 numbered-at : (lists : Lists) (n place : ℕ) → unwrap_or (lookup (is_at (nat_cmp (n + place))) (numbered n lists)) [] ≡ list_of lists place
 unfolding numbered
 numbered-at [] n place = refl

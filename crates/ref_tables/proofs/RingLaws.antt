@@ -39,7 +39,7 @@ previous-within next previous start (x ∷ xs) end id ring there =
     (λ (apart : x ≢ id). let rest = previous-within next previous x xs end id ring.2 (grind (arith, nat_tests, there)) in grind (arith, nat_tests, rest))
     (cases_eq x id)
 
--- the id behind one of the ring is in it, or is the end
+-- the id after one of the ring is in it, or is the end
 pub next-within : (next previous : ℕ → ℕ) (start : ℕ) (ids : List ℕ) (end id : ℕ) → IsChain next previous start ids end → has (start ∷ ids) id ≡ true → has (end ∷ ids) (next id) ≡ true
 next-within next previous start [] end id ring there = let here : start ≡ id = grind (arith, nat_tests, there) in rw (← here) (grind (arith, nat_tests, ring.0))
 next-within next previous start (x ∷ xs) end id ring there =

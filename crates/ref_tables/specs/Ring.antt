@@ -15,7 +15,7 @@ IsLinked links id = is_linked links id ≡ true
 abbrev pub link_of : {S : Type 0} → IndexMap ℕ Link S → ℕ → Link
 link_of links id = unwrap_or (get nat_eq links id) (record { previous = 0; next = 0 })
 
--- the id behind this one
+-- the id after this one
 abbrev pub next_of : {S : Type 0} → IndexMap ℕ Link S → ℕ → ℕ
 next_of links id = (link_of links id).next
 

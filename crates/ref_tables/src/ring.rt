@@ -6,12 +6,12 @@ use crate::Memory;
 use indexmap::IndexMap;
 use std::alloc::Global;
 
-/// The neighbours of an id in the ring. Behind the last id and before the first stands 0.
+/// The neighbours of an id in the ring. After the last id and before the first stands 0.
 #[derive(Clone, Copy, PartialEq, Eq, Debug, Drop)]
 pub(crate) struct Link {
     /// The id before it.
     pub(crate) previous: u32,
-    /// The id behind it.
+    /// The id after it.
     pub(crate) next: u32,
 }
 
@@ -95,7 +95,7 @@ fn set(links: &mut IndexMap<u32, Link>, id: u32, link: Link)
     }
 }
 
-/// Behind the id stands this one.
+/// After the id stands this one.
 fn set_next(links: &mut IndexMap<u32, Link>, id: u32, next: u32)
     requires { IsLinked links.old id }
     ensures next { (at : ℕ) → next_of links.new at ≡ (if at == id then next else next_of links.old at) }

@@ -13,7 +13,7 @@ use std::marker::Model;
 ///
 /// The ids run from 1 to the limit that the queue was made with. Room for all of them is taken at
 /// the beginning, so that no later call takes memory. `push`, `pop` and `drop_id` cost the same
-/// however long the queue is: each id that is in it knows the one before it and the one behind it,
+/// however long the queue is: each id that is in it knows the one before it and the one after it,
 /// and a mark for each id tells whether it is in it.
 #[derive(Debug, Drop)]
 pub struct ZeroQueue {

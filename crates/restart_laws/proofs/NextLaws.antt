@@ -1,4 +1,4 @@
--- The undo of a restart goes record by record, and a log may go on behind it.
+-- The undo of a restart goes record by record, and a log may go on after it.
 use Rattle.std.proofs.Common.{◌≡◌, ℕ, ◌-◌, List, [], ◌∷◌, ◌++◌, refl, sym, ap, ◌∙◌, map, take, length, Option, Some, None, inl, inr, ◌⊎◌}
 use Rattle.std.specs.Prelude.{reverse, unwrap_or}
 use Rattle.std.specs.List.{last_or}

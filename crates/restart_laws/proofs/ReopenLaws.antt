@@ -1,4 +1,4 @@
--- Records of ended transactions before others, and the records of a restart's own undo behind them.
+-- Records of ended transactions before others, and the records of a restart's own undo after them.
 use Rattle.std.proofs.Common.{◌≡◌, ℕ, ◌-◌, List, [], ◌∷◌, ◌++◌, refl, sym, ap, ◌∙◌, subst, arith, map, take, length, length-append, Option, Some, None}
 use Rattle.std.specs.Prelude.{reverse}
 use Rattle.std.specs.List.{AllByRecursion, last_or}

@@ -49,7 +49,7 @@ pub so_long : (size : ℕ) (bytes : List ℕ) (before now : Option (List ℕ)) �
 so_long size bytes None now long is = subst (λ (o : Option (List ℕ)). IfSome o (λ c. length c ≡ size)) (sym is) tt
 so_long size bytes (Some c) now long is = subst (λ (o : Option (List ℕ)). IfSome o (λ c. length c ≡ size)) (sym is) long
 
--- and more behind them
+-- and more after them
 pub next_behind : (bytes more all : List ℕ) (before mid now : Option (List ℕ)) → all ≡ bytes ++ more → mid ≡ option_map (λ _. bytes) before → now ≡ option_map (λ c. c ++ more) mid
     → now ≡ option_map (λ _. all) before
 next_behind bytes more all None mid now are is next = next ∙ ap (option_map (λ c. c ++ more)) is

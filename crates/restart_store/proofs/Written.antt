@@ -1,4 +1,4 @@
--- The pages area while pages are written into it, one behind another.
+-- The pages area while pages are written into it, one after another.
 use Rattle.std.proofs.Common.{◌≡◌, ℕ, suc, ◌+◌, ◌*◌, ◌<◌, List, [], refl, ◌++◌, length, take, ◌∙◌, ap, sym, subst, Option, arith}
 use Rattle.std.specs.Prelude.{⊤, option_map, IfSome, slice_index_or}
 use Rattle.std.specs.List.{flat_map}

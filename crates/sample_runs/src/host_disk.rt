@@ -31,7 +31,7 @@ fn sync<D: Disk>(disk: &mut D, area: Area) -> Result<(), DiskFailed> {
     disk.sync(area)
 }
 
-/// Cuts the area off behind so many bytes.
+/// Cuts the area off after so many bytes.
 fn cut(disk: &mut HostDisk<HostRuntime>, area: Area, len: u64) -> Result<(), DiskFailed> {
     disk.cut(area, len)
 }

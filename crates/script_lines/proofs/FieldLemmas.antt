@@ -98,14 +98,14 @@ from_start bs field start n s f h =
 pub fields_of-first : (bs field : List ℕ) (start n : ℕ) → Some start ≡ position (λ b. not (is_blank b)) bs → field ≡ drop start bs → n ≡ unwrap_or (position is_blank field) (length field) → fields_of bs ≡ take n field ∷ fields_of (drop n field)
 fields_of-first bs field start n e f h = from_start bs field start n (rw (← e) at (field_start bs)) f h
 
--- one blank behind the field is left out
+-- one blank after the field is left out
 pub fields_of-before : (bs field : List ℕ) (start n : ℕ) → Some start ≡ position (λ b. not (is_blank b)) bs → field ≡ drop start bs → Some n ≡ position is_blank field → fields_of bs ≡ take n field ∷ fields_of (drop (n + 1) field)
 fields_of-before bs field start n e f h =
     let p = position-Some is_blank field n 0 (sym h) in
     let rest : fields_of (drop n field) ≡ fields_of (drop (n + 1) field) = ap fields_of (drop_more field n 0 p.0) ∙ fields_of-blank (get_or field n 0) (drop (n + 1) field) p.1 in
     fields_of-first bs field start n e f (ap (λ (o : Option ℕ). unwrap_or o (length field)) h) ∙ ap (λ (fs : List (List ℕ)). take n field ∷ fs) rest
 
--- there is no blank behind the field
+-- there is no blank after the field
 pub fields_of-last : (bs field : List ℕ) (start : ℕ) → Some start ≡ position (λ b. not (is_blank b)) bs → field ≡ drop start bs → None ≡ position is_blank field → fields_of bs ≡ field ∷ fields_of (drop (length field) field)
 fields_of-last bs field start e f h =
     let all : take (length field) field ≡ field = take_all (length field) field (omega arith) in

@@ -45,7 +45,7 @@ pub AppendsFront-longer : (old new : Option (List ℕ)) (text more : List ℕ) �
 AppendsFront-longer old new text more h =
     (h.0 ++ more, (h.1.0, ap (λ (xs : List ℕ). xs ++ more) h.1.1 ∙ append_assoc h.1.0 h.0 more, h.1.2), longer-some h.0 more h.2)
 
--- a front of what comes behind the text
+-- a front of what comes after the text
 pub AppendsFront-after : (old mid new : Option (List ℕ)) (text more : List ℕ) → Appends old mid text → AppendsFront mid new more → AppendsFront old new (text ++ more)
 AppendsFront-after old mid new text more a h =
     (h.0, (text ++ h.1.0, ap (λ (xs : List ℕ). text ++ xs) h.1.1 ∙ sym (append_assoc text h.1.0 h.0), Appends-trans old mid new text h.1.0 a h.1.2), h.2)

@@ -1,4 +1,4 @@
--- Bytes that join a buffer behind those that are there.
+-- Bytes that join a buffer after those that are there.
 use Rattle.std.proofs.lemmas.Bool.{cases_lt}
 use Rattle.std.proofs.Common.{⊎_elim, ◌==◌, ◌≡◌, ℕ, ◌+◌, ◌-◌, ◌<◌, ◌≤◌, ◌⊎◌, List, [], ◌∷◌, ◌++◌, Option, Some, None, take, drop, length, append_assoc, sym, ap, ◌∙◌, arith, slice_index}
 use Rattle.std.proofs.lemmas.List.{get_or_past, append-nil, nil_from_length, drop_more, take-append-drop, take-take, drop-take, drop-drop, get_or-drop, get_or-take, length-take}
@@ -24,20 +24,20 @@ Keeps-trans (Some xs) None c p q = absurd p
 Keeps-trans (Some xs) (Some ys) None p q = absurd q
 Keeps-trans (Some xs) (Some ys) (Some zs) p q = q ∙ p
 
--- the first bytes stay, and others stand behind them
+-- the first bytes stay, and others stand after them
 pub grown : (old new : List ℕ) (s n : ℕ) → take s new ≡ take s old → take (s + n) new ≡ take s old ++ take n (drop s new)
 grown old new s n kept =
     let front : take s (take (s + n) new) ≡ take s old = take-take s (s + n) new (omega arith) ∙ kept in
     let behind : drop s (take (s + n) new) ≡ take n (drop s new) = drop-take s n new in
     sym (take-append-drop s (take (s + n) new)) ∙ ap (λ (l : List ℕ). l ++ drop s (take (s + n) new)) front ∙ ap (λ (l : List ℕ). take s old ++ l) behind
 
--- there is no line feed behind them
+-- there is no line feed after them
 pub none_behind : (old new piece : List ℕ) (s n : ℕ) → take s new ≡ take s old → line_feeds (take s old) ≡ 0 → piece ≡ take n (drop s new) → None ≡ position (λ b. b == line_feed) piece → line_feeds (take (s + n) new) ≡ 0
 none_behind old new piece s n kept none e r =
     let rest : line_feeds (take n (drop s new)) ≡ 0 = rw e at (no_place piece r) in
     rw (grown old new s n kept) (omega (arith, line_feeds-append (take s old) (take n (drop s new)), none, rest))
 
--- the first line feed stands behind them
+-- the first line feed stands after them
 pub one_behind : (old new piece : List ℕ) (s n i : ℕ) → take s new ≡ take s old → line_feeds (take s old) ≡ 0 → piece ≡ take n (drop s new) → Some i ≡ position (λ b. b == line_feed) piece → (i < n) × (line_feeds (take (s + i) new) ≡ 0) × (slice_index new (s + i) ≡ line_feed)
 one_behind old new piece s n i kept none e r =
     let p : (i < length (take n (drop s new))) × (line_feeds (take i (take n (drop s new))) ≡ 0) × (slice_index (take n (drop s new)) i ≡ line_feed) = rw e at (at_place piece i r) in

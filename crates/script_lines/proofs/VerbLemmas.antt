@@ -13,7 +13,7 @@ four_in_front (w ∷ x ∷ []) a b c d long is-a is-b is-c is-d = absurd (omega 
 four_in_front (w ∷ x ∷ y ∷ []) a b c d long is-a is-b is-c is-d = absurd (omega (arith, long))
 four_in_front (w ∷ x ∷ y ∷ z ∷ rest) a b c d long is-a is-b is-c is-d = λ k. is-a k ∷ is-b k ∷ is-c k ∷ is-d k ∷ rest
 
--- what stands behind four bytes is all the rest
+-- what stands after four bytes is all the rest
 all_behind : (a b c d : ℕ) (rest : List ℕ) → take (length (a ∷ b ∷ c ∷ d ∷ rest) - 4) rest ≡ rest
 all_behind a b c d rest = take_all (length (a ∷ b ∷ c ∷ d ∷ rest) - 4) rest (omega arith)
 

@@ -27,7 +27,7 @@ verb_of field =
     else if bytes_eq field (codes "undo") then Some Undo
     else None
 
--- what a client's line asks, by its verb and the fields behind it
+-- what a client's line asks, by its verb and the fields after it
 abbrev pub request_of : ℕ → Verb → List (List ℕ) → Option Line
 request_of client Begin [] = Some (line.Ask client call.Begin)
 request_of client Read (register ∷ slot ∷ into ∷ []) = do
@@ -55,7 +55,7 @@ request_of client Abort [] = Some (line.Abort client)
 request_of client Undo [] = Some (line.Undo client)
 request_of client verb operands = None
 
--- what a line asks of the collector, by the fields behind `gc`: `step` or `all`, and no more
+-- what a line asks of the collector, by the fields after `gc`: `step` or `all`, and no more
 abbrev pub collector_line : List ℕ → List (List ℕ) → Option Line
 collector_line steps [] =
     if bytes_eq steps (codes "step") then Some line.CollectStep
@@ -63,7 +63,7 @@ collector_line steps [] =
     else None
 collector_line steps operands = None
 
--- what the line of a client asks, by the fields of the client, the verb and those behind it
+-- what the line of a client asks, by the fields of the client, the verb and those after it
 abbrev pub client_line : List ℕ → List ℕ → List (List ℕ) → Option Line
 client_line client verb operands = do
   c ← client_of client
@@ -78,7 +78,7 @@ is_collector field = bytes_eq field (codes "gc")
 abbrev pub is_cleaner : List ℕ → Bool
 is_cleaner field = bytes_eq field (codes "clean")
 
--- what a line asks of the page cleaner, by the fields behind `clean`: the page, and no more
+-- what a line asks of the page cleaner, by the fields after `clean`: the page, and no more
 abbrev pub clean_line : List ℕ → List (List ℕ) → Option Line
 clean_line page [] = do
   g ← page_of page
@@ -89,7 +89,7 @@ clean_line page operands = None
 abbrev pub is_crash : List ℕ → Bool
 is_crash field = bytes_eq field (codes "crash")
 
--- what a line asks of the power, by the fields behind `crash`: the pick, and no more
+-- what a line asks of the power, by the fields after `crash`: the pick, and no more
 abbrev pub crash_line : List ℕ → List (List ℕ) → Option Line
 crash_line pick [] = do
   k ← pick_of pick
@@ -101,7 +101,7 @@ abbrev pub lone_line : List ℕ → Option Line
 lone_line word = if bytes_eq word (codes "turn") then Some line.Turn else None
 
 -- what the line of a client, of the collector, of the page cleaner, of the power or of the log asks, by its first field and those
--- behind it
+-- after it
 abbrev pub line_of_party : List ℕ → List (List ℕ) → Option Line
 line_of_party party [] = lone_line party
 line_of_party party (verb ∷ operands) =

@@ -42,7 +42,7 @@ generated_line commits aborts busy deleted stored =
     codes "gen: commits " ++ decimal commits ++ codes " aborts " ++ decimal aborts ++ codes " busy " ++ decimal busy
     ++ codes " deleted " ++ decimal deleted ++ codes " stored " ++ decimal stored ++ newline ∷ []
 
--- the line of a crash, behind which these ids are stored
+-- the line of a crash, after which these ids are stored
 abbrev pub crash_line : List ℕ → List ℕ
 crash_line ids = codes "crash: stored" ++ numbers ids ++ newline ∷ []
 

@@ -43,7 +43,7 @@ fn ask(client: u8, call: Call) -> Option<Line>
     Some(Line::Ask { client, call })
 }
 
-/// What a client's line asks, by its verb and the fields behind it.
+/// What a client's line asks, by its verb and the fields after it.
 #[inline(always)]
 fn request_of(client: u8, verb: Verb, operands: Operands<'_>) -> Option<Line>
     requires { IsClient client }
@@ -99,7 +99,7 @@ fn is_collector(party: &[u8]) -> bool
     matches!(party, b"gc")
 }
 
-/// What a line asks of the collector, by the fields behind `gc`.
+/// What a line asks of the collector, by the fields after `gc`.
 fn collector_line(steps: &[u8], operands: Operands<'_>) -> Option<Line>
     ensures { result ≡ collector_line steps.now (listed operands.entry) }
 {
@@ -117,7 +117,7 @@ fn is_cleaner(party: &[u8]) -> bool
     matches!(party, b"clean")
 }
 
-/// What a line asks of the page cleaner, by the fields behind `clean`.
+/// What a line asks of the page cleaner, by the fields after `clean`.
 fn clean_line(page: &[u8], operands: Operands<'_>) -> Option<Line>
     ensures { result ≡ clean_line page.now (listed operands.entry) }
 {
@@ -136,7 +136,7 @@ fn is_crash(party: &[u8]) -> bool
     matches!(party, b"crash")
 }
 
-/// What a line asks of the power, by the fields behind `crash`.
+/// What a line asks of the power, by the fields after `crash`.
 fn crash_line(pick: &[u8], operands: Operands<'_>) -> Option<Line>
     ensures { result ≡ crash_line pick.now (listed operands.entry) }
 {
@@ -158,7 +158,7 @@ fn lone_line(word: &[u8]) -> Option<Line>
     }
 }
 
-/// What a line asks of the store, by its first two fields and the bytes behind them.
+/// What a line asks of the store, by its first two fields and the bytes after them.
 fn line_of_store(party: &[u8], word: &[u8], rest: &[u8]) -> Option<Line>
     requires { client_of party.now ≡ None }
     ensures value { result ≡ line_of_party party.now (word.now ∷ fields_of rest.now) }

@@ -43,7 +43,7 @@ fn length_without_return(line: &[u8]) -> usize
     }
 }
 
-/// Reads behind the first `end` bytes of the buffer.
+/// Reads after the first `end` bytes of the buffer.
 fn read_behind<R: Source>(
     source: &mut R,
     buffer: &mut [u8; BUFFER],
@@ -58,7 +58,7 @@ fn read_behind<R: Source>(
     source.read(&mut buffer[end..])
 }
 
-/// Reads behind the first `end` bytes of the buffer, which have no line feed, until a line feed, the
+/// Reads after the first `end` bytes of the buffer, which have no line feed, until a line feed, the
 /// end of the buffer or the end of the input is reached. Answers where the line feed is.
 fn read_line_feed<R: Source>(
     source: &mut R,
@@ -138,7 +138,7 @@ impl LineReader {
         &self.buffer[self.line_start..self.line_end]
     }
 
-    /// Takes the pending bytes up to the first line feed, which stands at this place behind the
+    /// Takes the pending bytes up to the first line feed, which stands at this place after the
     /// first of them, as a line.
     fn take_line(&mut self, at: usize)
         requires there { at < length (pending self.old) }

@@ -10,7 +10,7 @@ pub const SLOTS: usize = 14;
 /// The most digits that a number may have.
 const MAX_DIGITS: usize = 20;
 
-/// The number with one more digit behind it, where it is below 2^64.
+/// The number with one more digit after it, where it is below 2^64.
 #[inline(always)]
 fn with_digit(number: u64, digit: u8) -> Option<u64>
     requires { IsTrue (is_ascii_digit digit) }

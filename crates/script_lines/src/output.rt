@@ -303,7 +303,7 @@ pub fn stored_line(alloc: Global, ids: &[u32]) -> Result<String, Memory>
     ids_line(alloc, "stored", ids)
 }
 
-/// The line of a crash, behind which these ids are stored.
+/// The line of a crash, after which these ids are stored.
 pub fn crash_line(alloc: Global, ids: &[u32]) -> Result<String, Memory>
     ensures { IfOk result (λ line. string_bytes line ≡ crash_line ids.now) }
 {

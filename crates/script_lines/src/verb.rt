@@ -38,7 +38,7 @@ pub(crate) fn verb_of(field: &[u8]) -> Option<Verb>
     }
 }
 
-/// The first field, the verb that it spells, and bytes behind it that hold the other fields. It is quick where a common verb
+/// The first field, the verb that it spells, and bytes after it that hold the other fields. It is quick where a common verb
 /// stands in front, before one space or the end.
 #[inline(always)]
 pub(crate) fn next_verb(bytes: &[u8]) -> Option<(&[u8], Option<Verb>, &[u8])>

@@ -10,7 +10,7 @@ use std::thread::Threads;
 /// What the words may be.
 const USAGE: &str = "usage: share_bench shared|mutex|alone 1|2|4 reads|writes";
 
-/// What was counted, if the words behind the program's name ask for anything.
+/// What was counted, if the words after the program's name ask for anything.
 fn counted<R: Env + Threads + Wait + Clock + AllocGlobal + Sync>(
     rt: &R,
 ) -> anyhow::Result<Option<Tally>> {

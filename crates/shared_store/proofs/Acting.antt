@@ -1,4 +1,4 @@
--- What a hold may give back behind its work on the journal.
+-- What a hold may give back after its work on the journal.
 use Rattle.std.proofs.Common.{◌≡◌, ◌⊎◌, ℕ, ◌+◌, ◌*◌, Bool, true, false, List, [], ◌∷◌, Option, Some, None, refl, sym, ap, ◌∙◌, subst, inr, arith}
 use Rattle.std.specs.Prelude.{◌↔◌, ◌<◌, ◌==◌, if◌then◌else◌, IfSome, IsSome}
 use Rattle.std.specs.List.{AllByRecursion}
@@ -71,7 +71,7 @@ hand-met : {D : Type 0} (slots : ℕ) (v : Known slots) (found : Option (ℕ × 
 hand-met slots v None cs ps j h = record { fixed = h.fixed; log = h.log }
 hand-met slots v (Some f) cs ps j h = record { fixed = h.fixed; log = h.log }
 
--- ---- the journal behind the work
+-- ---- the journal after the work
 
 module _ {D : Type 0} (slots pages : ℕ) (v w : Known slots) (j k : LoggedView D) (held : List (HeldFrame slots)) (marked : Flags) (found : Option (ℕ × ℕ)) (has : HasJournal slots pages v j) where
   act-hand : (entered : Option Entry) → Acts slots v w j k held entered marked found → IsInHand (account D slots) w j

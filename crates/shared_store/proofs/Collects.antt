@@ -117,7 +117,7 @@ acts-behind slots v w i j k held entered marked found look a = record {
   rest = a.rest;
 }
 
--- ---- a step of the journal behind looks
+-- ---- a step of the journal after looks
 
 module _ {D : Type 0} (slots : ℕ) (i j k : LoggedView D) (running : i.failed ≡ None) (same : j ≡ record i { journal = j.journal }) (looks : OnlyLooks slots i.journal j.journal) (noted : WasNoted slots i) (legal : IsLegal (history_of k)) (kept : KeepsDisk j k) where
   none-stopped : (r : Result Collect CollectRefusal) → IfSome i.failed (λ f. (r ≡ Err (Stopped f.faults)) × (k ≡ i))

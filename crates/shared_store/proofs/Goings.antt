@@ -1,4 +1,4 @@
--- What a pass knows behind a call.
+-- What a pass knows after a call.
 use Rattle.std.proofs.Common.{◌≡◌, ℕ, ◌*◌, Bool, true, false, List, [], ◌∷◌, ◌++◌, map, Option, Some, None, refl, sym, ap, ◌∙◌, subst}
 use Rattle.std.specs.Prelude.{◌↔◌, ◌||◌, IfSome, IsSome, fold}
 use Rattle.std.specs.Option.{option_or}

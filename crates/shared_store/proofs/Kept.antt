@@ -1,4 +1,4 @@
--- Answers of upkeep: what they enter, name and count, and what the hold has behind it.
+-- Answers of upkeep: what they enter, name and count, and what the hold has after it.
 use Rattle.std.proofs.Common.{◌≡◌, ◌⊎◌, ℕ, Bool, List, [], ◌∷◌, Option, Some, None, Result, Ok, Err, refl, sym, ap, ◌∙◌, inl}
 use Rattle.std.specs.Prelude.{IfSome}
 use Rattle.plain_model.specs.declared.calls.Entry.{Entry}
@@ -56,7 +56,7 @@ marked-upkeep x n a m h (Ok upkeep.Memory) = marked-joined x a (joined_marks m (
 marked-upkeep x n a m h (Ok upkeep.DiskFault) = marked-disk x n a m h (refused_by_upkeep_of (Ok upkeep.DiskFault) x).disk
 marked-upkeep x n a m h (Err held) = marked-joined x a (joined_marks m (marks_with no_mark n)) h
 
--- no page is in hand behind it
+-- no page is in hand after it
 pub acts-none : {D : Type 0} (slots : ℕ) (v w : Known slots) (j k : LoggedView D) (entered : Option Entry) (marked : Flags) (found : Option (ℕ × ℕ)) → Takes v w [] found → IfSome found (λ f. IsAnother v f.1) → GoesOnWith slots no_page j k entered marked
     → Acts slots v w j k [] entered marked found
 acts-none slots v w j k entered marked found is other goes = record {

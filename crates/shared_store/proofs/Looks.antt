@@ -56,7 +56,7 @@ or-none (Some n) = refl
 joined-none : (m : Marks) (n : ℕ) → joined_marks m (marks_with no_mark n) ≡ m
 joined-none m n = rw (or-none m.0, or-false m.1, or-false m.2) refl
 
--- a call behind a look
+-- a call after a look
 module _ {D : Type 0} (slots : ℕ) (test : ℕ → Bool) (i j k : LoggedView D) (marked : Flags) (look : GoesOnWith slots no_page i j None no_mark) where
   notes-behind : (entered : Option Entry) → GoesOnWith slots test j k entered marked → EntersIf slots test i k entered
   notes-behind None h = h.notes ∙ look.notes

@@ -104,7 +104,7 @@ module _ {slots : ℕ} where
     within = each-put (λ x. 8 * x.page < j.history.ids) held h some.within there;
   })
 
-  -- the frame behind a claimed page is the one that the journal in hand tells
+  -- the frame after a claimed page is the one that the journal in hand tells
   pub told-frame : {D : Type 0} (pages : ℕ) (v : Known slots) (j : LoggedView D) (page : ℕ) (frame : Frame slots) → HasJournal slots pages v j → AgreesWithLog (account D slots) v page frame → frame ≡ frame_after slots (origin_of j) (notes_of j) page
   told-frame pages v j page frame has agrees = agrees (origin_of j) has.in_hand.log.0 has.in_hand.fixed has.in_hand.log.1 ∙ ap (λ es. frame_after slots (origin_of j) es page) has.in_hand.log.2
 

@@ -1,4 +1,4 @@
--- What a pass keeps behind a call.
+-- What a pass keeps after a call.
 use Rattle.std.proofs.Common.{◌≡◌, ℕ, Bool, true, false, List, [], ◌∷◌, ◌++◌, Option, Some, None, sym, ap, ◌∙◌, subst}
 use Rattle.std.specs.Prelude.{◌↔◌, IsSome}
 use Rattle.plain_model.specs.declared.calls.Entry.{Entry}

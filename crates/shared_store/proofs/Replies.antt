@@ -162,7 +162,7 @@ module _ (client : ℕ) (c : TransactionCall) (r : Reply) (word seat : ℕ) (aga
   pub again-found : found_by_call r ≡ None → ⊥
   again-found none = let some : found_by_call r ≡ Some (word, seat) = ap found_by_call again in absurd (cc)
 
--- ---- what is given back behind the call
+-- ---- what is given back after the call
 
 pub call-drop : {D : Type 0} (slots pages : ℕ) (v w : Known slots) (j k : LoggedView D) (held : List (HeldFrame slots)) (client : ℕ) (c : TransactionCall) (r : Reply) (b : Bool) → client ≡ v.station.name → HasJournal slots pages v j
     → Acts slots v w j k held (entered_by_call client c r) (marked_by_call r) (found_by_call r) → ((b ≡ true) ↔ IsSome (entered_by_call client c r)) → IsToDrop slots pages w k held b

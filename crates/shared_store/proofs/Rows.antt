@@ -33,7 +33,7 @@ module _ {slots : ℕ} where
       ap (λ (hs : List (HeldFrame slots)). here ∷ hs)
       (held_from-put (page + 1) fs f ∙ ap (λ (p : ℕ). let h : HeldFrame slots = record { page = p; frame = f } in held_from (page + 1) fs ++ h ∷ []) e)
 
-  -- no page below, and none behind
+  -- no page below, and none after
   below-free : (page q : ℕ) (fs : List (Frame slots)) → q < page → is_held (held_from page fs) q ≡ false
   below-free page q [] low = refl
   below-free page q (f ∷ fs) low = both-false (page == q) (is_held (held_from (page + 1) fs) q) (ne_eqb page q (λ e. omega arith)) (below-free (page + 1) q fs (omega arith))

@@ -77,7 +77,7 @@ module _ (client : ℕ) (r : StepRefusal) (word seat : ℕ) (again : r ≡ Again
   pub again-met : found_by_step (Err r) ≡ None → ⊥
   again-met none = let some : found_by_step (Err r) ≡ Some (word, seat) = ap (λ (y : StepRefusal). found_by_step (Err y)) again in absurd (cc)
 
--- ---- what is given back behind the step
+-- ---- what is given back after the step
 
 pub step-drop : {D : Type 0} (slots pages : ℕ) (v w : Known slots) (j k : LoggedView D) (held : List (HeldFrame slots)) (client : ℕ) (r : Result AbortStep StepRefusal) (b : Bool) → client ≡ v.station.name → HasJournal slots pages v j
     → Acts slots v w j k held (entered_by_step client r) (marked_by_step r) (found_by_step r) → ((b ≡ true) ↔ IsSome (entered_by_step client r)) → IsToDrop slots pages w k held b

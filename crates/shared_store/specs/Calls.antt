@@ -122,7 +122,7 @@ pub record WasNoted {D : Type 0} (slots : ℕ) (v : LoggedView D) : Type 0 where
 abbrev pub Finds : {D : Type 0} {slots : ℕ} → Known slots → Known slots → LoggedView D → Type 0
 Finds old new before = new.knowledge.stories ≡ old.knowledge.stories ++ story (notes_of before) (marks_of before) ∷ []
 
--- what the pass keeps besides is what the journal noted meanwhile: one note behind those that were found, at its place, where an
+-- what the pass keeps besides is what the journal noted meanwhile: one note after those that were found, at its place, where an
 -- entry was entered, and none else
 abbrev pub KeepsNoted : {D : Type 0} {slots : ℕ} → Known slots → Known slots → (before after : LoggedView D) → Option Entry → Type 0
 KeepsNoted old new before after (Some entry) =

@@ -7,7 +7,7 @@ use cell_page::Cell;
 pub enum StepRefusal {
     /// The pass of this number has this word: ask again.
     Again { word: u32, seat: u32 },
-    /// The disk failed a call before. This was its count of faults just behind the failed call.
+    /// The disk failed a call before. This was its count of faults just after the failed call.
     Stopped { faults: u64 },
 }
 
@@ -16,7 +16,7 @@ pub enum StepRefusal {
 pub enum CollectRefusal {
     /// The pass of this number has this word: ask again.
     Again { word: u32, seat: u32 },
-    /// The disk failed a call before. This was its count of faults just behind the failed call.
+    /// The disk failed a call before. This was its count of faults just after the failed call.
     Stopped { faults: u64 },
     /// The bytes of the log in use, those that the active transactions owe and the record of the step are more than the
     /// limit.

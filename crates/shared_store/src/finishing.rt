@@ -1,4 +1,4 @@
-//! What a call does behind its work on the journal: it tells of the entry, and gives back what it has.
+//! What a call does after its work on the journal: it tells of the entry, and gives back what it has.
 ghost use Rattle.std.specs.Prelude.{◌≡◌, ◌<◌, ◌≤◌, [], ◌∷◌, ◌++◌, length, true, false};
 ghost use Rattle.latch_table.specs.Views.{log_dropped, log_of};
 ghost use Rattle.latch_table.specs.Steps.{IsNext, told_of};

@@ -1,6 +1,6 @@
 //! One store for many threads: each works on it through a pass of its own, and no call waits for another.
 //!
-//! [`Store`] has the journal behind the log word of a table of latches, and each page's frame behind a word of its own. A call
+//! [`Store`] has the journal after the log word of a table of latches, and each page's frame after a word of its own. A call
 //! claims the log word, then the pages that it works on, acts on the journal, tells of its entry by the one store that makes the
 //! event, and drops all before it answers. Where another pass has a word, it drops what it has and answers whose that is.
 //!

@@ -121,7 +121,7 @@ impl<const SLOTS: usize, D: Disk> LoneStore<SLOTS, D> {
         answer
     }
 
-    /// Turns the log, unless a client has a transaction: a checkpoint, behind which it begins anew. It does what the same call of
+    /// Turns the log, unless a client has a transaction: a checkpoint, after which it begins anew. It does what the same call of
     /// a journal with its frames does. In a store of at most three pages it takes memory for their frames, and the page words are
     /// given back for that long.
     pub fn turn(&mut self, alloc: Global) -> Upkeep

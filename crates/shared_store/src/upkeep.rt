@@ -108,7 +108,7 @@ impl<const SLOTS: usize, D: Disk> Store<SLOTS, D> {
         answer
     }
 
-    /// Claims the page behind these.
+    /// Claims the page after these.
     fn claim_next(
         &self,
         hold: &mut Hold<JournalChronicle<SLOTS, D>, Frame<SLOTS>>,
@@ -215,7 +215,7 @@ impl<const SLOTS: usize, D: Disk> Store<SLOTS, D> {
         Ok(answer)
     }
 
-    /// Turns the log: a checkpoint, behind which it begins anew. The log and all pages are claimed, unless a transaction is
+    /// Turns the log: a checkpoint, after which it begins anew. The log and all pages are claimed, unless a transaction is
     /// active. It doesn't wait.
     pub fn turn(&self, alloc: Global, pass: &mut Pass<SLOTS, D>) -> Result<Upkeep, Held>
         requires of { pass.old.table ≡ self.now.table }

@@ -15,7 +15,7 @@ pub data Reading (slots : ℕ) : Type 0 where
   Nothing : Reading slots
   -- the number of pages, and these of them, which are fewer
   InBase : (count : ℕ) (pages : List (List (Cell slots))) → Reading slots
-  -- all pages, and behind them these batches
+  -- all pages, and after them these batches
   InLog : (pages : List (List (Cell slots))) (batches : List (List (Record slots))) → Reading slots
 
 -- ---- bytes
@@ -28,7 +28,7 @@ base_bytes count pages = to_be_bytes w16 count ++ flat_map page_bytes pages
 abbrev pub base_size : ℕ → ℕ → ℕ
 base_size slots pages = 2 + pages * page_size slots
 
--- the batches, each behind its open commit byte
+-- the batches, each after its open commit byte
 abbrev pub shipped_bytes : {slots : ℕ} → List (List (Record slots)) → List ℕ
 shipped_bytes batches = batches_bytes (bodies_of batches)
 
@@ -69,12 +69,12 @@ MayStand true pages offset _ = ⊥
 MayStand false pages offset (Turn version count) = ⊥
 MayStand false pages offset _ = ⊤
 
--- so may all of these, one behind another, the first of them at this offset
+-- so may all of these, one after another, the first of them at this offset
 abbrev pub AllMayStand : {slots : ℕ} → (first : Bool) (pages offset : ℕ) → List (Record slots) → Type 0
 AllMayStand first pages offset [] = ⊤
 AllMayStand first pages offset (r ∷ rs) = MayStand first pages offset r × AllMayStand first pages (offset + length (record_bytes r)) rs
 
--- A batch of these records may follow those batches; the commit byte behind it stands in the log area too.
+-- A batch of these records may follow those batches; the commit byte after it stands in the log area too.
 pub record Follows {slots : ℕ} (pages : ℕ) (batches : List (List (Record slots))) (rs : List (Record slots)) : Type 0 where
   pub spelled : HaveSpellings rs
   pub stand : AllMayStand (is_first batches) pages 0 rs

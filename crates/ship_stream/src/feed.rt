@@ -93,7 +93,7 @@ fn base_len<const SLOTS: usize>(pages: u16) -> u64
     NUMBER as u64 + pages as u64 * Page::<SLOTS>::encoded_len() as u64
 }
 
-/// What a stream of so many pages goes on with behind the page of this number.
+/// What a stream of so many pages goes on with after the page of this number.
 fn stage_behind(page: u16, count: u16) -> Stage
     requires { page < count }
     ensures { result ≡ (if page + 1 == count then AtFirstBatch else AtBase) }
@@ -105,7 +105,7 @@ fn stage_behind(page: u16, count: u16) -> Stage
     }
 }
 
-/// What a stream goes on with at the commit byte behind a batch.
+/// What a stream goes on with at the commit byte after a batch.
 fn stage_at(commit_byte: u8) -> Stage
     ensures { result ≡ (if commit_byte == 1 then AtBatch else HasEnded) }
 {
@@ -141,7 +141,7 @@ impl<const SLOTS: usize> Feed<SLOTS> {
         }
     }
 
-    /// Whether the closed commit byte came. What comes behind it is ignored.
+    /// Whether the closed commit byte came. What comes after it is ignored.
     pub fn ended(&self) -> bool
         ensures { (result ≡ true) ↔ (self.now.stage ≡ HasEnded) }
     {
@@ -160,7 +160,7 @@ impl<const SLOTS: usize> Feed<SLOTS> {
     }
 
     /// Takes bytes from the front of the piece up to the one with which a part is whole, and hands the part out, or all of them.
-    /// A batch is whole with the commit byte behind it.
+    /// A batch is whole with the commit byte after it.
     ///
     /// [`FeedRefusal::Damaged`] comes exactly where the bytes so far show that they are no stream. [`FeedRefusal::Memory`]
     /// leaves the reader as it was.
@@ -280,7 +280,7 @@ impl<const SLOTS: usize> Feed<SLOTS> {
         }
     }
 
-    /// How many bytes there is room for behind the open commit byte, up to the greatest end of a log area.
+    /// How many bytes there is room for after the open commit byte, up to the greatest end of a log area.
     fn room(&self) -> usize
         requires { self.now.stage ≡ AtBatch }
         ensures exact { self.now.at + 1 + result ≡ base_size SLOTS self.now.count + 2 ^ 30 }
@@ -289,7 +289,7 @@ impl<const SLOTS: usize> Feed<SLOTS> {
         (base_len::<SLOTS>(self.count) + MOST_AREA - self.at - 1) as usize
     }
 
-    /// Goes on with a batch behind its open commit byte.
+    /// Goes on with a batch after its open commit byte.
     fn next_batch(&mut self, piece: &[u8]) -> Result<(usize, Option<Part<SLOTS>>), FeedRefusal>
         requires { self.old.stage ≡ AtBatch }
         ensures takes { IfOk result (Takes self.old self.new piece.now) }
@@ -327,7 +327,7 @@ impl<const SLOTS: usize> Feed<SLOTS> {
         }
     }
 
-    /// Goes on with the body of a batch, and with the commit byte behind it.
+    /// Goes on with the body of a batch, and with the commit byte after it.
     fn next_body(&mut self, piece: &[u8]) -> Result<(usize, Option<Part<SLOTS>>), FeedRefusal>
         requires stage { self.old.stage ≡ AtBatch }
         requires sized { 4 ≤ length self.old.held }
@@ -354,7 +354,7 @@ impl<const SLOTS: usize> Feed<SLOTS> {
         }
     }
 
-    /// Ends a batch whose body came, where this is the commit byte behind it. It takes no memory.
+    /// Ends a batch whose body came, where this is the commit byte after it. It takes no memory.
     fn end_batch(&mut self, commit_byte: u8) -> Result<Part<SLOTS>, FeedRefusal>
         requires stage { self.old.stage ≡ AtBatch }
         requires whole { IsWhole self.old.held }

@@ -54,7 +54,7 @@ found_damage piece v w g at found r bytes i =
 
 -- ---- a record that doesn't fit
 
--- a fault behind batches is one of bytes that came
+-- a fault after batches is one of bytes that came
 pub log_bytes_broke : {slots : ℕ} (pages : ℕ) (batches : List (List (Record slots))) (rest : List ℕ) (at : ℕ) → BreaksLog pages batches rest at → 1 ≤ length rest
 log_bytes_broke pages batches rest at (no_batch commit_byte more first are closed is) = omega (arith, ap length are)
 log_bytes_broke pages batches rest at (no_body size more are typed wrong within is) = omega (arith, ap length are)
@@ -62,7 +62,7 @@ log_bytes_broke pages batches rest at (no_record rs left commit_byte more are si
     omega (arith, ap length are, length-append (batch_bytes (body_of rs ++ left)) (commit_byte ∷ more))
 log_bytes_broke pages batches rest at (no_end more are full over is) = omega (arith, ap length are)
 
--- behind a batch its commit byte came
+-- after a batch its commit byte came
 byte_behind : {slots : ℕ} (stage : Stage) (r : Reading slots) (rest : List ℕ) (v : Feeding) → (pages : _) (front : List (List (Record slots))) (rs : List (Record slots)) → r ≡ InLog pages (front ++ rs ∷ []) → Stands stage r rest v
     → 1 ≤ length rest
 byte_behind stage r rest v pages front rs is stands = by stage (subst (λ x. Stands stage x rest v) is stands)

@@ -135,7 +135,7 @@ same_body a b x y typed typed_too same =
 abbrev IsBatchThere : List ℕ → Type 0
 IsBatchThere rest = (body : List ℕ) × (commit_byte : ℕ) × (left : List ℕ) × (rest ≡ batch_bytes body ++ commit_byte ∷ left) × IsSize (length body)
 
--- behind batches a commit byte came
+-- after batches a commit byte came
 abbrev CommitByteBehind : {slots : ℕ} → List (List (Record slots)) → List ℕ → Type 0
 CommitByteBehind [] rest = Unit {0}
 CommitByteBehind (batch ∷ batches) rest = 1 ≤ length rest
@@ -213,7 +213,7 @@ log_unbroken {slots} known pages before (a ∷ these) (b ∷ those) x y place al
     (λ at b. no_fault at (subst (λ (l : List (List (Record slots))). BreaksLog pages l x at) (append_assoc before (a ∷ []) these) b))
     (subst (λ (l : List (List (Record slots))). BreaksLog pages l y place) (ap (λ (r : List (Record slots)). before ++ r ∷ those) (sym here) ∙ sym (append_assoc before (a ∷ []) those)) breaks) split.1
 
--- other batches of the same bytes, behind which a commit byte came, are the first of them
+-- other batches of the same bytes, after which a commit byte came, are the first of them
 log_front : {slots : ℕ} → IsSlotCount slots → (pages : ℕ) (before before_too these those : List (List (Record slots))) (x y : List ℕ) → AllFollow pages before these → AllFollow pages before_too those
     → 1 ≤ length y → (IsBatchThere x → ⊥) → shipped_bytes these ++ x ≡ shipped_bytes those ++ y → (later : List (List (Record slots))) × (these ≡ those ++ later)
 log_front known pages before before_too these [] x y all all_too some none same = (these, refl)

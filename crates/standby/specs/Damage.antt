@@ -7,7 +7,7 @@ use Rattle.ship_stream.specs.Reading.{Reading, InLog, bytes_of, IsReading}
 use Rattle.ship_stream.specs.Faults.{Breaks}
 use Rattle.standby.specs.Following.{over_base, base_after, AllFit, StopsFitting, FitsBase}
 
--- Behind what came whole, of which each record fits, these bytes are no part of a stream, and this is the offset of the fault.
+-- After what came whole, of which each record fits, these bytes are no part of a stream, and this is the offset of the fault.
 pub record IsBrokenAt (slots : ℕ) (bytes : List ℕ) (at : ℕ) : Type 0 where
   pub r : Reading slots
   pub rest : List ℕ
@@ -16,7 +16,7 @@ pub record IsBrokenAt (slots : ℕ) (bytes : List ℕ) (at : ℕ) : Type 0 where
   pub fit : FitsBase r
   pub breaks : Breaks r rest at
 
--- Behind batches whose records fit came a whole one with its commit byte behind it, and this is the offset of the first record of
+-- After batches whose records fit came a whole one with its commit byte after it, and this is the offset of the first record of
 -- it that doesn't fit.
 pub record IsUnfitAt (slots : ℕ) (bytes : List ℕ) (at : ℕ) : Type 0 where
   pub pages : List (List (Cell slots))

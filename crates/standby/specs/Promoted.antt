@@ -24,7 +24,7 @@ use Rattle.standby.specs.Laws.{OpenAlike}
 
 -- ---- what the bytes lead to
 
--- All pages of the base are among these bytes, and behind them so many whole batches, whose records fit. This is the base after them.
+-- All pages of the base are among these bytes, and after them so many whole batches, whose records fit. This is the base after them.
 pub record LeadsTo (slots : ℕ) (bytes : List ℕ) (batches : ℕ) (v : Replaying) : Type 0 where
   pub pages : List (List (PageCell slots))
   pub log : List (List (Record slots))

@@ -1,4 +1,4 @@
-//! A standby: the pages of a store, and what the records of the log behind them made of these, as a stream brings them in pieces. It
+//! A standby: the pages of a store, and what the records of the log after them made of these, as a stream brings them in pieces. It
 //! can be promoted, as a store on a disk.
 #![tactic(auto)]
 

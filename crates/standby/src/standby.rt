@@ -11,7 +11,7 @@ use ship_stream::{Feed, FeedRefusal};
 use std::alloc::Global;
 use std::marker::Model;
 
-/// A standby, which is fed with a stream: the number of pages, the pages of a base, and the log behind them.
+/// A standby, which is fed with a stream: the number of pages, the pages of a base, and the log after them.
 ///
 /// It keeps the pages, as the records of the whole batches left them, what is remembered of the transactions that have not ended, and
 /// the bytes of the part that is not whole yet; so it does not grow with the length of the stream.
@@ -52,7 +52,7 @@ impl<const SLOTS: usize> Standby<SLOTS> {
     }
 
     /// Feeds the standby with the next piece of the stream, of any length. The records of each batch that is whole then, with the
-    /// commit byte behind it, are done to the base. What comes behind the closed commit byte is ignored.
+    /// commit byte after it, are done to the base. What comes after the closed commit byte is ignored.
     ///
     /// [`FeedRefusal::Damaged`] comes exactly where the bytes so far show a fault, and is at the first one in the order of the stream.
     /// After it each later call answers the same. [`FeedRefusal::Memory`] leaves a standby that is spent: some front of the piece was
@@ -84,7 +84,7 @@ impl<const SLOTS: usize> Standby<SLOTS> {
         self.gathered.batches()
     }
 
-    /// Whether the closed commit byte came. What comes behind it is ignored.
+    /// Whether the closed commit byte came. What comes after it is ignored.
     pub fn ended(&self) -> bool
         ensures { (result ≡ true) ↔ (self.now.feed.stage ≡ HasEnded) }
     {

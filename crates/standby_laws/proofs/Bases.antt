@@ -57,7 +57,7 @@ same_pages {slots} known first (p ∷ ps) (q ∷ qs) x y are are_too long same =
     let rest = same_pages known (first + 1) ps qs x y are.2 are_too.2 (omega (arith, long)) left in
     (cons_same p q ps qs here rest.0, rest.1)
 
--- two bases in front of the same bytes have the same pages, and the same stands behind them
+-- two bases in front of the same bytes have the same pages, and the same stands after them
 pub same_base : {slots : ℕ} → IsSlotCount slots → (pages others : List (List (Cell slots))) (x y bytes : List ℕ) → length pages ≤ 1024 → length others ≤ 1024 → ArePages pages → ArePages others
     → bytes ≡ base_bytes (length pages) pages ++ x → bytes ≡ base_bytes (length others) others ++ y → (pages ≡ others) × (x ≡ y)
 same_base {slots} known pages others x y bytes few few_too are are_too one other =

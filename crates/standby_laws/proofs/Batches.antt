@@ -13,7 +13,7 @@ use Rattle.ship_stream.specs.Reading.{shipped_bytes, AllFollow}
 same_size : (m n : ℕ) → to_be_bytes w32 m ≡ to_be_bytes w32 n → m < 2 ^ 32 → n < 2 ^ 32 → m ≡ n
 same_size m n same typed typed_too = sym (from_be_bytes-to_be_bytes_4 m typed) ∙ ap (from_be_bytes w32) same ∙ from_be_bytes-to_be_bytes_4 n typed_too
 
--- two batches in front of the same bytes have the same body, and the same stands behind them
+-- two batches in front of the same bytes have the same body, and the same stands after them
 same_body : (a b x y : List ℕ) → length a < 2 ^ 32 → length b < 2 ^ 32 → batch_bytes a ++ x ≡ batch_bytes b ++ y → (a ≡ b) × (x ≡ y)
 same_body a b x y typed typed_too same =
     let split : to_be_bytes w32 (length a) ++ (a ++ x) ≡ to_be_bytes w32 (length b) ++ (b ++ y) =

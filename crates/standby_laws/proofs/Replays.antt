@@ -99,7 +99,7 @@ none_is v (Image page held ∷ rs) some =
     ∙ not_there page (nat_le (slice_index v.skips page) 1) (cell_in page (map cell_of held) 0) (cell_at v.cells 0)
 none_is v (Turn version pages ∷ rs) some = none_is v rs some
 
--- behind an image of its page a cell does not depend on what it was
+-- after an image of its page a cell does not depend on what it was
 pub from_image : (slots x : ℕ) (c d : Cell) (items : List Item) → has_image x items ≡ true → replayed slots x c items ≡ replayed slots x d items
 from_image slots x c d [] is = absurd (cc (is))
 from_image slots x c d (CellsItem r ∷ items) is = from_image slots x (effect slots r x c) (effect slots r x d) items is

@@ -1,4 +1,4 @@
--- What a standby has that was fed with a base of a store and with the first bytes of its log behind that.
+-- What a standby has that was fed with a base of a store and with the first bytes of its log after that.
 use Rattle.std.specs.Prelude.{◌≡◌, ◌⊎◌, ℕ, ◌+◌, ◌*◌, ◌<◌, ◌≤◌, List, [], ◌++◌, length, slice_index_or}
 use Rattle.plain_model.specs.History.{History, end_of, IsCrashConsistent}
 use Rattle.cell_model.specs.Cells.{Cell}
@@ -21,7 +21,7 @@ use Rattle.standby.specs.Promoted.{PromotesTo}
 
 -- ---- the store
 
--- The image is one of a store that made a checkpoint when it had these cells. Since then its log got just these batches behind the
+-- The image is one of a store that made a checkpoint when it had these cells. Since then its log got just these batches after the
 -- first one, and each page without an image among their records is in place as it was at the checkpoint.
 pub record HasGoneOn {slots : ℕ} (cells : List Cell) (pages : ℕ) (batches : List (List (Record slots))) (image : Bytes) : Type 0 where
   pub area : Area
@@ -41,11 +41,11 @@ pub record IsBase {slots : ℕ} (cells : List Cell) (pages : ℕ) (held : List (
 
 -- ---- the standby
 
--- These cells are what the store comes to by the first batches behind the checkpoint, of those in the log of this image. The whole
+-- These cells are what the store comes to by the first batches after the checkpoint, of those in the log of this image. The whole
 -- batches that came are so many, the first one of the log among them.
 pub record IsOfFront (slots pages : ℕ) (cells : List Cell) (image : Bytes) (whole : ℕ) (made : List Cell) : Type 0 where
   pub area : Area
-  -- the batches that came whole behind the log's first one, and the others
+  -- the batches that came whole after the log's first one, and the others
   pub front : List (List (Record slots))
   pub later : List (List (Record slots))
   pub read : IsLogRead image area pages (front ++ later)

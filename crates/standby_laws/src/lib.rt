@@ -1,4 +1,4 @@
-//! What a standby has that was fed with a base of a store and with the first bytes of its log behind that. Each law is the contract of
+//! What a standby has that was fed with a base of a store and with the first bytes of its log after that. Each law is the contract of
 //! a function with an empty body, so that the check accepts this crate only where each law is proved.
 #![tactic(auto)]
 
@@ -10,7 +10,7 @@ pub fn logs_go_on_from_checkpoints()
     ensures later { LaterLaw }
 {}
 
-/// A standby that was fed with the base of a store, and with any first bytes of the log behind it, is promoted to what the store would
+/// A standby that was fed with the base of a store, and with any first bytes of the log after it, is promoted to what the store would
 /// have opened to, had it lost power when its log had just the batches that are whole in these bytes. So it has the objects and the
 /// reach of the committed graph after some front of the commits, which has each one that was acknowledged by then.
 pub fn streams_give_fronts()

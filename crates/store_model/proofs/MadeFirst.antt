@@ -22,7 +22,7 @@ place-whole Whole h = refl
 place-whole (Slot k) h = cc
 place-whole Payload h = cc
 
--- so behind a write to an object, nothing makes it
+-- so after a write to an object, nothing makes it
 pub made_first-later : (first : List Write) (w : Write) (later : List Write) → IsMadeFirst (first ++ w ∷ later) → AllByRecursion (λ v. can_be_undone v ≡ false → v.id ≢ w.id) later
 made_first-later [] w later h = each-more (λ v. v.place ≡ Whole → v.id ≢ w.id) (λ v. can_be_undone v ≡ false → v.id ≢ w.id) (λ v f e. f (place-whole v.place e)) later h.0
 made_first-later (v ∷ vs) w later h = made_first-later vs w later h.1

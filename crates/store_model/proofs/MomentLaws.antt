@@ -217,7 +217,7 @@ module _ (m : Moment) (i : IsSoundState m.state) (pass : ℕ) (t : ActiveTransac
         ∙ ap (λ o. object_in slots undone x o r.post) (ap₂ (λ o n. writes_at slots x o (first_writes (count_by can_be_undone t.writes - n) t.writes)) (object_in-undone slots undone other x g0 r.pre pre_same) one_more
         ∙ (ap (writes_at slots x o1) (left-after ∙ ap (λ ws. first ++ ws) skipped) ∙ fold-append G o1 first wholes)))))
 
-    -- nothing comes to it behind the write
+    -- nothing comes to it after the write
     nothing-behind : (o : Option Object) → object_in m.state.slots m.undone y (writes_at m.state.slots y o (first_writes zero later)) undo-replaces.post ≡ o
     nothing-behind o =
         object_in-apart m.state.slots m.undone y (writes_at m.state.slots y o (first_writes zero later)) undo-replaces.post (alone-post m.state i pass y t (record t { aborting = true }) (with_aborting pass m.state.active) alone undo-replaces)

@@ -33,7 +33,7 @@ past_end [] p le = refl
 past_end (x ∷ xs) zero le = absurd (omega (arith, le))
 past_end (x ∷ xs) (suc p) le = past_end xs p (omega (arith, le))
 
--- behind all records of an image no image is awaited
+-- after all records of an image no image is awaited
 pub none_awaited : {slots : ℕ} (image : Bytes) (area : Area) (count : ℕ) (batches : List (List (Record slots))) (w : Replaying) → IsReplayed slots image area count batches w → AreNoneAwaited w.skips
 none_awaited image area count batches w r p = ⊎_elim (λ low. r.none p low) (λ over. past_end w.skips p (let long = r.long in omega (arith, long, over))) (cases_lt p count)
 

@@ -15,7 +15,7 @@ pub ok_more : {T E : Type 0} (r : Result T E) (P Q : T → Type 0) → ((x : T) 
 ok_more (Ok x) P Q go is = go x is
 ok_more (Err e) P Q go is = is
 
--- more stands behind the `Turn`
+-- more stands after the `Turn`
 pub turn_more : (slots version pages len at : ℕ) (body : List ℕ) → BeginsWith {slots = slots} body (Turn version pages) len → len < length body → at ≡ 9 → IsDamagedFirst slots at body
 turn_more slots version pages len at body b low is =
     more pages b.rest (refl, b.rules.1, b.rules.2)

@@ -230,7 +230,7 @@ start_matches {slots} known count area images pages rs number same counts loaded
 one_is : (byte : ℕ) (more l : List ℕ) → byte ≢ 1 → byte ∷ more ≡ 1 ∷ l → ⊥
 one_is byte more l shut e = shut (ap first_byte e)
 
--- The batch behind the first ones, as far as they are known.
+-- The batch after the first ones, as far as they are known.
 record IsNext {slots : ℕ} (all front : List (List (Record slots))) (body : List ℕ) : Type 0 where
   mid : List (Record slots)
   back : List (List (Record slots))
@@ -256,7 +256,7 @@ next_batch known (x ∷ xs) (y ∷ ys) body s byte more shut a b is sa sb e =
     let rest = next_batch known xs ys body s byte more shut a.1 b.1 is (spelled_back x (all_of xs) sa) (spelled_back y (all_of ys) sb) both.1 in
     record { mid = rest.mid; back = rest.back; split = cons_same x y xs (ys ++ rest.mid ∷ rest.back) same rest.split; same = rest.same }
 
--- the record behind the first ones of a body
+-- the record after the first ones of a body
 record IsNextRecord {slots : ℕ} (all front : List (Record slots)) : Type 0 where
   r : Record slots
   after : List (Record slots)
@@ -339,7 +339,7 @@ are_those count v w batches some few is none takes bodies =
 pub of_match : {slots : ℕ} (count : ℕ) (area : List ℕ) (before later : List (Record slots)) (v : Replaying) → Matches count area before later v → IsOf count v
 of_match count area before later v is = record { sized = is.sized; long = is.long }
 
--- the record behind these can't be taken, so it doesn't fit the cells
+-- the record after these can't be taken, so it doesn't fit the cells
 unfit_at : {slots : ℕ} (image : Bytes) (area : Area) (count : ℕ) (v w u : Replaying) (front : List (List (Record slots))) (rs : List (Record slots)) (r : Record slots) (after : List (Record slots)) (back : List (List (Record slots)))
     (left : List ℕ) → ArePagesRead image area count (front ++ (rs ++ r ∷ after) ∷ back) → Matches count image.pages [] (all_of (front ++ (rs ++ r ∷ after) ∷ back)) v → v.unended ≡ []
     → Takes (all_of front) v w → Takes rs w u → TakesNone slots left u → HasSpelling r → IsTypedRecord r → left ≡ record_bytes r ++ body_of after

@@ -89,7 +89,7 @@ module _ {D : Type 0} (content : D → Area → Option (List ℕ)) (may_leave : 
             may (subst (λ (o : Option (List ℕ)). IfSome o (λ area. (place : ℕ) → IsDamaged log.durable place area → ⊥)) (sym same) sound);
       }
 
-  -- no batch behind them
+  -- no batch after them
   pub walked_cut : (slots : ℕ) (read : List (List ℕ)) (v w : Replaying) (marks : List PageMark) (log : LogState) (disk : D) (place : ℕ) → HasWalked content may_leave slots read v w marks log disk
       → IfSome (content disk log.area) (IsDamaged log.durable place) → IfSome (content disk log.area) (may_leave disk log.area)
       → IfSome (content disk log.area) (StopsWalk slots read v place)
@@ -100,7 +100,7 @@ module _ {D : Type 0} (content : D → Area → Option (List ℕ)) (may_leave : 
       no_batch walked.batches w walked.takes begins (subst (λ (n : ℕ). IsDamaged n place area) walked.is_read.commit_byte is))
       (told_begins log disk batches walked.is_read may) damaged
 
-  -- no record in the batch behind them
+  -- no record in the batch after them
   pub walked_stop : (slots : ℕ) (read : List (List ℕ)) (v w : Replaying) (marks : List PageMark) (log next : LogState) (disk now : D) (body : List ℕ) (place offset : ℕ)
       → (walked : HasWalked content may_leave slots read v w marks log disk)
       → ((batches : List (List ℕ)) → IsRead content may_leave log disk batches → IsRead content may_leave next now (batches ++ body ∷ []))

@@ -16,7 +16,7 @@ pub record IsFirstBody (slots pages : ℕ) (body : List ℕ) : Type 0 where
   pub rules : HasSpelling {slots = slots} (Turn (known_version slots) pages)
   pub are : body ≡ body_of (first_records slots pages)
 
--- The body of the first batch is damaged at this place of the area: it begins with no `Turn`, or more stands behind it.
+-- The body of the first batch is damaged at this place of the area: it begins with no `Turn`, or more stands after it.
 pub data IsDamagedFirst (slots place : ℕ) (body : List ℕ) : Type 0 where
   no_turn : ((number : ℕ) → IsUnknownTurn slots number body → ⊥) → ((pages len : ℕ) → BeginsWith {slots = slots} body (Turn (known_version slots) pages) len → ⊥)
       → place ≡ 5 → IsDamagedFirst slots place body

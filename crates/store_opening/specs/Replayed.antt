@@ -23,13 +23,13 @@ abbrev pub replay_start : {slots : ℕ} → List (List (Cell slots)) → List �
 replay_start pages images = record { cells = cells_of_pages pages; unended = []; skips = images }
 
 module _ {D : Type 0} (content : D → Area → Option (List ℕ)) (may_leave : D → Area → List ℕ → Type 0) where
-  -- the log has a first batch, the replay took the records of all batches behind it, and the marks are those of them
+  -- the log has a first batch, the replay took the records of all batches after it, and the marks are those of them
   pub record HasReplayed (slots : ℕ) (v w : Replaying) (marks : List PageMark) (log : LogState) (disk : D) : Type 0 where
     pub count : ℕ
     pub rules : HasSpelling {slots = slots} (Turn (known_version slots) count)
     pub ends : EndsWalk content may_leave slots (body_of (first_records slots count) ∷ []) v w marks log disk
 
--- the area stops here to be a log whose records the replay can take: in its first batch, or behind it
+-- the area stops here to be a log whose records the replay can take: in its first batch, or after it
 pub data StopsReplay (slots : ℕ) (v : Replaying) (place : ℕ) (area : List ℕ) : Type 0 where
   in_first : IsDamagedLog slots area place → StopsReplay slots v place area
   behind : (count : ℕ) → HasSpelling {slots = slots} (Turn (known_version slots) count) → StopsWalk slots (body_of (first_records slots count) ∷ []) v place area

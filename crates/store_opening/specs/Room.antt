@@ -20,7 +20,7 @@ abbrev pub batch_size : ℕ → ℕ
 batch_size zero = 0
 batch_size (suc more) = 5 + suc more
 
--- The image opens to cells, and its log has no room to go on: behind it the batch of the undo, and two commit bytes and a length,
+-- The image opens to cells, and its log has no room to go on: after it the batch of the undo, and two commit bytes and a length,
 -- are more than a log area may have.
 pub record LacksRoom (slots : ℕ) (image : Bytes) : Type 0 where
   pub area : Area

@@ -13,7 +13,7 @@ use Rattle.page_marks.specs.Marks.{AreMarks}
 use Rattle.store_opening.specs.Walks.{Takes, StopsInBody}
 
 module _ {D : Type 0} (content : D → Area → Option (List ℕ)) (may_leave : D → Area → List ℕ → Type 0) where
-  -- behind the batches that were read before, these were read, the replay took their records, and the marks are those of them
+  -- after the batches that were read before, these were read, the replay took their records, and the marks are those of them
   pub record HasWalked (slots : ℕ) (read : List (List ℕ)) (v w : Replaying) (marks : List PageMark) (log : LogState) (disk : D) : Type 0 where
     pub batches : List (List (Record slots))
     pub takes : Takes (all_of batches) v w
@@ -28,7 +28,7 @@ module _ {D : Type 0} (content : D → Area → Option (List ℕ)) (may_leave : 
     pub is_on : IsOn may_leave log disk (read ++ bodies_of batches)
     pub whole : IfSome (content disk log.area) (IsLog most_bytes (read ++ bodies_of batches))
 
--- The walk of this area stops here: behind batches that the replay took no commit byte stands, or the batch is cut
+-- The walk of this area stops here: after batches that the replay took no commit byte stands, or the batch is cut
 -- off, or in that batch no record stands that it can take.
 pub data StopsWalk (slots : ℕ) (read : List (List ℕ)) (v : Replaying) (place : ℕ) (area : List ℕ) : Type 0 where
   no_batch : (batches : List (List (Record slots))) (w : Replaying) → Takes (all_of batches) v w → Begins (read ++ bodies_of batches) area

@@ -8,7 +8,7 @@ use Rattle.opened_images.specs.LogRecords.{body_of, HaveSpellings}
 use Rattle.page_marks.specs.declared.marks.PageMark.{PageMark}
 use Rattle.page_marks.specs.Marks.{AreMarkedBy, AreMarkedByAll}
 
--- the record may stand behind a log's first one, and it fits what the replay has, which awaits it where it is an image
+-- the record may stand after a log's first one, and it fits what the replay has, which awaits it where it is an image
 abbrev pub CanTake : {slots : ℕ} → Replaying → Record slots → Type 0
 CanTake {slots} v (OfCells r) = FitsReplay {slots = slots} v (OfCells r)
 CanTake {slots} v (Image page cells) = FitsReplay {slots = slots} v (Image page cells) × (1 ≤ slice_index v.skips page)

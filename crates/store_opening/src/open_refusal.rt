@@ -57,7 +57,7 @@ pub enum OpenRefusal {
     /// Out of memory.
     #[error("out of memory")]
     Memory,
-    /// The log area has no room for the undo of what had not ended, and for what begins a further batch behind it. Reading
+    /// The log area has no room for the undo of what had not ended, and for what begins a further batch after it. Reading
     /// alone asks for no room, and never answers so.
     #[error("the log has no room to go on")]
     LogFull,

@@ -64,7 +64,7 @@ fn page_in_place<D: Disk, const SLOTS: usize>(
     }
 }
 
-/// Loads the page of this number behind those that were loaded, unless the log has an image of it: then a new page stands
+/// Loads the page of this number after those that were loaded, unless the log has an image of it: then a new page stands
 /// for it.
 fn load_next<D: Disk, const SLOTS: usize>(
     disk: &mut D,

@@ -259,7 +259,7 @@ fn walk_batch<D: Disk, const SLOTS: usize>(
 /// Reads the batches that are left of a log, up to its end, and takes their records. The bodies take the memory of the spare
 /// one.
 ///
-/// [`ReadRefusal::Damaged`] tells where the first record stands that doesn't fit, or the first commit byte behind which no
+/// [`ReadRefusal::Damaged`] tells where the first record stands that doesn't fit, or the first commit byte after which no
 /// batch stands, whichever comes first. [`ReadRefusal::Disk`] comes only where the disk's count of faults rose in this
 /// call.
 pub(crate) fn walk_log<D: Disk, const SLOTS: usize>(

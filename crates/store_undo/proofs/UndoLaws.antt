@@ -116,7 +116,7 @@ to_undo-less cells us r e = by (first-of cells us r e)
 back-of : (e : ℕ × Unended) (front : List Change) (last : Change) → e.1.changes ≡ front ++ last ∷ [] → reverse e.1.changes ≡ last ∷ reverse front
 back-of e front last s = ap reverse s ∙ reverse-append front (last ∷ [])
 
--- the first transaction, of which these changes are left, can be undone, and so can the others behind it
+-- the first transaction, of which these changes are left, can be undone, and so can the others after it
 abbrev CanFrom : ℕ → List Cell → ℕ → List Change → List (ℕ × Unended) → Type 0
 CanFrom slots cells pass back es = CanAllBeUndone slots cells pass back × CanRestart slots (after_records slots cells (undo_records slots cells pass back)) es
 
@@ -126,7 +126,7 @@ can-none slots cells pass back es b h = subst (λ (cs : List Change). CanFrom sl
 can-one : (slots : ℕ) (cells : List Cell) (pass : ℕ) (back less : List Change) (c : Change) (es : List (ℕ × Unended)) → back ≡ c ∷ less → CanBeUndone cells c → CanFrom slots (after_record slots cells (undo_of cells pass c)) pass less es → CanFrom slots cells pass back es
 can-one slots cells pass back less c es b here h = subst (λ (cs : List Change). CanFrom slots cells pass cs es) (sym b) ((here, h.0), h.1)
 
--- all can be undone where the next change can, and the others can behind it
+-- all can be undone where the next change can, and the others can after it
 pub can-more : (slots : ℕ) (cells : List Cell) (us : List (ℕ × Unended)) (r : StoredRecord) → next_undo cells us ≡ Some r → IfSome (change_to_undo us) (CanBeUndone cells)
     → CanRestart slots (after_record slots cells r) (unended_after us r) → CanRestart slots cells us
 can-more slots cells us r e can rest = by (first-of cells us r e)
@@ -146,7 +146,7 @@ can-more slots cells us r e can rest = by (first-of cells us r e)
         (can-one slots cells f.entry.0 (reverse f.entry.1.changes) (reverse (without_change f.entry.1).changes) f.last f.rest
         (back-of f.entry f.front f.last f.changes ∙ ap (λ (cs : List Change). f.last ∷ reverse cs) (sym f.less)) here there)
 
--- the first transaction, of which these changes are left, can't be undone, or the others behind it can't
+-- the first transaction, of which these changes are left, can't be undone, or the others after it can't
 abbrev StuckFrom : ℕ → List Cell → ℕ → List Change → List (ℕ × Unended) → ℕ → Type 0
 StuckFrom slots cells pass back es id = IsStuckAt slots cells pass back id ⊎ (CanAllBeUndone slots cells pass back × RestartsStuckAt slots (after_records slots cells (undo_records slots cells pass back)) es id)
 

@@ -1,4 +1,4 @@
--- Cells with null slots behind their own.
+-- Cells with null slots after their own.
 use Rattle.std.proofs.Common.{◌≡◌, ◌≢◌, ⊎_elim, ℕ, zero, suc, ◌+◌, ◌*◌, ◌<◌, ◌≤◌, Bool, true, false, cond, List, [], ◌∷◌, ◌++◌, length, get_or, replicate, refl, sym, ap, ◌∙◌, arith, length-append}
 use Rattle.std.specs.Prelude.{not, ◌&&◌, count_by, sum_by}
 use Rattle.std.proofs.lemmas.Bool.{cases_lt, ne_eqb}
@@ -18,7 +18,7 @@ null_slot zero i x = refl
 null_slot (suc n) zero x = refl
 null_slot (suc n) (suc i) x = null_slot n i x
 
--- behind a list that has no such place, null values tell nothing new
+-- after a list that has no such place, null values tell nothing new
 pub behind_null : {X : Type 0} (xs : List X) (n i : ℕ) (x : X) → get_or (xs ++ replicate n x) i x ≡ get_or xs i x
 behind_null [] n i x = null_slot n i x
 behind_null (y ∷ ys) n zero x = refl

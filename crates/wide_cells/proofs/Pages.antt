@@ -12,7 +12,7 @@ use Rattle.wide_cells.specs.Wider.{wider, all_wider, wide_cell, wide_page}
 use Rattle.wide_cells.specs.Laws.{PageLaw}
 use Rattle.wide_cells.proofs.Cells.{behind_null}
 
--- pointers behind which nothing but null values stands, where their bits are 0
+-- pointers after which nothing but null values stands, where their bits are 0
 behind-pointers : (bits i n : ℕ) → ((k : ℕ) → i ≤ k → bit_at bits k ≡ 0) → pointers_from bits i (replicate n 0) ≡ replicate n null
 behind-pointers bits i zero none = refl
 behind-pointers bits i (suc n) none =

@@ -11,7 +11,7 @@ use log_record::Record;
 use log_replay::Replay;
 use std::alloc::{AllocError, Global};
 
-/// The page of this number of a replayed log, with eight null slots behind the own ones of each cell.
+/// The page of this number of a replayed log, with eight null slots after the own ones of each cell.
 fn wide_page_of(replay: &Replay<6>, number: u16) -> Page<14>
     requires { number < length replay.now.skips }
     ensures typed { AreTyped result }
@@ -23,7 +23,7 @@ fn wide_page_of(replay: &Replay<6>, number: u16) -> Page<14>
     wide_page(number, page)
 }
 
-/// The images of all pages of a replayed log, as bytes, with eight null slots behind the own ones of each cell.
+/// The images of all pages of a replayed log, as bytes, with eight null slots after the own ones of each cell.
 pub fn wide_images(alloc: Global, replay: &Replay<6>) -> Result<Vec<u8>, AllocError>
     ensures images { IfOk result (λ bytes. AreImagesOf 14 (length replay.now.skips) (all_wider 8 replay.now.cells) bytes.items) }
     ensures size { IfOk result (λ bytes. length bytes.items ≡ (page_size 14 + 3) * length replay.now.skips) }

@@ -7,7 +7,7 @@ use crate::round_at::RoundAt;
 use green_walk::Found;
 
 impl<const SLOTS: usize> Round<SLOTS> {
-    /// Goes on to this slot of the object of the round or of the condemned object that is looked at, or behind the object
+    /// Goes on to this slot of the object of the round or of the condemned object that is looked at, or after the object
     /// where it has no such slot. That the slots gone over gave nothing to do is for the caller to know.
     pub(crate) fn look_to(&mut self, slot: u8)
         requires look { IsSlotLook (asked self.old.view) }
@@ -22,7 +22,7 @@ impl<const SLOTS: usize> Round<SLOTS> {
         }
     }
 
-    /// The sweep goes on to this slot of its object, or behind the object.
+    /// The sweep goes on to this slot of its object, or after the object.
     fn sweep_to(&mut self, slot: u8)
         requires at { (id : ℕ) × (at : ℕ) × (asked self.old.view ≡ RoundAt.Cut id at) }
         requires within { slot ≤ SLOTS }
@@ -47,7 +47,7 @@ impl<const SLOTS: usize> Round<SLOTS> {
         self.green.test_to(slot);
     }
 
-    /// The walk of green objects goes on to this slot of the object, or behind the object where it has no such slot. That the
+    /// The walk of green objects goes on to this slot of the object, or after the object where it has no such slot. That the
     /// slots gone over gave nothing to do is for the caller to know.
     #[inline(always)]
     pub(crate) fn walk_to(&mut self, slot: u8)

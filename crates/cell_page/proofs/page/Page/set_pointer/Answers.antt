@@ -6,7 +6,7 @@ use Rattle.cell_page.specs.Stored.{without_pointers}
 use Rattle.cell_page.proofs.PageEdits.{edited, edited-others, edited-rules}
 use Rattle.cell_page.proofs.page.Page.set_pointer.Goals as goal
 
--- what stays of a cell behind a new pointer
+-- what stays of a cell after a new pointer
 stays : {slots : ℕ} (old new : Cell slots) (targets : List ℕ) → new ≡ record old { bits = new.bits; slots = targets } → new.bits / 2 ^ slots ≡ old.bits / 2 ^ slots
     → without_pointers new ≡ without_pointers old
 stays {slots} old new targets others rest =

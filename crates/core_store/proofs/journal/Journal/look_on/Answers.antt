@@ -74,7 +74,7 @@ returns-clause-looks g c =
       core = looked-core c.self.inside c.look_on.new.self c.args.self.now c.args.held.now c.self.invariant c.self.view_is c.requires.agree e.same e.stands e.passes;
     }
 
--- there was one before the looks, and so there is behind them
+-- there was one before the looks, and so there is after them
 pub returns-clause-none : goal.returns-clause-none
 returns-clause-none g c =
     let e = c.look_on.ensures in

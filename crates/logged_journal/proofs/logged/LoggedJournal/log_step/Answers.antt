@@ -30,7 +30,7 @@ before g c =
     let s = c.self.inside in
     view_of s
 
--- the room in the log behind the reservation
+-- the room in the log after the reservation
 abbrev room : (g : Over) (c : In_default g) → ℕ
 room g c = if is_ok c.reserve.result then max c.self.inside.log.room (c.bytes_owed.result + c.record_length.result) else c.self.inside.log.room
 
