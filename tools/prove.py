@@ -100,6 +100,12 @@ def memory():
         return 1024 * int(re.search(r"MemAvailable:\s+(\d+)", it.read())[1])
 
 
+def jobs():
+    """How many copies the proof of one crate may have, or nothing where the toolchain is to see what memory allows."""
+    count = min(len(os.sched_getaffinity(0)), 4)
+    return ["--jobs", str(count)] if memory() > LANE * 2 else []
+
+
 def lanes_wanted():
     return max(1, min(len(os.sched_getaffinity(0)) - 1, 3, memory() // LANE))
 
@@ -177,8 +183,9 @@ def work(proof, lanes, lane):
     while name := proof.take(lane):
         with open(f"{LOGS}/{name}", "w", encoding="utf-8") as log:
             how = {"stdin": subprocess.DEVNULL, "stdout": log, "stderr": subprocess.STDOUT}
-            # The others take what the crate for which most work waits leaves of the processors.
-            words = ["rt", "lib"] if proof.is_first(name) else ["nice", "-n", "10", "rt", "lib"]
+            # The others take what the crate for which most work waits leaves of the processors, and have no copies that would each
+            # read the libraries below.
+            words = ["rt", "lib", *jobs()] if proof.is_first(name) else ["nice", "-n", "10", "rt", "lib", "--jobs", "1"]
             status = subprocess.run(words, cwd=f"{lane}/crates/{name}", **how).returncode
         if not status:
             for it in lanes:
