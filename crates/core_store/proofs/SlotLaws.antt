@@ -14,7 +14,7 @@ use Rattle.cell_page.specs.Format.{IsSlotCount}
 use Rattle.cell_page.specs.Stored.{cell_of}
 use Rattle.log_record.specs.Records.{payload_place, after_cell_record, FitsCells, LaysWell}
 use Rattle.strength_counts.specs.Changes.{takes_strong}
-use Rattle.strength_counts.proofs.Edits.{same-same}
+use Rattle.strength_counts.proofs.StoreEdits.{same-same}
 use Rattle.core_store.specs.declared.three.HeldFrame.{HeldFrame}
 use Rattle.core_store.specs.Frames.{Agree}
 use Rattle.core_store.specs.Changes.{is_counted_strong, is_laid_strong, bit_for, stored_change, restored_change, store_record, undo_record, after_change, has_no_strong}

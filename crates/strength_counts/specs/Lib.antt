@@ -1,4 +1,1 @@
-pub mod Held
 pub mod Changes
-pub mod Inside
-pub mod Laws

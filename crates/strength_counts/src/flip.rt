@@ -4,10 +4,7 @@ ghost use Rattle.std.specs.Prelude.{◌≡◌, ◌<◌, ◌≤◌, ◌==◌, ℕ
 ghost use Rattle.cell_model.specs.Cells.{relink, pointer_in, self_pointers, switched, flipped};
 ghost use Rattle.cell_page.specs.Format.{IsSlotCount, IsCell};
 ghost use Rattle.cell_page.specs.Stored.{cell_of};
-ghost use Rattle.strength_counts.specs.Held.{held_cell};
-ghost use Rattle.strength_counts.specs.Changes.{with_flipped};
 
-use crate::cells::Cells;
 use cell_page::Cell;
 
 /// How many slots name the id.
@@ -68,19 +65,4 @@ pub fn flip_cell<const SLOTS: usize>(cell: &mut Cell<SLOTS>)
     cell.bit = !cell.bit;
     cell.strong = cell.weak - own;
     cell.weak = own;
-}
-
-impl<const SLOTS: usize> Cells<SLOTS> {
-    /// Flips an object's target bit: its pointers to itself stay weak, and all others become strong.
-    pub fn flip(&mut self, object: u32)
-        requires size { IsSlotCount SLOTS }
-        requires object { (held_cell self.old object).live ≡ true }
-        requires weak_alone { (held_cell self.old object).strong ≡ 0 }
-        requires own { self_pointers object (held_cell self.old object) ≤ (held_cell self.old object).weak }
-        ensures { self.new ≡ with_flipped object self.old }
-    {
-        let mut cell = *self.get(object);
-        flip_cell(&mut cell);
-        self.replace(cell);
-    }
 }

@@ -1,13 +1,8 @@
-//! Strong and weak pointers between cells, and the counts that the cells keep of them.
+//! Which pointers are strong, and the flip that exchanges strong and weak.
 #![tactic(auto)]
 
-mod cells;
 mod counts;
 mod flip;
-mod laws;
-mod pointers;
 
-pub use cells::Cells;
-pub use counts::{gain, lose, takes_strong};
+pub use counts::takes_strong;
 pub use flip::flip_cell;
-pub use laws::{changes_are_of_the_store, counts_stay_exact, strengths_are_of_the_store};
