@@ -79,8 +79,7 @@ pub record MakesClean (D : Type 0) (slots : ℕ) (faults : D → ℕ) (may_leave
   pub opens : LeavesOnlyImages moment left_since before.disk after.disk (OpensAfter slots (history_of before))
 
 -- The journal turns its log, or refuses to, and answers so. Where it was done, each image of the disk has every page in place and
--- names the other log area, which has the first batch and nothing more; the log area that was in use has one batch more; and of
--- the super area the first byte alone changed, as whatever is answered
+-- names the other log area, which has the first batch and nothing more; the log area that was in use has one batch more
 pub record DoesTurnOn {D : Type 0} (slots : ℕ) (faults : D → ℕ) (content : D → Area → Option (List ℕ)) (may_leave : D → Area → List ℕ → Type 0) (before after : LoggedView D) (result : Upkeep) : Type 0 where
   pub legal : IsLegal (history_of after)
   pub stopped : IfSome before.failed (λ f. (result ≡ upkeep.Stopped f.faults) × (after ≡ before))
