@@ -3,3 +3,4 @@ mod Batches
 mod Replays
 mod Opens
 mod Streams
+mod Stays

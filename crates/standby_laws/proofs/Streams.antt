@@ -1,7 +1,7 @@
 -- The laws of a base and the log after it.
 use Rattle.std.proofs.Common.{◌≡◌, ◌⊎◌, inl, inr, ℕ, ◌+◌, ◌*◌, ◌<◌, ◌≤◌, List, [], ◌∷◌, ◌++◌, length, drop, refl, sym, ap, subst, ◌∙◌, arith, append_assoc}
 use Rattle.std.proofs.lemmas.List.{take-append-drop}
-use Rattle.plain_model.specs.History.{end_of, IsCrashConsistent}
+use Rattle.plain_model.specs.History.{History, end_of, IsCrashConsistent}
 use Rattle.cell_model.specs.Cells.{Cell as StoredCell}
 use Rattle.cell_model.specs.Graph.{graph_of}
 use Rattle.cell_page.specs.declared.cell.Cell.{Cell}
@@ -17,16 +17,19 @@ use Rattle.opened_images.specs.WithImages.{is_imaged}
 use Rattle.opened_images.proofs.Bodies.{turn_spelled}
 use Rattle.opened_images.proofs.ImagesInLog.{all_both, no_image_of_both}
 use Rattle.restart_laws.specs.Restored.{restored}
+use Rattle.logged_journal.specs.Opens.{OpensAfter}
 use Rattle.log_shipping.specs.Shipped.{AreLogBytes}
 use Rattle.ship_stream.specs.Reading.{InLog, IsReading, base_bytes, shipped_bytes}
 use Rattle.ship_stream.specs.Laws.{IsRead}
 use Rattle.standby.specs.Following.{over_base, after_all, base_after}
 use Rattle.standby.specs.Promoted.{Restores}
-use Rattle.standby_laws.specs.Fronts.{IsBase, IsOfFront, BeginLaw, LaterLaw, FrontLaw}
+use Rattle.store_backup.specs.Backups.{IsBaseOf}
+use Rattle.standby_laws.specs.Fronts.{HasGoneOn, IsOfFront, BeginLaw, LaterLaw, FrontLaw}
 use Rattle.standby_laws.proofs.Bases.{same_base}
 use Rattle.standby_laws.proofs.Batches.{each_spelled, front_batches}
 use Rattle.standby_laws.proofs.Replays.{unended_are}
 use Rattle.standby_laws.proofs.Opens.{HoldAll, promotes-opened}
+use Rattle.standby_laws.proofs.Stays.{front-stays}
 
 pub begins : BeginLaw
 begins slots pages cells area image some few sized turned =
@@ -73,8 +76,12 @@ of-front {slots} known cells made pages image area whole front later hold read m
       read = read;
       many = many;
       opens = λ earlier opened gone o. is ∙ promotes-opened cells pages front earlier hold gone known opened o;
-      graph = λ earlier h gone o. subst (λ (cs : List StoredCell). IsCrashConsistent (end_of h) (graph_of cs)) (sym (is ∙ promotes-opened cells pages front earlier hold gone known o.cells o.opened)) o.graph;
+      graph = left;
+      stays = λ earlier h es gone o going. front-stays (end_of h) es (graph_of made) going (left earlier h gone o);
     }
+  where
+    left : (earlier : Bytes) (h : History) → HasGoneOn cells (length pages) front earlier → OpensAfter slots h earlier → IsCrashConsistent (end_of h) (graph_of made)
+    left earlier h gone o = subst (λ (cs : List StoredCell). IsCrashConsistent (end_of h) (graph_of cs)) (sym (is ∙ promotes-opened cells pages front earlier hold gone known o.cells o.opened)) o.graph
 
 -- the cells after the whole batches
 restores-front : {slots : ℕ} (pages : List (List (Cell slots))) (rs : List (Record slots)) (v : Replaying) (made : List StoredCell) → v ≡ after_all (over_base pages) rs → Restores slots v made
@@ -85,14 +92,15 @@ restores-front {slots} pages rs v made is r =
 -- ---- a base of the store
 
 -- the pages that came are those of the base
-base-pages : {slots : ℕ} → IsSlotCount slots → (pages : ℕ) (cells : List StoredCell) (held : List (List (Cell slots))) (base front x : List ℕ) (came : List (List (Cell slots))) (log : List (List (Record slots))) → pages ≤ 1024 → IsBase cells pages held base
-    → IsRead (base ++ front) (InLog came log) x → (came ≡ held) × (shipped_bytes log ++ x ≡ front)
-base-pages {slots} known pages cells held base front x came log few b read =
-    let number = b.number in
+base-pages : {slots : ℕ} → IsSlotCount slots → (pages : ℕ) (cells : List StoredCell) (base front x : List ℕ) (came : List (List (Cell slots))) (log : List (List (Record slots))) → pages ≤ 1024 → (b : IsBaseOf slots (8 * pages) cells base)
+    → IsRead (base ++ front) (InLog came log) x → (came ≡ b.held) × (shipped_bytes log ++ x ≡ front)
+base-pages {slots} known pages cells base front x came log few b read =
+    let held = b.held in
+    let number : length held ≡ b.pages = b.number in
     let own : base ++ front ≡ base_bytes (length held) held ++ front = ap (λ (l : List ℕ). l ++ front) (b.are ∙ ap (λ (n : ℕ). base_bytes n held) (sym number)) in
     let split : base ++ front ≡ base_bytes (length came) came ++ (shipped_bytes log ++ x) = read.split ∙ append_assoc (base_bytes (length came) came) (shipped_bytes log) x in
-    same_base known came held (shipped_bytes log ++ x) front (base ++ front) read.reading.0.1 (omega (arith, number, few)) read.reading.1
-    (λ p low. let below : p < pages = omega (arith, low, number) in ((b.each p below).rules, b.typed p below)) split own
+    same_base known came held (shipped_bytes log ++ x) front (base ++ front) read.reading.0.1 (omega (arith, number, b.whole, few)) read.reading.1
+    (λ p low. let below : p < b.pages = omega (arith, low, number) in ((b.each p below).rules, b.typed p below)) split own
 
 -- the batches that came are the first ones of the log
 log-front : {slots : ℕ} → IsSlotCount slots → (image : Bytes) (came : List (List (Cell slots))) (front rest x : List ℕ) (log : List (List (Record slots))) → (shipped : AreLogBytes slots image (front ++ rest)) → IsReading (InLog came log)
@@ -127,14 +135,15 @@ by-batches {slots} known cells made came image area whole count (turn ∷ front)
     (restores-front came (all_of front) v made over r)
 
 pub fronts : FrontLaw
-fronts slots pages whole cells made held base front rest image known b shipped same promotes =
+fronts slots pages whole cells made base front rest image known b shipped same promotes =
     let v = promotes.0 in
     let leads = promotes.1 in
     let few : pages ≤ 1024 = (let most = shipped.log.read.log.batches_are.few in omega (arith, same, most)) in
-    let number = b.number in
-    let base_is = base-pages known pages cells held base front leads.rest leads.pages leads.log few b leads.read in
+    let held = b.held in
+    let number : length held ≡ pages = omega (arith, b.number, b.whole) in
+    let base_is = base-pages known pages cells base front leads.rest leads.pages leads.log few b leads.read in
     let long : length leads.pages ≡ pages = ap (λ (l : List (List (Cell slots))). length l) base_is.0 ∙ number in
-    let hold : HoldAll cells held = λ p low. b.each p (omega (arith, low, number)) in
+    let hold : HoldAll cells held = λ p low. b.each p (omega (arith, low, b.number)) in
     let log_is = log-front known image leads.pages front rest leads.rest leads.log shipped leads.read.reading base_is.1 in
     subst (λ (n : ℕ). IsOfFront slots n cells image whole made) long
     (by-batches known cells made leads.pages image shipped.area whole shipped.pages leads.log shipped.log.batches log_is.0 v

@@ -1,11 +1,13 @@
 -- What a standby has that was fed with a base of a store and with the first bytes of its log after that.
-use Rattle.std.specs.Prelude.{◌≡◌, ◌⊎◌, ℕ, ◌+◌, ◌*◌, ◌<◌, ◌≤◌, List, [], ◌++◌, length, slice_index_or}
-use Rattle.plain_model.specs.History.{History, end_of, IsCrashConsistent}
+use Rattle.std.specs.Prelude.{◌≡◌, ◌⊎◌, ℕ, ◌+◌, ◌*◌, ◌<◌, ◌≤◌, false, List, [], ◌++◌, length}
+use Rattle.std.specs.List.{AllByRecursion}
+use Rattle.plain_model.specs.declared.object.Object.{Object}
+use Rattle.plain_model.specs.declared.calls.Entry.{Entry}
+use Rattle.plain_model.specs.History.{History, Moment, end_of, moment_after, graph_after, SameReachable, IsCrashConsistent}
+use Rattle.plain_laws.specs.Sound.{is_crash}
 use Rattle.cell_model.specs.Cells.{Cell}
 use Rattle.cell_model.specs.Graph.{graph_of}
-use Rattle.cell_page.specs.declared.cell.Cell.{Cell as PageCell}
-use Rattle.cell_page.specs.Format.{IsSlotCount, AreTyped}
-use Rattle.cell_page.specs.Stored.{HoldsPage}
+use Rattle.cell_page.specs.Format.{IsSlotCount}
 use Rattle.disk_model.specs.declared.area.Area.{Area}
 use Rattle.disk_model.specs.Areas.{Bytes}
 use Rattle.log_record.specs.declared.record.Record.{Record}
@@ -16,8 +18,8 @@ use Rattle.opened_images.specs.WithImages.{AreSamePages}
 use Rattle.logged_journal.specs.Opens.{OpensAfter}
 use Rattle.logged_journal.specs.Upkeep.{IsTurned}
 use Rattle.log_shipping.specs.Shipped.{AreLogBytes}
-use Rattle.ship_stream.specs.Reading.{base_bytes}
 use Rattle.standby.specs.Promoted.{PromotesTo}
+use Rattle.store_backup.specs.Backups.{IsBaseOf}
 
 -- ---- the store
 
@@ -31,13 +33,17 @@ pub record HasGoneOn {slots : ℕ} (cells : List Cell) (pages : ℕ) (batches : 
   pub in_place : (page : ℕ) → page < pages → StandsInPlace slots before cells page
   pub same : AreSamePages pages (all_of batches) before image.pages
 
--- These are the pages of a store with these cells, in order, each number in the range of its type, and these bytes are the base of a
--- stream with them: how many they are, and each by its one spelling.
-pub record IsBase {slots : ℕ} (cells : List Cell) (pages : ℕ) (held : List (List (PageCell slots))) (bytes : List ℕ) : Type 0 where
-  pub number : length held ≡ pages
-  pub each : (page : ℕ) → page < pages → HoldsPage cells page (slice_index_or held page [])
-  pub typed : (page : ℕ) → page < pages → AreTyped (slice_index_or held page [])
-  pub are : bytes ≡ base_bytes pages held
+-- ---- the commits
+
+-- These objects have what the root reaches in the committed graph after some front of the commits so far.
+pub record IsAfterFront (m : Moment) (objects : List Object) : Type 0 where
+  pub prefix : ℕ
+  pub within : prefix ≤ length m.commits
+  pub reachable : SameReachable objects (graph_after m prefix)
+
+-- none of the entries is a crash
+abbrev pub AreWithoutCrash : List Entry → Type 0
+AreWithoutCrash es = AllByRecursion (λ e. is_crash e ≡ false) es
 
 -- ---- the standby
 
@@ -54,6 +60,8 @@ pub record IsOfFront (slots pages : ℕ) (cells : List Cell) (image : Bytes) (wh
   pub opens : (earlier : Bytes) (opened : List Cell) → HasGoneOn cells pages front earlier → Opened slots earlier (OpensTo opened) → made ≡ opened
   -- so they have the reach and the objects of the committed graph after a front of its commits
   pub graph : (earlier : Bytes) (h : History) → HasGoneOn cells pages front earlier → OpensAfter slots h earlier → IsCrashConsistent (end_of h) (graph_of made)
+  -- and however the store went on since then, they have those after some front of all its commits
+  pub stays : (earlier : Bytes) (h : History) (es : List Entry) → HasGoneOn cells pages front earlier → OpensAfter slots h earlier → AreWithoutCrash es → IsAfterFront (moment_after (end_of h) es) (graph_of made)
 
 -- ---- the laws
 
@@ -67,10 +75,14 @@ LaterLaw =
     (slots pages : ℕ) (cells : List Cell) (batches more : List (List (Record slots))) (area : Area) (image later : Bytes)
     → HasGoneOn cells pages batches image → IsLogRead later area pages (batches ++ more) → AreSamePages pages (all_of (batches ++ more)) image.pages later.pages → HasGoneOn cells pages (batches ++ more) later
 
+-- What a crash may leave after a history is after a front of the commits of each longer one too.
+abbrev pub StaysLaw : Type 0
+StaysLaw = (m : Moment) (es : List Entry) (objects : List Object) → AreWithoutCrash es → IsCrashConsistent m objects → IsAfterFront (moment_after m es) objects
+
 -- A standby that was fed with the base of a store at its checkpoint, and with any first bytes of what its log has in this image, is
 -- promoted to what the store comes to by the batches that are whole in them.
 abbrev pub FrontLaw : Type 0
 FrontLaw =
-    (slots pages whole : ℕ) (cells made : List Cell) (held : List (List (PageCell slots))) (base front rest : List ℕ) (image : Bytes)
-    → IsSlotCount slots → IsBase cells pages held base → (shipped : AreLogBytes slots image (front ++ rest)) → shipped.pages ≡ pages
+    (slots pages whole : ℕ) (cells made : List Cell) (base front rest : List ℕ) (image : Bytes)
+    → IsSlotCount slots → IsBaseOf slots (8 * pages) cells base → (shipped : AreLogBytes slots image (front ++ rest)) → shipped.pages ≡ pages
     → PromotesTo slots (base ++ front) whole made → IsOfFront slots pages cells image whole made

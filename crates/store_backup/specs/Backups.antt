@@ -5,6 +5,7 @@ use Rattle.disk_model.specs.Causes.{Rose}
 use Rattle.disk_model.specs.Told.{EachImage}
 use Rattle.cell_model.specs.Cells.{Cell}
 use Rattle.cell_page.specs.declared.cell.Cell.{Cell as PageCell}
+use Rattle.cell_page.specs.Format.{AreTyped}
 use Rattle.cell_page.specs.Stored.{HoldsPage}
 use Rattle.gate_log.specs.State.{other_log}
 use Rattle.core_store.specs.JournalView.{cells_of}
@@ -22,6 +23,8 @@ pub record IsBaseOf (slots ids : ℕ) (cells : List Cell) (bytes : List ℕ) : T
   pub held : List (List (PageCell slots))
   pub number : length held ≡ pages
   pub each : (page : ℕ) → page < pages → HoldsPage cells page (slice_index_or held page [])
+  -- each number of a page is in the range of its type, so that its bytes tell it
+  pub typed : (page : ℕ) → page < pages → AreTyped (slice_index_or held page [])
   pub are : bytes ≡ base_bytes pages held
 
 -- A checkpoint was made: whatever a power loss leaves of the disk has every page in place, and a log of its first batch alone in the
