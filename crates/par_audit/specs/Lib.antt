@@ -2,3 +2,4 @@ pub mod Pieces
 pub mod Tables
 pub mod Marks
 pub mod Garbage
+pub mod Reports

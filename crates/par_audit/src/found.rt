@@ -15,6 +15,15 @@ use std::thread::{Threads, join};
 /// How few cells are worth a thread of their own.
 const LEAST_PIECE: usize = 8192;
 
+/// How many workers count, where so many of them mark meanwhile: each has enough cells to be worth its thread.
+pub(crate) fn counters_of(workers: usize, markers: usize, cells: usize) -> usize
+    requires some { markers < workers }
+    requires fits { workers ≤ 1024 }
+    ensures { (0 < result) × (result ≤ 1024) }
+{
+    (workers - markers).min(cells / LEAST_PIECE).max(1)
+}
+
 /// What was counted, and what was marked.
 #[derive(Drop)]
 pub struct Found {
@@ -24,7 +33,8 @@ pub struct Found {
     pub unreached: Vec<bool>,
 }
 
-/// Counts in one thread and marks in another one, with so many workers each.
+/// Counts in this thread and marks in another one meanwhile, with so many workers each. So nothing waits for the other thread to
+/// begin.
 fn find_beside<const SLOTS: usize>(
     rt: &(impl Threads + Sync),
     alloc: Global,
@@ -48,7 +58,7 @@ fn find_beside<const SLOTS: usize>(
         requires { IsSlotCount SLOTS × (length cells.now ≤ 16777216) × (0 < markers) × (markers ≤ 1024) }
         ensures { IfOk result (λ table. (length table.items ≡ length cells.entry.now) × IsUnreached (map cell_of cells.entry.now) table.items) }
     { mark(rt, alloc, cells, markers) };
-    let (tables, unreached) = join(rt, counting, marking);
+    let (unreached, tables) = join(rt, marking, counting);
     Ok(Found {
         tables: tables?,
         unreached: unreached?,
@@ -73,7 +83,7 @@ pub fn find<const SLOTS: usize>(
 {
     let markers = workers / 2;
     if markers > 0 {
-        let counters = (workers - markers).min(cells.len() / LEAST_PIECE).max(1);
+        let counters = counters_of(workers, markers, cells.len());
         return find_beside(rt, alloc, cells, counters, markers);
     }
     let tables = count_by_pieces(rt, alloc, cells, workers)?;

@@ -11,6 +11,7 @@ mod names;
 mod objects;
 mod pairs;
 mod pieces;
+mod recounting;
 mod tables;
 mod wide;
 

@@ -9,9 +9,9 @@ ghost use Rattle.core_store.specs.Opening.{store_of};
 ghost use Rattle.auditor.specs.Recount.{ArePages, live_in, zero_in, differences_of, ids_of};
 ghost use Rattle.par_audit.specs.Garbage.{IsGarbage};
 
-use crate::found::find;
-use crate::garbage::garbage_in;
-use auditor::{Report, replayed, report_on};
+use crate::found::counters_of;
+use crate::recounting::{garbage_by_pieces, report_beside_garbage, report_by_pieces};
+use auditor::{Report, replayed};
 use cell_page::{CELLS_OF_PAGE, Cell};
 use core_store::{Frame, Notes};
 use plain_model::Memory;
@@ -65,17 +65,16 @@ pub fn recount_by_pieces<const SLOTS: usize>(
     ensures differences { IfOk result (λ w. w.report.differences ≡ differences_of (map cell_of cells.now) frames.now) }
     ensures garbage { IfOk result (λ w. IsGarbage (map cell_of cells.now) (ids_of (length frames.now)) w.garbage) }
 {
-    let found = find(rt, alloc, cells, workers)?;
-    let garbage = garbage_in(
-        found.unreached.as_slice(),
-        (CELLS_OF_PAGE * frames.len()) as u32,
-    );
-    let report = report_on(
-        alloc,
-        cells,
-        found.tables.zeros.as_slice(),
-        found.tables.ones.as_slice(),
-        frames,
+    let ids = (CELLS_OF_PAGE * frames.len()) as u32;
+    let markers = workers / 2;
+    if markers == 0 {
+        let report = report_by_pieces(rt, alloc, cells, frames, workers)?;
+        let garbage = garbage_by_pieces(rt, alloc, cells, ids, workers)?;
+        return Ok(Wide { report, garbage });
+    }
+    let counters = counters_of(workers, markers, cells.len());
+    let (report, garbage) = report_beside_garbage(
+        rt, alloc, cells, frames, ids, counters, markers,
     )?;
     Ok(Wide { report, garbage })
 }
