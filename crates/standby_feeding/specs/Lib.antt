@@ -1,0 +1,4 @@
+pub mod Streams
+pub mod Feedings
+pub mod StoodBy
+pub mod Line
