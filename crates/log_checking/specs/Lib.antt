@@ -1,0 +1,3 @@
+pub mod Feedings
+pub mod Checked
+pub mod Line
