@@ -9,7 +9,7 @@ import subprocess
 
 FILES = ("brahma.pages", "brahma.loga", "brahma.logb", "brahma.super")
 MARK = "brahma.open"
-DISK, OUTPUT, INPUT, USAGE = 6, 5, 4, 2
+DISK, OUTPUT, INPUT, REFUSED, USAGE = 6, 5, 4, 3, 2
 
 # Makes two objects, with a checkpoint between them. The payload of the root tells the last commit.
 FIRST = b"1 begin\n1 make 1\n1 store 0 0 1\n1 set 0 1\n1 commit\nturn\n1 begin\n1 make 1\n1 store 0 1 1\n1 set 0 2\n1 commit\n"

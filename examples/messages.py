@@ -18,6 +18,8 @@ import subprocess
 import sys
 import tempfile
 
+HERE = os.path.dirname(os.path.realpath(__file__))
+
 FILES = ("brahma.pages", "brahma.loga", "brahma.logb", "brahma.super")
 
 # One line of each kind that the grammar has.
@@ -112,6 +114,7 @@ def words(it):
     it.fresh(0)
     it.expect("init", it.run("init", "2"), 0, "pages 2")
     it.expect("init again", it.run("init", "2"), 0, "pages 2", "held a store; init puts an empty one in its place")
+    it.expect("standby now", it.run("standby", "now"), 2, "usage", "standby takes no further words")
     it.expect("init 0", it.run("init", "0"), 2, "usage", "1 to 1024", "./brahma help")
     it.expect("init 1025", it.run("init", "1025"), 2, "usage", "1 to 1024")
     it.expect("gen", it.run("gen", "--seed", "1"), 2, "usage", "--clients C, 1 to 64")
@@ -179,12 +182,38 @@ def openings(it):
     it.expect("object", it.run("audit"), 7, "refused: object 1 rule 3", "its counts are not those of the pointers", "rule 3")
 
 
+def standbys(it):
+    """Streams of which no store is made."""
+    base = b"\0\1" + b"".join(bytes(4) + number.to_bytes(4, "big") + bytes(120) for number in range(1, 9))
+    for old, held in ((0, ()), (1, ("standby puts that of a sound stream in its place",))):
+        it.fresh(old)
+        it.expect("no pages", it.run("standby", text="\0\1"), 3, "refused: stream at 2", "ends there and lacks pages", "what `backup` writes", *held)
+        it.expect("wrong number", it.run("standby", text="\0\0"), 3, "refused: stream at 0", "breaks the format", "left as they are", *held)
+        it.expect("no root", it.run("standby", text=base.decode()), 7, "refused: object 1 rule 1", "the root is not stored", "the store that the stream makes", *held)
+
+
+def checks(it):
+    """Streams on which there is no verdict; no file is made."""
+    it.fresh(0)
+    it.expect("check now", it.run("check", "now"), 2, "usage", "check takes no further words")
+    it.expect("check of no pages", it.run("check", text="\0\1\0"), 3, "refused: stream at 3", "ends there and lacks pages", "what `backup` writes")
+    it.expect("check of no stream", it.run("check", text="1 begin\n"), 3, "refused: stream at 0", "breaks the format")
+    with open(os.path.join(HERE, "check-unsound.script"), "rb") as file:
+        it.expect("check of a broken store", it.run("check", stdin=file), 7, "refused: object 1 rule 3", "the store that the stream makes", "its counts")
+    with open("/dev/full", "wb") as full, open(os.path.join(HERE, "check.script"), "rb") as file:
+        it.expect("output of check", it.run("check", stdin=file, stdout=full), 5, "", "standard output could not be written", "check the stream again")
+    if os.listdir(it.disk):
+        it.tell("files after checks", [], os.listdir(it.disk))
+
+
 def streams(it):
     """The input can't be read, or the output not written."""
     it.fresh()
     folder = os.open(it.disk, os.O_RDONLY)
     it.expect("input", it.run("replay", stdin=folder), 4, "refused: read", "standard input could not be read", "first open begin")
     it.expect("input of a run", it.run("run", stdin=folder), 4, "refused: read", "nothing of the script was done")
+    it.expect("input of check", it.run("check", stdin=folder), 4, "refused: read", "standard input could not be read", "left as they are")
+    it.expect("input of standby", it.run("standby", stdin=folder), 4, "refused: read", "standard input could not be read", "left as they are")
     os.close(folder)
     with open("/dev/full", "wb") as full:
         it.expect("output", it.run("replay", text="1 begin\n", stdout=full), 5, "", "standard output could not be written", "look before")
@@ -329,7 +358,7 @@ def terminals(it):
         it.tell("turn at a terminal", "progress", (found[0], found[2]))
 
 
-ALL = (words, lines, limits, openings, streams, disks, rights, full_disk, quiet, terminals)
+ALL = (words, lines, limits, openings, standbys, checks, streams, disks, rights, full_disk, quiet, terminals)
 
 
 def main():

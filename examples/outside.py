@@ -20,13 +20,13 @@ import sys
 import tempfile
 import time
 
-from attacked import DISK, FILES, INPUT, MARK, OUTPUT, USAGE, Attacks, expect_limited, one, run_of
+from attacked import DISK, FILES, INPUT, MARK, OUTPUT, REFUSED, USAGE, Attacks, expect_limited, one, run_of
 from places import PAGE, places
 
 HERE = os.path.dirname(os.path.abspath(__file__))
 BENCH = os.path.join(HERE, "..", "bench")
 GENERATED = ["gen", "--seed", "1", "--clients", "1", "--txns", "1"]
-COMMANDS = (["init", "2"], ["replay"], ["run"], ["audit"], ["migrate"], ["backup"], ["ship"], ["log"], GENERATED, ["nothing"])
+COMMANDS = (["init", "2"], ["replay"], ["run"], ["audit"], ["migrate"], ["backup"], ["ship"], ["log"], ["standby"], GENERATED, ["nothing"])
 
 # A copy of the process is made before its first data sync, and holds what it holds until it is ended.
 FORKS = r"""
@@ -100,6 +100,9 @@ def streams(attacks):
             wanted = 0
             if words == ["nothing"]:
                 wanted = USAGE
+            elif words == ["standby"]:
+                # The script is no stream. The last line of a refusal is told as far as it can be.
+                wanted = INPUT if 0 in closed else REFUSED
             elif 0 in closed and words[0] in ("replay", "run"):
                 wanted = INPUT
             elif 1 in closed:
@@ -160,7 +163,7 @@ def locks(attacks):
     attacks.fresh()
     first = attacks.hold()
     before = attacks.held()
-    for words in (["init", "2"], ["replay"], ["run"], ["audit"], ["migrate"], ["backup"], ["ship"], ["log"], GENERATED):
+    for words in (["init", "2"], ["replay"], ["run"], ["audit"], ["migrate"], ["backup"], ["ship"], ["log"], ["standby"], GENERATED):
         attacks.expect_refused("%s beside a run" % words[0], attacks.run(words))
     attacks.expect("files beside a run", before, attacks.held())
     attacks.tell(first, one(3), 3)

@@ -96,7 +96,7 @@ pub(crate) fn explain_disk<P: Eprint>(err: &P, known: &Known<'_>) {
         say_hint(err, reason);
     }
     let _ = match known.doing {
-        Doing::Init => eprintln!(err;
+        Doing::Init | Doing::Standby => eprintln!(err;
             "brahma: there may be no store now; look at the disk, and make it again"
         ),
         _ => {

@@ -6,6 +6,7 @@ use crate::openings::{
 };
 use crate::refusal::Refusal;
 use crate::refused_line::explain_line;
+use crate::streams::{explain_made, explain_stream};
 use crate::watched_disk::FailedAct;
 use std::io;
 
@@ -18,6 +19,10 @@ pub enum Doing {
     Replay,
     /// `run`.
     Run,
+    /// `standby`.
+    Standby,
+    /// `check`.
+    Check,
     /// Another one.
     Other,
 }
@@ -48,7 +53,9 @@ pub fn explain_usage<P: Eprint>(err: &P, word: &str) {
         "gen" => eprintln!(err;
             "brahma: gen takes --seed S, below 2^64, --clients C, 1 to 64, and --txns T, 0 to 1000, each once; C times T is at most 2000"
         ),
-        "replay" | "run" | "audit" => eprintln!(err; "brahma: {word} takes no further words"),
+        "replay" | "run" | "audit" | "standby" | "check" => eprintln!(err;
+            "brahma: {word} takes no further words"
+        ),
         _ => eprintln!(err;
             "brahma: these words are no command, or one of them is outside its range"
         ),
@@ -65,6 +72,9 @@ fn explain_read<P: Eprint>(err: &P, doing: Doing) {
     );
     let _ = match doing {
         Doing::Run => eprintln!(err; "brahma: nothing of the script was done"),
+        Doing::Standby | Doing::Check => {
+            eprintln!(err; "brahma: the files were left as they are")
+        }
         _ => eprintln!(err;
             "brahma: the whole lines before that were done; the next opening undoes what they left open. Go on from the first open begin"
         ),
@@ -104,7 +114,8 @@ fn explain_write<P: Eprint>(err: &P, doing: Doing) {
         "brahma: standard output could not be written, so more may have been done than was printed"
     );
     let _ = match doing {
-        Doing::Init => eprintln!(err; "brahma: the store was made"),
+        Doing::Init | Doing::Standby => eprintln!(err; "brahma: the store was made"),
+        Doing::Check => eprintln!(err; "brahma: check the stream again"),
         _ => eprintln!(err; "brahma: open the store, and look before a line is given once more"),
     };
 }
@@ -121,7 +132,11 @@ pub fn explain<P: Eprint>(err: &P, known: &Known<'_>) {
         Some(Refusal::Version(version)) => explain_version(err, version),
         Some(Refusal::Page { page, at }) => explain_page(err, page, at),
         Some(Refusal::Log { log, at }) => explain_log(err, log, at),
-        Some(Refusal::Object { id, rule }) => explain_object(err, id, rule),
+        Some(Refusal::Object { id, rule }) => match known.doing {
+            Doing::Standby | Doing::Check => explain_made(err, id, rule),
+            _ => explain_object(err, id, rule),
+        },
+        Some(Refusal::Stream { at }) => explain_stream(err, at),
         Some(Refusal::Memory) => explain_memory(err),
         Some(Refusal::Trace) => explain_trace(err),
         Some(Refusal::LogFull) => explain_log_full(err, known.pages),

@@ -17,6 +17,7 @@ mod line_texts;
 mod openings;
 mod refusal;
 mod refused_line;
+mod streams;
 mod watched_disk;
 
 pub use disk_failures::explain_lock;

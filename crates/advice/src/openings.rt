@@ -2,7 +2,7 @@
 use crate::refusal::Log;
 
 /// What an object breaks that breaks this rule of the store.
-fn broken_rule(rule: u64) -> &'static str {
+pub(crate) fn broken_rule(rule: u64) -> &'static str {
     match rule {
         1 => "the root is not stored",
         2 => "one of its slots names an object that is not stored",

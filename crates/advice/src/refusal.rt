@@ -29,6 +29,8 @@ pub enum Refusal {
     Log { log: Log, at: u64 },
     /// `refused: object I rule R`.
     Object { id: u64, rule: u64 },
+    /// `refused: stream at O`.
+    Stream { at: u64 },
     /// `refused: memory`.
     Memory,
     /// `refused: trace`.
@@ -65,8 +67,8 @@ fn log_of(word: &[u8]) -> Option<Log> {
 
 /// What is refused, by the words after `refused: `, where numbers stand among them.
 fn with_numbers(words: &[u8]) -> Option<Refusal> {
-    let (kind, rest) = next_word(words);
-    let (what, rest) = next_word(rest);
+    let (kind, behind) = next_word(words);
+    let (what, rest) = next_word(behind);
     match kind {
         b"line" => Some(Refusal::Line(seed_of(what)?)),
         b"version" => Some(Refusal::Version(seed_of(what)?)),
@@ -81,6 +83,9 @@ fn with_numbers(words: &[u8]) -> Option<Refusal> {
         b"object" => Some(Refusal::Object {
             id: seed_of(what)?,
             rule: number_behind(b"rule", rest)?,
+        }),
+        b"stream" => Some(Refusal::Stream {
+            at: number_behind(b"at", behind)?,
         }),
         _ => None,
     }

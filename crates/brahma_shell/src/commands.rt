@@ -34,6 +34,11 @@ pub enum Command {
     Ship,
     /// `log`: writes the current log as text, a line for each record. It doesn't open the store.
     Log,
+    /// `standby`: makes the disk anew as the store of the stream that the source gives, a base and a log after it.
+    Standby,
+    /// `check`: tells whether the store of the stream that the source gives is the effect of just the commits in it. It asks the disk
+    /// for nothing.
+    Check,
 }
 
 /// The command that one word names.
@@ -48,6 +53,8 @@ fn command_of_word(word: &[u8]) -> Option<Command>
         b"backup" => Some(Command::Backup),
         b"ship" => Some(Command::Ship),
         b"log" => Some(Command::Log),
+        b"standby" => Some(Command::Standby),
+        b"check" => Some(Command::Check),
         _ => None,
     }
 }

@@ -6,7 +6,7 @@ pub(crate) const DONE: u8 = 0;
 /// The words have no reading.
 pub(crate) const USAGE: u8 = 2;
 
-/// A line of the script was refused.
+/// A line of the script was refused, or a stream.
 pub(crate) const SCRIPT_REFUSED: u8 = 3;
 
 /// The source failed.

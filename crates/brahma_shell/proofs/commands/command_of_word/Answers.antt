@@ -26,3 +26,13 @@ pub returns-in-log : goal.returns-in-log
 returns-in-log c =
     let e : c.args.word.now ≡ codes "log" = search (rules, text_from_reads) in
     rw e
+
+pub returns-in-standby : goal.returns-in-standby
+returns-in-standby c =
+    let e : c.args.word.now ≡ codes "standby" = search (rules, text_from_reads) in
+    rw e
+
+pub returns-in-check : goal.returns-in-check
+returns-in-check c =
+    let e : c.args.word.now ≡ codes "check" = search (rules, text_from_reads) in
+    rw e

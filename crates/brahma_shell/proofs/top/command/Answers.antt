@@ -1,8 +1,9 @@
 use Rattle.std.proofs.Common.{refl, sym, ◌∙◌, arith}
 use mir.Syntax.{of_param}
-use Rattle.brahma_shell.specs.declared.commands.Command.TheVariants.{Init, Replay, Gen, Audit, Migrate, Backup, Ship, Log}
+use Rattle.brahma_shell.specs.declared.commands.Command.TheVariants.{Init, Replay, Gen, Audit, Migrate, Backup, Ship, Log, Standby, Check}
 use Rattle.brahma_shell.specs.Commands.{command_of}
-use Rattle.brahma_shell.proofs.AnswerLemmas.{asks-nothing, asks-starved, asks-init, asks-replay, asks-gen, asks-audit, asks-migrate, asks-backup, asks-ship, asks-log, pages-within, named}
+use Rattle.brahma_shell.proofs.AnswerLemmas.{asks-nothing, asks-starved, asks-init, asks-replay, asks-gen, asks-audit, asks-migrate, asks-backup, asks-ship, asks-log, asks-standby, pages-within, named}
+use Rattle.brahma_shell.proofs.CheckedLemmas.{asks-check}
 use Rattle.brahma_shell.proofs.FewLemmas.{gen-few}
 use Rattle.brahma_shell.proofs.top.command.Goals as goal
 
@@ -80,6 +81,21 @@ returns-in-Ok-Some-Log g c =
     let l = c.log_text.ensures in
     asks-log g.D.Disk.content g.D.Disk.may_leave g.D.Disk.moment g.D.Disk.left_since _ _ _ _ _ _ _ _ (record { reads = omega arith; writes = l.out_later; disk = l.disk_later }) g.D.Disk.reads_may_stay g.D.Disk.counts_now asked refl
     (l.logged (g.R.Source.left c.args.script.now) (g.R.Source.faults c.args.script.now))
+
+pub returns-in-Ok-Some-Standby : goal.returns-in-Ok-Some-Standby
+returns-in-Ok-Some-Standby g c =
+    let at = c.in-Ok-Some-Standby in
+    let asked = named at.field-0 (command_of c.args.words.now) at.field-0-0 Standby at.ensures.value at.field-0-is at.field-0-0-is in
+    let s = c.make_standby.ensures in
+    asks-standby g.D.Disk.content g.D.Disk.may_leave g.D.Disk.moment g.D.Disk.left_since _ _ _ _ _ _ _ _ s.later g.D.Disk.reads_may_stay g.D.Disk.counts_now asked s.stood_by
+
+pub returns-in-Ok-Some-Check : goal.returns-in-Ok-Some-Check
+returns-in-Ok-Some-Check g c =
+    let at = c.in-Ok-Some-Check in
+    let asked = named at.field-0 (command_of c.args.words.now) at.field-0-0 Check at.ensures.value at.field-0-is at.field-0-0-is in
+    let k = c.check_source.ensures in
+    asks-check g.D.Disk.content g.D.Disk.may_leave g.D.Disk.moment g.D.Disk.left_since _ _ _ _ _ _ _ _ (record { reads = k.read_later; writes = k.out_later; disk = omega arith }) g.D.Disk.reads_may_stay g.D.Disk.counts_now
+    g.D.Disk.only_now asked refl (k.checked (g.D.Disk.faults c.args.disk))
 
 pub returns-in-Ok-None : goal.returns-in-Ok-None
 returns-in-Ok-None g c =
