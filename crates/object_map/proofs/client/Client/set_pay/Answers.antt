@@ -1,0 +1,39 @@
+use Rattle.std.proofs.Common.{◌≡◌, sym, ap, ◌∙◌, subst, Ok, Err, IfOk, IfErr, OnOk, IsSome, ⊎_elim, []}
+use Rattle.std.specs.Prelude.{IfSome, ◌∷◌}
+use Rattle.std.specs.Option.{option_map_or}
+use Rattle.plain_model.specs.Machine.{nonzero}
+use Rattle.plain_model.specs.declared.calls.Call.TheVariants as call
+use Rattle.plain_model.specs.declared.write.Place.TheVariants.{Slot, Payload}
+use Rattle.object_map.specs.Maps.{slot_of, payload_of}
+use Rattle.object_map.specs.Seen.{at, held, held_id, Loads, Writes, Makes}
+use Rattle.object_map.specs.Clients.{ClientView, client_at, seen, Asks, Falls}
+use Rattle.object_map.proofs.AskLaws.{out}
+use Rattle.object_map.proofs.ClientLaws.{WriteDone, set_done, client_same}
+use Rattle.object_map.proofs.client.Client.set_pay.Goals as goal
+
+-- the store refused the call
+pub invariant_of-self : goal.invariant_of-self
+invariant_of-self g c = client_same c.self.inside.store c.ask.new.store c.self.inside.number c.self.invariant c.in_err-reply.ensures.running c.in_err-reply.ensures.same
+
+pub returns-in_err-reply-clause-refused : goal.returns-in_err-reply-clause-refused
+returns-in_err-reply-clause-refused g c = out c.from_residual.result _ c.from_residual.ensures.1 (subst (λ (v : ClientView g.row.D.Denot). Falls 0 c.in_err-reply.field-0.0 v (client_at c.ask.new.store c.self.inside.number)) c.self.view_is c.in_err-reply.ensures.refused)
+
+pub invariant_of-self-2 : goal.invariant_of-self-2
+invariant_of-self-2 g c =
+    let R : WriteDone (call.SetPay c.args.r c.args.value) (held_id (seen (client_at c.self.inside.store c.self.inside.number)) c.args.r) Payload c.args.value c.self.inside.store c.ask.new.store c.self.inside.number c.in_ok-reply.reply = set_done c.args.r c.args.value c.self.inside.store c.ask.new.store c.self.inside.number c.in_ok-reply.reply c.self.invariant (subst (λ (v : ClientView g.row.D.Denot). IsSome (held (seen v) c.args.r)) (sym c.self.view_is) c.requires.full) c.in_ok-reply.ensures.step c.in_ok-reply.ensures.asked c.ask.ensures.running in
+    R.client
+
+pub returns-clause-ok : goal.returns-clause-ok
+returns-clause-ok g c =
+    let R : WriteDone (call.SetPay c.args.r c.args.value) (held_id (seen (client_at c.self.inside.store c.self.inside.number)) c.args.r) Payload c.args.value c.self.inside.store c.ask.new.store c.self.inside.number c.in_ok-reply.reply = set_done c.args.r c.args.value c.self.inside.store c.ask.new.store c.self.inside.number c.in_ok-reply.reply c.self.invariant (subst (λ (v : ClientView g.row.D.Denot). IsSome (held (seen v) c.args.r)) (sym c.self.view_is) c.requires.full) c.in_ok-reply.ensures.step c.in_ok-reply.ensures.asked c.ask.ensures.running in
+    subst (λ q. OnOk q (Writes (held_id (seen c.args.self.now) c.args.r) Payload c.args.value (seen c.args.self.now) (seen (client_at c.ask.new.store c.self.inside.number)))) (sym (c.done_in.ensures R.told)) (subst (λ (v : ClientView g.row.D.Denot). Writes (held_id (seen v) c.args.r) Payload c.args.value (seen v) (seen (client_at c.ask.new.store c.self.inside.number))) c.self.view_is R.writes)
+
+pub returns-clause-asks : goal.returns-clause-asks
+returns-clause-asks g c =
+    let R : WriteDone (call.SetPay c.args.r c.args.value) (held_id (seen (client_at c.self.inside.store c.self.inside.number)) c.args.r) Payload c.args.value c.self.inside.store c.ask.new.store c.self.inside.number c.in_ok-reply.reply = set_done c.args.r c.args.value c.self.inside.store c.ask.new.store c.self.inside.number c.in_ok-reply.reply c.self.invariant (subst (λ (v : ClientView g.row.D.Denot). IsSome (held (seen v) c.args.r)) (sym c.self.view_is) c.requires.full) c.in_ok-reply.ensures.step c.in_ok-reply.ensures.asked c.ask.ensures.running in
+    subst (λ q. OnOk q (Asks 0 (call.SetPay c.args.r c.args.value ∷ []) c.args.self.now (client_at c.ask.new.store c.self.inside.number))) (sym (c.done_in.ensures R.told)) (subst (λ (v : ClientView g.row.D.Denot). Asks 0 (call.SetPay c.args.r c.args.value ∷ []) v (client_at c.ask.new.store c.self.inside.number)) c.self.view_is R.asks)
+
+pub returns-clause-refused : goal.returns-clause-refused
+returns-clause-refused g c =
+    let R : WriteDone (call.SetPay c.args.r c.args.value) (held_id (seen (client_at c.self.inside.store c.self.inside.number)) c.args.r) Payload c.args.value c.self.inside.store c.ask.new.store c.self.inside.number c.in_ok-reply.reply = set_done c.args.r c.args.value c.self.inside.store c.ask.new.store c.self.inside.number c.in_ok-reply.reply c.self.invariant (subst (λ (v : ClientView g.row.D.Denot). IsSome (held (seen v) c.args.r)) (sym c.self.view_is) c.requires.full) c.in_ok-reply.ensures.step c.in_ok-reply.ensures.asked c.ask.ensures.running in
+    subst (λ q. IfErr q (λ why. Falls 0 why c.args.self.now (client_at c.ask.new.store c.self.inside.number))) (sym (c.done_in.ensures R.told)) tt

@@ -1,0 +1,66 @@
+use Rattle.std.proofs.Common.{◌≡◌, ◌≢◌, refl, sym, ap, ◌∙◌, subst, arith, Bool, true, false}
+use Rattle.std.specs.Prelude.{not}
+use Rattle.plain_model.specs.Machine.{is_stored}
+use Rattle.object_map.specs.Clients.{seen}
+use Rattle.object_map.specs.Maps.{slot_of}
+use Rattle.object_map.specs.Seen.{at, held, held_id}
+use Rattle.object_map.specs.Walking.{Looks, Refuses}
+use Rattle.object_map.specs.Walking.Refuses.{denies, starves, falls}
+use Rattle.object_map.proofs.AskLaws.{out}
+use Rattle.object_map.proofs.LookLaws.{still_held, leaf_is, cell_is, here_slot, same_slot}
+use Rattle.object_map.proofs.GrowLaws.{no_leaf, no_cell, no_fresh}
+use Rattle.object_map.proofs.WalkLaws.{looks_then, falls_looked}
+use Rattle.object_map.proofs.WayLaws.{held_some}
+use Rattle.object_map.proofs.walking.meet_leaf.Goals as goal
+
+pub know_held-requires-clause-full : goal.know_held-requires-clause-full
+know_held-requires-clause-full g c κs within = held_some (seen c.args.client.now) 2 c.args.cell c.requires.cell
+
+pub has_only-requires-clause-full : goal.has_only-requires-clause-full
+has_only-requires-clause-full g c κs within = held_some (seen c.args.client.now) 1 c.args.id c.requires.leaf
+
+-- another slot of the leaf isn't null
+pub returns-then-not-branch-clause-refused : goal.returns-then-not-branch-clause-refused
+returns-then-not-branch-clause-refused g c = λ below.
+    let t = c.in_ok-has_only.ensures.other c.if-not-branch.true in
+    denies c.args.id refl (no_leaf (at (seen c.args.client.now)) c.args.id below t.0 c.args.cells.now.keys (λ z. c.requires.named (sym c.requires.names ∙ z)) t.1.0 (λ z. t.1.2 (here_slot (seen c.args.client.now) (seen c.args.client.now) 1 c.args.id t.0 refl c.requires.leaf ∙ z))) c.in_ok-has_only.ensures.scans.look
+
+-- the cell was met before
+was_met : (a b : Bool) → a ≡ not b → b ≡ false → a ≡ true
+was_met a b e f = e ∙ ap (λ x. not x) f
+
+pub returns-then-not-branch-2-clause-refused : goal.returns-then-not-branch-2-clause-refused
+returns-then-not-branch-2-clause-refused g c = λ below. denies c.args.id refl (no_fresh (at (seen c.args.client.now)) c.args.id c.args.cell below c.args.cells.now.keys c.requires.names c.requires.named (was_met (is_stored c.args.cells.now.keys c.args.cell) c.in_ok-meet.field-0 c.in_ok-meet.ensures.fresh c.if-not-branch-2.true)) c.in_ok-has_only.ensures.scans.look
+
+pub has_only-requires-2-clause-full : goal.has_only-requires-2-clause-full
+has_only-requires-2-clause-full g c κs within = still_held (seen c.args.client.now) (seen c.has_only.new.client) 2 (c.in_ok-has_only.ensures.scans.others 2 (λ z. absurd (omega (arith, z)))) (held_some (seen c.args.client.now) 2 c.args.cell c.requires.cell)
+
+-- a slot of the cell isn't null
+pub returns-then-not-branch-3-clause-refused : goal.returns-then-not-branch-3-clause-refused
+returns-then-not-branch-3-clause-refused g c = λ below.
+    let s = c.in_ok-has_only.ensures.scans in
+    let t = c.in_ok-has_only-2.ensures.other c.if-not-branch-3.true in
+    denies c.args.cell refl (no_cell (at (seen c.args.client.now)) c.args.id c.args.cell below t.0 c.args.cells.now.keys c.requires.names c.requires.named (λ z. t.1.2 (here_slot (seen c.args.client.now) (seen c.has_only.new.client) 2 c.args.cell t.0 s.look.graph (s.others 2 (λ y. absurd (omega (arith, y))) ∙ c.requires.cell) ∙ z))) (looks_then s.look c.in_ok-has_only-2.ensures.scans.look)
+
+pub returns-clause-is_leaf : goal.returns-clause-is_leaf
+returns-clause-is_leaf g c = leaf_is (seen c.args.client.now) c.args.id c.args.cell c.requires.leaf c.requires.names c.requires.named (c.in_ok-has_only.ensures.null c.if-not-branch.false)
+
+pub returns-clause-is_cell : goal.returns-clause-is_cell
+returns-clause-is_cell g c =
+    let s = c.in_ok-has_only.ensures.scans in
+    cell_is (seen c.args.client.now) (seen c.has_only.new.client) c.args.cell c.requires.cell (s.others 2 (λ y. absurd (omega (arith, y)))) s.look.graph c.know_held.ensures (c.in_ok-has_only-2.ensures.null c.if-not-branch-3.false)
+
+pub returns-clause-fresh : goal.returns-clause-fresh
+returns-clause-fresh g c = c.in_ok-meet.ensures.fresh ∙ ap (λ x. not x) c.if-not-branch-2.false
+
+pub returns-clause-looks : goal.returns-clause-looks
+returns-clause-looks g c = looks_then c.in_ok-has_only.ensures.scans.look c.in_ok-has_only-2.ensures.scans.look
+
+pub returns-in_err-has_only-clause-refused : goal.returns-in_err-has_only-clause-refused
+returns-in_err-has_only-clause-refused g c = out c.from_residual.result _ c.from_residual.ensures.1 (λ below. falls c.in_err-has_only.ensures.refused)
+
+pub returns-in_err-meet-clause-refused : goal.returns-in_err-meet-clause-refused
+returns-in_err-meet-clause-refused g c = out c.from_residual-in_err-meet.result _ c.from_residual-in_err-meet.ensures.1 (λ below. starves c.in_err-meet.ensures.starved c.in_ok-has_only.ensures.scans.look)
+
+pub returns-in_err-has_only-2-clause-refused : goal.returns-in_err-has_only-2-clause-refused
+returns-in_err-has_only-2-clause-refused g c = out c.from_residual-in_err-has_only-2.result _ c.from_residual-in_err-has_only-2.ensures.1 (λ below. falls (falls_looked c.in_ok-has_only.ensures.scans.look c.in_err-has_only-2.ensures.refused))

@@ -1,0 +1,56 @@
+use Rattle.std.proofs.Common.{◌≡◌, refl, sym, ◌∙◌, arith}
+use Rattle.object_map.specs.Clients.{seen}
+use Rattle.object_map.specs.Maps.{slot_of}
+use Rattle.object_map.specs.Seen.{at, held_id, held}
+use Rattle.object_map.specs.Walking.{Scans}
+use Rattle.object_map.proofs.LookLaws.{still_held, inner_is, no_low_side, no_high_side, no_other_side}
+use Rattle.object_map.proofs.AskLaws.{out}
+use Rattle.object_map.proofs.WalkLaws.{scans_then, scans_once, falls_looked}
+use Rattle.object_map.proofs.walking.sides.Goals as goal
+
+pub returns-then-low-eq0-clause-none : goal.returns-then-low-eq0-clause-none
+returns-then-low-eq0-clause-none g c = λ e bit low high i. no_low_side (at (seen c.args.client.now) (held_id (seen c.args.client.now) 1)) c.in_ok-low.low bit low high c.in_ok-low.ensures.ok c.if-low-eq0.true i
+
+pub returns-then-low-eq0-clause-scans : goal.returns-then-low-eq0-clause-scans
+returns-then-low-eq0-clause-scans g c = scans_once c.in_ok-low.ensures.asks c.in_ok-low.ensures.loads
+
+pub read-requires-2-clause-full : goal.read-requires-2-clause-full
+read-requires-2-clause-full g c κs within = still_held (seen c.args.client.now) (seen c.read.new.self) 1 (c.in_ok-low.ensures.loads.others 1 (λ z. absurd (omega (arith, z)))) c.requires.full
+
+pub returns-then-high-eq0-clause-none : goal.returns-then-high-eq0-clause-none
+returns-then-high-eq0-clause-none g c = λ e bit low high i. no_high_side (seen c.args.client.now) (seen c.read.new.self) 1 c.in_ok-high.high bit low high c.in_ok-low.ensures.loads.graph (c.in_ok-low.ensures.loads.others 1 (λ z. absurd (omega (arith, z)))) c.in_ok-high.ensures.ok c.if-high-eq0.true i
+
+pub returns-then-high-eq0-clause-scans : goal.returns-then-high-eq0-clause-scans
+returns-then-high-eq0-clause-scans g c = scans_then (scans_once c.in_ok-low.ensures.asks c.in_ok-low.ensures.loads) (scans_once c.in_ok-high.ensures.asks c.in_ok-high.ensures.loads)
+
+pub has_only-requires-clause-full : goal.has_only-requires-clause-full
+has_only-requires-clause-full g c κs within =
+    let s : Scans c.args.client.now c.read-2.new.self = scans_then (scans_once c.in_ok-low.ensures.asks c.in_ok-low.ensures.loads) (scans_once c.in_ok-high.ensures.asks c.in_ok-high.ensures.loads) in
+    still_held (seen c.args.client.now) (seen c.read-2.new.self) 1 (s.others 1 (λ z. absurd (omega (arith, z)))) c.requires.full
+
+pub returns-then-not-branch-clause-none : goal.returns-then-not-branch-clause-none
+returns-then-not-branch-clause-none g c = λ e bit low high i.
+    let s : Scans c.args.client.now c.read-2.new.self = scans_then (scans_once c.in_ok-low.ensures.asks c.in_ok-low.ensures.loads) (scans_once c.in_ok-high.ensures.asks c.in_ok-high.ensures.loads) in
+    let t = c.in_ok-has_only.ensures.other c.if-not-branch.true in
+    no_other_side (seen c.args.client.now) (seen c.read-2.new.self) 1 t.0 bit low high s.look.graph (s.others 1 (λ z. absurd (omega (arith, z)))) t.1.0 t.1.1 t.1.2 i
+
+pub returns-then-not-branch-clause-scans : goal.returns-then-not-branch-clause-scans
+returns-then-not-branch-clause-scans g c = scans_then (scans_then (scans_once c.in_ok-low.ensures.asks c.in_ok-low.ensures.loads) (scans_once c.in_ok-high.ensures.asks c.in_ok-high.ensures.loads)) c.in_ok-has_only.ensures.scans
+
+pub returns-clause-inner : goal.returns-clause-inner
+returns-clause-inner g c =
+    let s : Scans c.args.client.now c.read-2.new.self = scans_then (scans_once c.in_ok-low.ensures.asks c.in_ok-low.ensures.loads) (scans_once c.in_ok-high.ensures.asks c.in_ok-high.ensures.loads) in
+    inner_is (seen c.args.client.now) (seen c.read.new.self) (seen c.read-2.new.self) 1 c.in_ok-low.low c.in_ok-high.high c.in_ok-low.ensures.loads.graph (c.in_ok-low.ensures.loads.others 1 (λ z. absurd (omega (arith, z)))) s.look.graph (s.others 1 (λ z. absurd (omega (arith, z))))
+    c.in_ok-low.ensures.ok c.if-low-eq0.false c.in_ok-high.ensures.ok c.if-high-eq0.false (c.in_ok-has_only.ensures.null c.if-not-branch.false)
+
+pub returns-clause-scans : goal.returns-clause-scans
+returns-clause-scans g c = scans_then (scans_then (scans_once c.in_ok-low.ensures.asks c.in_ok-low.ensures.loads) (scans_once c.in_ok-high.ensures.asks c.in_ok-high.ensures.loads)) c.in_ok-has_only.ensures.scans
+
+pub returns-in_err-low-clause-refused : goal.returns-in_err-low-clause-refused
+returns-in_err-low-clause-refused g c = out c.from_residual.result _ c.from_residual.ensures.1 c.in_err-low.ensures.refused
+
+pub returns-in_err-high-clause-refused : goal.returns-in_err-high-clause-refused
+returns-in_err-high-clause-refused g c = out c.from_residual-in_err-high.result _ c.from_residual-in_err-high.ensures.1 (falls_looked (scans_once c.in_ok-low.ensures.asks c.in_ok-low.ensures.loads).look c.in_err-high.ensures.refused)
+
+pub returns-in_err-has_only-clause-refused : goal.returns-in_err-has_only-clause-refused
+returns-in_err-has_only-clause-refused g c = out c.from_residual-in_err-has_only.result _ c.from_residual-in_err-has_only.ensures.1 (falls_looked (scans_then (scans_once c.in_ok-low.ensures.asks c.in_ok-low.ensures.loads) (scans_once c.in_ok-high.ensures.asks c.in_ok-high.ensures.loads)).look c.in_err-has_only.ensures.refused)

@@ -1,0 +1,12 @@
+pub mod Trees
+pub mod Maps
+pub mod Laws
+pub mod Seen
+pub mod Ways
+pub mod Parting
+pub mod Making
+pub mod Seeking
+pub mod Clients
+pub mod Changes
+pub mod Ranges
+pub mod Walking

@@ -1,0 +1,17 @@
+//! Why a call of the map was not done.
+use plain_model::Reply;
+use thiserror::Error;
+
+/// Why a call of the map was not done. Some of its writes may stand, so the caller aborts the transaction.
+#[derive(Clone, Copy, PartialEq, Eq, Debug, Drop, Error)]
+pub enum MapRefusal {
+    /// The graph keeps no map under the slot. This is the first object, from the root down and by ascending slots, that breaks a rule.
+    #[error("object {id} breaks the map")]
+    NotMap { id: u32 },
+    /// The store refused a call: the trace or the log is full, or every id is stored where an object is to be made.
+    #[error("the store refused a call")]
+    Store { reply: Reply },
+    /// Out of memory.
+    #[error("out of memory")]
+    Memory,
+}
