@@ -1,0 +1,58 @@
+-- Calls of a store, one after another.
+use Rattle.std.proofs.Common.{◌≡◌, ◌⊎◌, ⊎_elim, inl, ◌≤◌, ◌<◌, ℕ, Option, Some, None, List, refl, ap, subst, ◌∙◌, arith}
+use Rattle.std.specs.Io.KnownBytes.{Keeps}
+use Rattle.disk_model.specs.Causes.{Rose}
+use Rattle.map_script.specs.declared.failure.Failure.{Failure}
+use Rattle.map_script.specs.declared.failure.Failure.TheVariants as failure
+use Rattle.map_script.specs.declared.store.Put.{Put}
+use Rattle.map_script.specs.declared.store.Put.TheVariants.{Stored, NoRoom}
+use Rattle.plain_map.specs.Pairs.{Pairs, value_of}
+use Rattle.map_script.specs.Machine.{MapState, needs, Puts}
+use Rattle.map_script.specs.Views.{StoreView, GoesOn, Fails, Tries, Places}
+
+pub rose-to : (a b c : ℕ) → Rose a b → b ≤ c → Rose a c
+rose-to a b c r le = omega (arith, le, r)
+
+pub rose-from : (a b c : ℕ) → a ≤ b → Rose b c → Rose a c
+rose-from a b c le r = omega (arith, le, r)
+
+-- a call fails after one that left the map
+pub fails-after : (cause : Failure) (old mid now : StoreView) (leaves : Pairs → Type 0) (asked : Pairs → Pairs) → mid.map ≡ old.map → old.faults ≤ mid.faults → Fails cause mid now leaves (asked mid.map.pairs) → Fails cause old now leaves (asked old.map.pairs)
+fails-after cause old mid now leaves asked e le f = record {
+  disk = λ d. rose-from old.faults mid.faults now.faults le (f.disk d);
+  history = f.history;
+  log = f.log;
+  only = subst (λ (m : MapState). (pairs : Pairs) → leaves pairs → (pairs ≡ m.pairs) ⊎ ((cause ≡ failure.Disk) × (pairs ≡ asked m.pairs))) e f.only;
+}
+
+-- a call fails that asked for no other map
+pub fails-kept : (cause : Failure) (old now : StoreView) (leaves : Pairs → Type 0) (asked : Pairs) → Fails cause old now leaves old.map.pairs → Fails cause old now leaves asked
+fails-kept cause old now leaves asked f = record {
+  disk = f.disk;
+  history = f.history;
+  log = f.log;
+  only = λ pairs l. ⊎_elim (λ e. inl e) (λ h. inl h.1) (f.only pairs l);
+}
+
+-- the pair was placed after a call that left the map
+pub places-after : (key value : ℕ) (put : Put) (old mid now : StoreView) → mid.map ≡ old.map → Places key value put mid.map now.map → Places key value put old.map now.map
+places-after key value put old mid now e p = subst (λ (m : MapState). Places key value put m now.map) e p
+
+-- the second try, after a collection
+pub places-again : (key value : ℕ) (put : Put) (old late now : StoreView) → late.map ≡ old.map → late.room ≡ late.map.free → Tries key value put late now → Places key value put old.map now.map
+places-again key value (Stored o) old late now e room t = subst (λ (m : MapState). (o ≡ value_of key m.pairs) × Puts key value m now.map) e t
+places-again key value NoRoom old late now e room t =
+    (subst (λ (m : MapState). m.free < needs key m.pairs) e (subst (λ n. n < needs key late.map.pairs) room t.0), t.1 ∙ e)
+
+pub keeps-same : (o : Option (List ℕ)) → Keeps o o
+keeps-same None = tt
+keeps-same (Some xs) = refl
+
+-- out of memory after a call that left the map
+pub starved : (old now : StoreView) (leaves : Pairs → Type 0) (asked : Pairs) → now.map ≡ old.map → GoesOn now leaves → Fails failure.Memory old now leaves asked
+starved old now leaves asked e g = record {
+  disk = λ d. absurd (cc (d));
+  history = λ d. absurd (cc (d));
+  log = λ d. absurd (cc (d));
+  only = λ pairs l. inl (g.only pairs l ∙ ap (λ (m : MapState). m.pairs) e);
+}
