@@ -10,6 +10,7 @@ use Rattle.log_record.specs.declared.record.Record.TheVariants.{Turn}
 use Rattle.log_record.specs.Spelling.{record_bytes}
 use Rattle.opened_images.specs.LogRecords.{body_of, bodies_of, HaveSpellings}
 
+-- what came whole of a stream: not even its number of pages, some first pages, or all pages and some first batches
 pub data Reading (slots : ℕ) : Type 0 where
   -- not even the number of pages
   Nothing : Reading slots
@@ -32,6 +33,7 @@ base_size slots pages = 2 + pages * page_size slots
 abbrev pub shipped_bytes : {slots : ℕ} → List (List (Record slots)) → List ℕ
 shipped_bytes batches = batches_bytes (bodies_of batches)
 
+-- the bytes of what came whole
 abbrev pub bytes_of : {slots : ℕ} → Reading slots → List ℕ
 bytes_of Nothing = []
 bytes_of (InBase count pages) = base_bytes count pages
@@ -49,10 +51,11 @@ ArePages pages = (p : ℕ) → p < length pages → IsPage p (slice_index_or pag
 
 -- ---- the batches
 
--- a body has from 1 to 67,108,864 bytes
+-- a body has at most 67,108,864 bytes
 abbrev pub most_body : ℕ
 most_body = 2 ^ 26
 
+-- a body may have so many bytes: at least one
 abbrev pub IsSize : ℕ → Type 0
 IsSize size = (1 ≤ size) × (size ≤ most_body)
 
