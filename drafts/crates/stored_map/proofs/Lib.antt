@@ -1,0 +1,10 @@
+pub mod GraphLaws
+pub mod ReachLaws
+pub mod ListLaws
+pub mod LeftLaws
+pub mod StepLaws
+pub mod TransactionLaws
+pub mod AskLaws
+pub mod ViewLaws
+pub mod AbortLaws
+pub mod CollectLaws
