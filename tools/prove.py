@@ -20,7 +20,14 @@ LOGS = f"{TOP}/build/logs"
 PROGRAM = "brahma"
 
 # What one lane may take of memory, in bytes.
-LANE = 6_000_000_000
+LANE = 5_000_000_000
+
+# What one copy of a proof takes of memory, in bytes: so much, and so much for each crate below.
+COPY, COPY_BELOW = 1_000_000_000, 40_000_000
+
+# The lines from which a proof gets two copies for each processor. Each copy has a fixed share of the functions, and those that take
+# long stand together: with more copies than processors less is left for the last one alone.
+LONG = 10_000
 
 # What was measured of four processors: lines of source, definitions and proofs that are proved in a second.
 LINES_A_SECOND = 60
@@ -100,14 +107,15 @@ def memory():
         return 1024 * int(re.search(r"MemAvailable:\s+(\d+)", it.read())[1])
 
 
-def jobs():
-    """How many copies the proof of one crate may have, or nothing where the toolchain is to see what memory allows."""
-    count = min(len(os.sched_getaffinity(0)), 4)
-    return ["--jobs", str(count)] if memory() > LANE * 2 else []
+def copies(lines, below):
+    """How many copies the proof of a crate of so many lines may have, which stands on so many others."""
+    processors = min(len(os.sched_getaffinity(0)), 4)
+    wanted = 2 * processors if lines > LONG else processors
+    return max(1, min(wanted, memory() // (COPY + COPY_BELOW * below)))
 
 
 def lanes_wanted():
-    return max(1, min(len(os.sched_getaffinity(0)) - 1, 3, memory() // LANE))
+    return max(1, min(len(os.sched_getaffinity(0)), 4, memory() // LANE))
 
 
 class Proof:
@@ -144,6 +152,9 @@ class Proof:
         """Whether more work waits for this crate than for each other one that is being proved."""
         with self.turn:
             return all(self.chain(it) <= self.chain(name) for it in self.running)
+
+    def copies(self, name):
+        return copies(self.lines[name], len(below(self.crates, name)) - 1)
 
     def put(self, name, is_done):
         with self.turn:
@@ -185,7 +196,10 @@ def work(proof, lanes, lane):
             how = {"stdin": subprocess.DEVNULL, "stdout": log, "stderr": subprocess.STDOUT}
             # The others take what the crate for which most work waits leaves of the processors, and have no copies that would each
             # read the libraries below.
-            words = ["rt", "lib", *jobs()] if proof.is_first(name) else ["nice", "-n", "10", "rt", "lib", "--jobs", "1"]
+            if proof.is_first(name):
+                words = ["rt", "lib", "--jobs", str(proof.copies(name))]
+            else:
+                words = ["nice", "-n", "10", "rt", "lib", "--jobs", "1"]
             status = subprocess.run(words, cwd=f"{lane}/crates/{name}", **how).returncode
         if not status:
             for it in lanes:
