@@ -47,6 +47,15 @@ def idle_readers(lines):
     return begun + ["1 set 0 1" if n % 2 else "%d get 0" % (2 + n % 63) for n in range(lines - len(begun))]
 
 
+def locks_given_back(lines):
+    """One client shares each object of a ring, and then goes round once more and gives each lock back."""
+    count = lines // 6
+    ring = ["make 1", "store 0 0 1", "read 0 0 2"] + ["make 3", "store 2 0 3", "read 2 0 2"] * (count - 1) + ["store 2 0 1"]
+    round_again = ["read 1 0 2", "release 1", "read 2 0 1", "release 2"] * (count // 2)
+    calls = ["begin", *ring, "commit", "begin", "read 0 0 1", *["read 1 0 1"] * count, *round_again, "commit"]
+    return ["1 " + call for call in calls]
+
+
 def seconds(command, script):
     """The least time of some runs, in seconds."""
     text = ("\n".join(script) + "\n").encode()

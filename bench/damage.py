@@ -30,8 +30,8 @@ BASES = 24
 
 def script(draw):
     """A script of some clients, with collections, pages written in place, turns of the log and losses of power."""
-    calls = ["begin", "make %d", "store %d %d %d", "store %d %d -", "read %d %d %d", "set %d %d", "commit", "abort", "undo"]
-    weights = [6, 6, 8, 3, 6, 2, 6, 1, 2]
+    calls = ["begin", "make %d", "store %d %d %d", "store %d %d -", "read %d %d %d", "set %d %d", "release %d", "commit", "abort", "undo"]
+    weights = [6, 6, 8, 3, 6, 2, 2, 6, 1, 2]
     lines = []
     for _ in range(draw.randrange(20, 200)):
         if draw.random() < 0.1:

@@ -25,6 +25,7 @@ WORKS = [
     ("64 clients", lambda size: bench.many_clients(64, size), 10000),
     ("63 readers, one writer in vain", bench.idle_readers, 10000),
     ("one transaction, commit", lambda size: bench.one_transaction(size, "1 commit"), 10000),
+    ("locks given back", bench.locks_given_back, 10000),
     ("one transaction, abort", lambda size: bench.one_transaction(size, "1 abort"), 10000),
 ] + [(shape.__name__.replace("_", " "), lambda size, shape=shape: shape(size) + ["gc all"], 2000) for shape in collector.SHAPES]
 

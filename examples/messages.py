@@ -23,7 +23,7 @@ HERE = os.path.dirname(os.path.realpath(__file__))
 FILES = ("brahma.pages", "brahma.loga", "brahma.logb", "brahma.super")
 
 # One line of each kind that the grammar has.
-LINES = ("1 begin", "64 read 7 5 0", "2 make 3", "3 store 1 2 -", "3 store 1 2 4", "4 get 5", "5 set 6 18446744073709551615", "6 commit", "7 abort",
+LINES = ("1 begin", "64 read 7 5 0", "2 make 3", "3 store 1 2 -", "3 store 1 2 4", "4 get 5", "5 set 6 18446744073709551615", "6 release 7", "6 commit", "7 abort",
          "8 undo", "gc step", "gc all", "clean 1", "turn", "crash 4294967295")
 
 # Lines outside the grammar: each with its marks below, and words of what is said of it.
@@ -42,6 +42,8 @@ REFUSED = (
     ("1 set 0 18446744073709551616", "        ^^^^^^^^^^^^^^^^^^^^", "below 2^64"),
     ("1 set 0 000000000000000000001", "        ^^^^^^^^^^^^^^^^^^^^^", "1 to 20 digits"),
     ("1 set 0 -1", "        ^^", "below 2^64"),
+    ("1 release 8", "          ^", "a register, 0 to 7"),
+    ("1 release 0 0", "            ^", "the line should end"),
     ("gc", "   ^", "step or all"),
     ("gc now", "   ^^^", "step or all"),
     ("clean 1024", "      ^^^^", "a page of the store"),

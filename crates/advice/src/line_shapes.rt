@@ -68,12 +68,13 @@ macro_rules! lone_shape {
 
 /// One shape for each line of the grammar. Of two whose lines may begin alike, the one stands first whose last field the other
 /// one's line can't have: so the first shape that a beginning fits is its own.
-pub(crate) static SHAPES: [Shape; 14] = [
+pub(crate) static SHAPES: [Shape; 15] = [
     client_shape!("1 store 0 0 -", Register, Slot, Source),
     client_shape!("1 read 0 0 0", Register, Slot, Register),
     client_shape!("1 set 0 18446744073709551615", Register, Payload, Nothing),
     client_shape!("1 make 0", Register, Nothing, Nothing),
     client_shape!("1 get 0", Register, Nothing, Nothing),
+    client_shape!("1 release 0", Register, Nothing, Nothing),
     client_shape!("1 begin", Nothing, Nothing, Nothing),
     client_shape!("1 commit", Nothing, Nothing, Nothing),
     client_shape!("1 abort", Nothing, Nothing, Nothing),

@@ -25,7 +25,7 @@ fn say_expected<P: Eprint>(err: &P, expected: Expected) {
             "brahma: a line begins with a client, 1 to 64, or with gc, clean, turn or crash"
         ),
         Expected::Verb => eprintln!(err;
-            "brahma: a client's verbs are begin, read, make, store, get, set, commit, abort and undo"
+            "brahma: a client's verbs are begin, read, make, store, get, set, release, commit, abort and undo"
         ),
         Expected::Register => eprintln!(err; "brahma: here stands a register, 0 to 7"),
         Expected::Slot => {

@@ -5,7 +5,7 @@ use Rattle.std.proofs.lemmas.Bool.{cases_eq, ltb-false}
 use Rattle.std.specs.List.{AllByRecursion}
 use Rattle.std.proofs.lemmas.List.{append-nil, get_or-set_same, get_or-set_other}
 use Rattle.plain_model.specs.declared.calls.Call.{Call as TransactionCall}
-use Rattle.plain_model.specs.declared.calls.Call.TheVariants.{Begin, Read, Make, Store, GetPay, SetPay, Commit, Abort}
+use Rattle.plain_model.specs.declared.calls.Call.TheVariants.{Begin, Read, Make, Store, GetPay, SetPay, Release, Commit, Abort}
 use Rattle.plain_model.specs.declared.calls.Reply.{Reply}
 use Rattle.plain_model.specs.declared.calls.Entry.{Entry}
 use Rattle.plain_model.specs.declared.calls.Entry.TheVariants as entry
@@ -101,6 +101,7 @@ worked s pass n t (Read r slot into) ascend alive w = put s _ pass n _ ascend re
 worked s pass n t (Make into) ascend alive w = put s _ pass n _ ascend refl alive
 worked s pass n t (Store r slot f) ascend alive w = put s _ pass n _ ascend refl alive
 worked s pass n t (GetPay r) ascend alive w = put s _ pass n _ ascend refl alive
+worked s pass n t (Release r) ascend alive w = put s _ pass n _ ascend refl alive
 worked s pass n t (SetPay r v) ascend alive w = put s _ pass n _ ascend refl alive
 worked s pass n t Commit ascend alive w = absurd w
 worked s pass n t Abort ascend alive w = absurd w
@@ -182,6 +183,7 @@ line-changes p left None pass call notes ascend told inside outside g = by call 
     by (Make into) e g = absurd (cc (e))
     by (Store r slot f) e g = absurd (cc (e))
     by (GetPay r) e g = absurd (cc (e))
+    by (Release r) e g = absurd (cc (e))
     by (SetPay r v) e g = absurd (cc (e))
     by Commit e g = absurd (cc (e))
     by Abort e g = absurd (cc (e))
@@ -193,6 +195,7 @@ line-changes p left (Some n) pass call notes ascend told inside outside g = by c
     by (Make into) i g = rw g.1 (step-worked p.moment.state pass (n + 1) told.0 (Make into) ascend told.1 told.2 tt)
     by (Store r slot f) i g = rw g.1 (step-worked p.moment.state pass (n + 1) told.0 (Store r slot f) ascend told.1 told.2 tt)
     by (GetPay r) i g = rw g.1 (step-worked p.moment.state pass (n + 1) told.0 (GetPay r) ascend told.1 told.2 tt)
+    by (Release r) i g = rw g.1 (step-worked p.moment.state pass (n + 1) told.0 (Release r) ascend told.1 told.2 tt)
     by (SetPay r v) i g = rw g.1 (step-worked p.moment.state pass (n + 1) told.0 (SetPay r v) ascend told.1 told.2 tt)
     by Commit i g = rw g.1 (committed p.moment.state pass told.0 ascend told.1 told.2)
     by Abort i g = rw g.1 (aborted p.moment pass (left_to_undo p.moment pass) told.0 g.0 ascend told.1)

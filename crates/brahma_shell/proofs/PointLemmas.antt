@@ -18,7 +18,7 @@ use Rattle.core_store.specs.declared.note.Note.{Note}
 use Rattle.core_store.specs.JournalView.{JournalView, cells_of, core_of, opening_of, cells_after_notes, logged_in, last_left}
 use Rattle.core_store.specs.Leads.{AreLed}
 use Rattle.core_store.specs.Logged.{after_logged}
-use Rattle.core_store.specs.References.{references_after, references_of}
+use Rattle.core_store.specs.References.{references_from, references_of}
 use Rattle.core_store.specs.RoundView.{RoundView, Closed, round_of}
 use Rattle.brahma_shell.specs.Points.{Point, after_note, after_notes, start_point, point_of, entries_in, MayRest}
 
@@ -31,7 +31,7 @@ pub moment-after : (p : Point) (ns : List Note) → (after_notes p ns).moment �
 moment-after p [] = refl
 moment-after p (n ∷ ns) = moment-after (after_note p n) ns
 
-refs-after : (p : Point) (ns : List Note) → (after_notes p ns).refs ≡ fold references_after p.refs (map (λ n. n.logged) ns)
+refs-after : (p : Point) (ns : List Note) → (after_notes p ns).refs ≡ references_from p.moment p.refs ns
 refs-after p [] = refl
 refs-after p (n ∷ ns) = refs-after (after_note p n) ns
 
@@ -103,11 +103,11 @@ may_rest slots j size sound led empty closed = record {
   closed = none_left slots j led (ap round_of closed);
   named = λ id live other zero.
       let cells : (point_of j).cells ≡ cells_of j = cells-after (start_point j) j.notes in
-      let refs : (point_of j).refs ≡ references_of j.notes = refs-after (start_point j) j.notes in
+      let refs : (point_of j).refs ≡ references_of (start_of j.history) j.notes = refs-after (start_point j) j.notes in
       rw refs (named id (rw cells at live) other (rw cells at zero));
 }
   where
-    named : (id : ℕ) → is_live (cells_of j) id ≡ true → id ≢ root → (cell_at (cells_of j) id).strong ≡ 0 → is_named (references_of j.notes) id ≡ true
+    named : (id : ℕ) → is_live (cells_of j) id ≡ true → id ≢ root → (cell_at (cells_of j) id).strong ≡ 0 → is_named (references_of (start_of j.history) j.notes) id ≡ true
     named id live other zero =
         ⊎_elim
         (λ q. absurd (not_in id (subst (λ (ids : List ℕ). Contains ids id) empty q)))

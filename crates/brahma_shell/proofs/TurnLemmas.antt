@@ -4,7 +4,7 @@ use Rattle.std.specs.Prelude.{if◌then◌else◌, flat_map, Result, Ok, Err, On
 use Rattle.std.proofs.lemmas.List.{append-nil}
 use Rattle.std.proofs.lemmas.List.Concat.{flat_map-append}
 use Rattle.plain_model.specs.declared.calls.Call.{Call}
-use Rattle.plain_model.specs.declared.calls.Call.TheVariants.{Begin, Read, Make, Store, GetPay, SetPay, Commit, Abort}
+use Rattle.plain_model.specs.declared.calls.Call.TheVariants.{Begin, Read, Make, Store, GetPay, SetPay, Release, Commit, Abort}
 use Rattle.core_store.specs.JournalView.{JournalView}
 use Rattle.logged_journal.specs.View.{LoggedView}
 use Rattle.call_generator.specs.declared.turns.Turn.{Turn}
@@ -28,6 +28,7 @@ no-upkeep client (Read r slot into) h = h
 no-upkeep client (Make into) h = h
 no-upkeep client (Store r slot f) h = h
 no-upkeep client (GetPay r) h = h
+no-upkeep client (Release r) h = h
 no-upkeep client (SetPay r v) h = h
 no-upkeep client Commit h = h
 no-upkeep client Abort h = h

@@ -10,7 +10,7 @@ use Rattle.store_model.specs.Core.{Ref, Core, is_named}
 use Rattle.restart_laws.specs.Graph.{zeros_of}
 use Rattle.core_store.specs.declared.note.Note.{Note}
 use Rattle.core_store.specs.Logged.{after_logged}
-use Rattle.core_store.specs.References.{references_after}
+use Rattle.core_store.specs.References.{references_by}
 use Rattle.core_store.specs.JournalView.{JournalView}
 use Rattle.core_store.specs.Leads.{AreLed}
 
@@ -29,7 +29,7 @@ pub record Point : Type 0 where
 
 -- the point after a note
 abbrev pub after_note : Point → Note → Point
-after_note p n = record { slots = p.slots; cells = after_logged p.slots p.cells n.logged; moment = next p.moment n.entry; refs = references_after p.refs n.logged; left = n.left; opening = p.opening; notes = p.notes ++ n ∷ [] }
+after_note p n = record { slots = p.slots; cells = after_logged p.slots p.cells n.logged; moment = next p.moment n.entry; refs = references_by p.moment.state p.refs n.entry n.logged; left = n.left; opening = p.opening; notes = p.notes ++ n ∷ [] }
 
 -- the point after these notes
 abbrev pub after_notes : Point → List Note → Point

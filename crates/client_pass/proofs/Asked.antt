@@ -39,6 +39,7 @@ entered client c reply.NoTxn f e = refl
 entered client c reply.HasTxn f e = refl
 entered client c reply.Aborting f e = refl
 entered client c (reply.EmptyRegister reg) f e = refl
+entered client c reply.NotShared f e = refl
 entered client c (reply.Busy other) f e = refl
 entered client c reply.Full f e = refl
 
@@ -56,6 +57,7 @@ unfound reply.NoTxn other = refl
 unfound reply.HasTxn other = refl
 unfound reply.Aborting other = refl
 unfound (reply.EmptyRegister reg) other = refl
+unfound reply.NotShared other = refl
 unfound (reply.Busy client) other = refl
 unfound reply.Full other = refl
 
@@ -73,6 +75,7 @@ uncounted reply.NoTxn counts e = refl
 uncounted reply.HasTxn counts e = refl
 uncounted reply.Aborting counts e = refl
 uncounted (reply.EmptyRegister reg) counts e = refl
+uncounted reply.NotShared counts e = refl
 uncounted (reply.Busy other) counts e = refl
 uncounted reply.Full counts e = refl
 
@@ -96,6 +99,7 @@ ends client c reply.NoTxn e is = absurd (cc)
 ends client c reply.HasTxn e is = absurd (cc)
 ends client c reply.Aborting e is = absurd (cc)
 ends client c (reply.EmptyRegister reg) e is = absurd (cc)
+ends client c reply.NotShared e is = absurd (cc)
 ends client c (reply.Busy other) e is = absurd (cc)
 ends client c reply.Full e is = absurd (cc)
 

@@ -3,7 +3,7 @@ use Rattle.std.proofs.Common.{◌≡◌, ℕ, suc, ◌-◌, arith, length, Some,
 use Rattle.std.specs.Prelude.{slice_get}
 use Rattle.std.proofs.lemmas.List.{append-nil}
 use Rattle.plain_model.specs.declared.calls.Call.{Call}
-use Rattle.plain_model.specs.declared.calls.Call.TheVariants.{Begin, Read, Make, Store, GetPay, SetPay, Commit, Abort}
+use Rattle.plain_model.specs.declared.calls.Call.TheVariants.{Begin, Read, Make, Store, GetPay, SetPay, Release, Commit, Abort}
 use Rattle.client_scripts.specs.Lines.{is_first, is_last, is_between}
 use Rattle.client_scripts.specs.Scripts.{all_calls, AreInside, HasEnded}
 
@@ -38,6 +38,7 @@ begins-is (Read r s i) e = absurd (cc)
 begins-is (Make i) e = absurd (cc)
 begins-is (Store r s f) e = absurd (cc)
 begins-is (GetPay r) e = absurd (cc)
+begins-is (Release r) e = absurd (cc)
 begins-is (SetPay r v) e = absurd (cc)
 begins-is Commit e = absurd (cc)
 begins-is Abort e = absurd (cc)

@@ -1,5 +1,5 @@
 -- The same clients have a transaction in the tables and in the machine, and what their transactions owe a log.
-use Rattle.std.proofs.Common.{◌≡◌, ◌≢◌, ℕ, ◌+◌, ◌*◌, ◌<◌, ◌≤◌, List, [], ◌∷◌, Bool, true, false, length, map, refl, sym, ap, ◌∙◌, subst, arith, ⊎_elim, Option, Some, None, Less}
+use Rattle.std.proofs.Common.{◌≡◌, ◌≢◌, ℕ, ◌+◌, ◌*◌, ◌<◌, ◌≤◌, List, [], ◌∷◌, Bool, true, false, length, refl, sym, ap, ◌∙◌, subst, arith, ⊎_elim, Option, Some, None, Less}
 use Rattle.std.specs.Prelude.{is_some, option_map, slice_get, sum_by}
 use Rattle.std.specs.List.{AllByRecursion}
 use Rattle.std.specs.List.Sorted.{IsStrictlySortedBy}
@@ -13,11 +13,11 @@ use Rattle.std.proofs.lemmas.Map.Entries.{length-keys_of}
 use Rattle.plain_model.specs.declared.object.Object.{Object}
 use Rattle.plain_model.specs.ActiveTransaction.{ActiveTransaction}
 use Rattle.plain_model.specs.Machine.{State, transaction_of, is_stored}
-use Rattle.plain_model.specs.History.{Moment, least_active, left_to_undo}
+use Rattle.plain_model.specs.History.{least_active, left_to_undo}
 use Rattle.plain_laws.specs.Sound.{Ascend, PassesAscend}
 use Rattle.plain_laws.proofs.Entries.{same_or_apart}
 use Rattle.store_model.specs.Core.{Core}
-use Rattle.core_store.specs.Owed.{entries_owed, bytes_owed}
+use Rattle.core_store.specs.Owed.{bytes_owed}
 use Rattle.core_store.specs.Tables.{TablesView}
 use Rattle.core_store.specs.Transactions.{Running, running_at}
 use Rattle.core_store.specs.Stands.{Matches, Stands}

@@ -1,25 +1,24 @@
 -- What transactions owe a log, from one event of a client to the next.
-use Rattle.std.proofs.Common.{◌≡◌, ◌≢◌, Bool, ℕ, ◌+◌, ◌*◌, ◌-◌, ◌<◌, ◌≤◌, List, [], ◌∷◌, ◌++◌, true, false, refl, sym, ap, ◌∙◌, subst, Option, Some, None, arith}
-use Rattle.std.specs.Prelude.{count_by, sum_by, unwrap_or, ◌==◌, if◌then◌else◌, IsSome}
+use Rattle.std.proofs.Common.{◌≡◌, ◌≢◌, Bool, ℕ, ◌+◌, ◌*◌, ◌-◌, ◌≤◌, List, refl, sym, ap, ◌∙◌, subst, Option, Some, None, arith}
+use Rattle.std.specs.Prelude.{count_by, sum_by, unwrap_or, if◌then◌else◌, IsSome}
 use Rattle.std.specs.Option.{option_map_or}
 use Rattle.std.proofs.lemmas.Bool.{ne_eqb}
 use Rattle.plain_model.specs.declared.calls.Call.{Call as TransactionCall}
-use Rattle.plain_model.specs.declared.calls.Call.TheVariants.{Begin, Read, Make, Store, GetPay, SetPay, Commit, Abort}
+use Rattle.plain_model.specs.declared.calls.Call.TheVariants.{Begin, Read, Make, Store, GetPay, Release, SetPay, Commit, Abort}
 use Rattle.plain_model.specs.declared.calls.Reply.{Reply}
 use Rattle.plain_model.specs.declared.calls.Reply.TheVariants.{Done, HasTxn}
 use Rattle.plain_model.specs.declared.calls.Entry.TheVariants.{Call, Undo}
 use Rattle.plain_model.specs.ActiveTransaction.{ActiveTransaction}
 use Rattle.plain_model.specs.Machine.{State, step, success, refusal_of, refusal_in, refusal_out, transaction_of, new_transaction, with_transaction, without_transaction}
-use Rattle.plain_model.specs.History.{Moment, next, can_be_undone, undoable, undone_after, left_to_undo}
+use Rattle.plain_model.specs.History.{Moment, next, can_be_undone, undoable, undone_after}
 use Rattle.plain_model.proofs.StepLemmas.{step-done, step-begin}
 use Rattle.plain_laws.specs.Sound.{PassesAscend}
 use Rattle.plain_laws.proofs.Ids.{test_same}
 use Rattle.plain_laws.proofs.Entries.{ascend-insert, ascend-remove}
 use Rattle.plain_laws.proofs.Locks.{transaction_of-with_same, transaction_of-without_same, transaction_of-undo_same, transaction_of-undo_other, marked_aborting, ascend-undo}
 use Rattle.core_store.proofs.PlanLaws.{refusal-in, refusal-out}
-use Rattle.core_store.specs.Owed.{bytes_owed, bytes_needed, bytes_logged, CallOwesLaw, CommitOwesLaw, RefusedOwesLaw, UndoOwesLaw, EndOwesLaw}
+use Rattle.core_store.specs.Owed.{bytes_owed, CallOwesLaw, CommitOwesLaw, RefusedOwesLaw, UndoOwesLaw, EndOwesLaw}
 use Rattle.core_store.proofs.ClientNumbers.{step-other}
-use Rattle.core_store.proofs.OwedSums.{owed_in}
 use Rattle.core_store.proofs.OwedLaws.{owed-change, owed-begun, owed-ended}
 use Rattle.core_store.proofs.ReplacedLaws.{count-push}
 
@@ -41,6 +40,7 @@ GoesOn (Read r slot into) = Unit {0}
 GoesOn (Make into) = Unit {0}
 GoesOn (Store r slot source) = Unit {0}
 GoesOn (GetPay r) = Unit {0}
+GoesOn (Release r) = Unit {0}
 GoesOn (SetPay r value) = Unit {0}
 GoesOn call = ⊥
 
@@ -55,6 +55,7 @@ goes-on s pass t (Read r slot into) g = record { own = _; found = transaction_of
 goes-on s pass t (Make into) g = record { own = _; found = transaction_of-with_same s pass _; writes = count-push t.writes _ }
 goes-on s pass t (Store r slot source) g = record { own = _; found = transaction_of-with_same s pass _; writes = count-push t.writes _ }
 goes-on s pass t (GetPay r) g = record { own = _; found = transaction_of-with_same s pass _; writes = omega arith }
+goes-on s pass t (Release r) g = record { own = _; found = transaction_of-with_same s pass _; writes = omega arith }
 goes-on s pass t (SetPay r value) g = record { own = _; found = transaction_of-with_same s pass _; writes = count-push t.writes _ }
 goes-on s pass t Begin g = absurd g
 goes-on s pass t Commit g = absurd g
@@ -66,6 +67,7 @@ ascend-success s pass t (Read r slot into) a = ascend-insert pass _ s.active a
 ascend-success s pass t (Make into) a = ascend-insert pass _ s.active a
 ascend-success s pass t (Store r slot source) a = ascend-insert pass _ s.active a
 ascend-success s pass t (GetPay r) a = ascend-insert pass _ s.active a
+ascend-success s pass t (Release r) a = ascend-insert pass _ s.active a
 ascend-success s pass t (SetPay r value) a = ascend-insert pass _ s.active a
 ascend-success s pass t Commit a = ascend-remove pass s.active a
 ascend-success s pass t Abort a = ascend-remove pass s.active a
@@ -79,6 +81,7 @@ undone-kept undone pass (Read r slot into) reply n = refl
 undone-kept undone pass (Make into) reply n = refl
 undone-kept undone pass (Store r slot source) reply n = refl
 undone-kept undone pass (GetPay r) reply n = refl
+undone-kept undone pass (Release r) reply n = refl
 undone-kept undone pass (SetPay r value) reply n = refl
 undone-kept undone pass Commit reply n = refl
 undone-kept undone pass Abort reply n = refl
@@ -114,6 +117,7 @@ found-in m pass call None is other none = absurd (out call other (sym (refusal-o
     out (Make into) n e = cc
     out (Store r slot source) n e = cc
     out (GetPay r) n e = cc
+    out (Release r) n e = cc
     out (SetPay r value) n e = cc
     out Commit n e = cc
     out Abort n e = cc
@@ -163,6 +167,7 @@ call-owes m pass (Read r slot into) a other none = let k = call-runs m pass (Rea
 call-owes m pass (Make into) a other none = let k = call-runs m pass (Make into) a tt (λ e. absurd (cc)) none in omega (arith, k)
 call-owes m pass (Store r slot source) a other none = let k = call-runs m pass (Store r slot source) a tt (λ e. absurd (cc)) none in omega (arith, k)
 call-owes m pass (GetPay r) a other none = let k = call-runs m pass (GetPay r) a tt (λ e. absurd (cc)) none in omega (arith, k)
+call-owes m pass (Release r) a other none = let k = call-runs m pass (Release r) a tt (λ e. absurd (cc)) none in omega (arith, k)
 call-owes m pass (SetPay r value) a other none = let k = call-runs m pass (SetPay r value) a tt (λ e. absurd (cc)) none in omega (arith, k)
 call-owes m pass Commit a other none = let k = commit-owes m pass a none in omega (arith, k)
 call-owes m pass Abort a other none = absurd (other refl)
@@ -185,6 +190,7 @@ refused-undone m pass (Read r slot into) reply e = refl
 refused-undone m pass (Make into) reply e = refl
 refused-undone m pass (Store r slot source) reply e = refl
 refused-undone m pass (GetPay r) reply e = refl
+refused-undone m pass (Release r) reply e = refl
 refused-undone m pass (SetPay r value) reply e = refl
 refused-undone m pass Commit reply e = refl
 refused-undone m pass Abort reply e = refl

@@ -4,7 +4,7 @@ use Rattle.std.specs.Prelude.{IsSome, unwrap_or}
 use Rattle.std.specs.Option.{option_map_or}
 use Rattle.std.proofs.lemmas.Bool.{cases_eq}
 use Rattle.plain_model.specs.declared.calls.Call.{Call as TransactionCall}
-use Rattle.plain_model.specs.declared.calls.Call.TheVariants.{Begin, Read, Make, Store, GetPay, SetPay, Commit, Abort}
+use Rattle.plain_model.specs.declared.calls.Call.TheVariants.{Begin, Read, Make, Store, GetPay, Release, SetPay, Commit, Abort}
 use Rattle.plain_model.specs.declared.calls.Reply.{Reply}
 use Rattle.plain_model.specs.declared.calls.Entry.{Entry}
 use Rattle.plain_model.specs.declared.calls.Entry.TheVariants.{Call, Delete, Hidden, Undo, TurnBusy, Crash}
@@ -23,6 +23,7 @@ success-other : (s : State) (pass : ℕ) (t : ActiveTransaction) (call : Transac
 success-other s pass t Begin q n = transaction_of-with_other s pass q _ n
 success-other s pass t (Read r slot into) q n = transaction_of-with_other s pass q _ n
 success-other s pass t (GetPay r) q n = transaction_of-with_other s pass q _ n
+success-other s pass t (Release r) q n = transaction_of-with_other s pass q _ n
 success-other s pass t (Store r slot source) q n = transaction_of-with_other s pass q _ n
 success-other s pass t (SetPay r value) q n = transaction_of-with_other s pass q _ n
 success-other s pass t (Make into) q n = transaction_of-with_other s pass q _ n

@@ -30,10 +30,10 @@ use Rattle.core_store.proofs.QueueLaws.{all_joined-behind, once-each_once, has-e
 
 -- ---- what a client names
 
-named_by-own : (r : Ref) (rs : List Ref) (q : ℕ) → r.pass ≡ q → named_by (r ∷ rs) q ≡ r.target ∷ named_by rs q
+pub named_by-own : (r : Ref) (rs : List Ref) (q : ℕ) → r.pass ≡ q → named_by (r ∷ rs) q ≡ r.target ∷ named_by rs q
 named_by-own r rs q e = ap (λ b. map (λ (r : Ref). r.target) (cond b (r ∷ filter (λ r. r.pass == q) rs) (filter (λ r. r.pass == q) rs))) (eq-eqb r.pass q e)
 
-named_by-other : (r : Ref) (rs : List Ref) (q : ℕ) → r.pass ≢ q → named_by (r ∷ rs) q ≡ named_by rs q
+pub named_by-other : (r : Ref) (rs : List Ref) (q : ℕ) → r.pass ≢ q → named_by (r ∷ rs) q ≡ named_by rs q
 named_by-other r rs q n = ap (λ b. map (λ (r : Ref). r.target) (cond b (r ∷ filter (λ r. r.pass == q) rs) (filter (λ r. r.pass == q) rs))) (ne_eqb r.pass q n)
 
 left-gone : (r : Ref) (rs : List Ref) (pass : ℕ) → r.pass ≡ pass → references_left (r ∷ rs) pass ≡ references_left rs pass

@@ -3,7 +3,6 @@ use Rattle.std.proofs.Common.{◌≡◌, ℕ, ◌<◌, ◌≤◌, List, Option, 
 use Rattle.std.specs.Prelude.{slice_get}
 use Rattle.cell_page.specs.Format.{page_of_id}
 use Rattle.cell_model.specs.Cells.{Cell}
-use Rattle.core_store.specs.declared.want.Work.{Work}
 use Rattle.core_store.specs.Work.{objects_of, AreFew}
 
 pub first-within : (ids : ℕ) (cells : List Cell) (id : ℕ) (change : Option (ℕ × ℕ)) → AreFew ids (objects_of cells (record { id = id; change = change })) → (0 < id) × (id ≤ ids)

@@ -1,6 +1,6 @@
 -- What a plan does, from the tables and the held pages alone.
-use Rattle.std.proofs.Common.{◌≡◌, ℕ, ◌<◌, List, Bool, true, refl, sym, ap, ◌∙◌, subst, Option, Some, None, map, arith, ◌+◌}
-use Rattle.std.specs.Prelude.{slice_index_or, ◌||◌}
+use Rattle.std.proofs.Common.{◌≡◌, ℕ, ◌<◌, List, Bool, true, refl, sym, ap, ◌∙◌, subst, Option, Some, None, map, arith, ◌+◌, ◌++◌, IfSome}
+use Rattle.std.specs.Prelude.{slice_index_or, ◌||◌, ◌==◌, if◌then◌else◌}
 use Rattle.plain_model.specs.declared.calls.Call.{Call as TransactionCall}
 use Rattle.plain_model.specs.declared.calls.Call.TheVariants as call
 use Rattle.plain_model.specs.declared.calls.Reply.TheVariants as reply
@@ -25,7 +25,7 @@ use Rattle.core_store.specs.FreeIds.{Takes}
 use Rattle.core_store.specs.Frames.{is_held, Agree, IsSameElsewhere}
 use Rattle.core_store.specs.RoundView.{RoundView}
 use Rattle.core_store.specs.Slots.{CanChange, IsReadyToChange, IsReadyToEdit}
-use Rattle.core_store.specs.Transactions.{Running, just_begun, loaded, writing}
+use Rattle.core_store.specs.Transactions.{Running, just_begun, loaded, writing, running_at}
 use Rattle.core_store.specs.Tables.{TablesView, changed_at}
 use Rattle.core_store.specs.Stands.{owns_in, shares_in, Stands, Answers}
 use Rattle.core_store.specs.Ready.{IsReady, OwnsToWrite, Does}
@@ -35,11 +35,14 @@ use Rattle.core_store.proofs.MapLaws.{PutsAt}
 use Rattle.core_store.proofs.NameLaws.{named_more}
 use Rattle.core_store.proofs.PageLaws.{id-small, elsewhere-edit}
 use Rattle.core_store.proofs.PlanActive.{contradict}
-use Rattle.core_store.proofs.PlanLaws.{Grants, IsLiveId, GrantsStore, granted-begin, granted-read, granted-get, granted-set, granted-store, granted-make}
+use Rattle.core_store.proofs.PlanLaws.{Grants, IsLiveId, GrantsStore, granted-begin, granted-read, granted-get, granted-release, granted-set, granted-store, granted-make}
 use Rattle.core_store.proofs.ReadLaws.{answers-read, answers-get}
 use Rattle.core_store.proofs.SlotLaws.{pays-marks, make-marks}
 use Rattle.core_store.proofs.StepLaws.{Serves}
 use Rattle.core_store.proofs.SetLaws.{answers-set}
+use Rattle.core_store.proofs.ReleaseLaws.{answers-release}
+use Rattle.strict_locks.specs.Locks.{GivesBack, only_shares}
+use Rattle.store_model.specs.Steps.{held_ids}
 
 pub serves : {slots : ℕ} {v : TablesView} {m : Moment} {pass : ℕ} {c : TransactionCall} → (g : Grants slots v m pass c) → Serves slots v m pass c g.kept g.transaction
 serves g = record { here = g.kept_is; found = g.found; runs = g.runs; granted = g.unrefused }
@@ -120,6 +123,17 @@ module _ {slots : ℕ} (v : TablesView) (held : List (HeldFrame slots)) (pass : 
       let at_id = subst (λ x. Answers slots v (record v { locks = locks }) core held held pass (call.GetPay w.0) (reply.Pay (cell_at core.cells x).payload) None) g.names.id_is main in
       let at_value = subst (λ value. Answers slots v (record v { locks = locks }) core held held pass (call.GetPay w.0) (reply.Pay value) None) (sym value) at_id in
       subst (λ (c : TransactionCall). Answers slots v (record v { locks = locks }) core held held pass c (reply.Pay cell.payload) None) (sym w.1) at_value
+
+  pub does-release : (locks : Table) (references : ℕ → List ℕ) (id : ℕ) (registers : List (Option ℕ)) → GivesBack v.locks locks pass id → IfSome (running_at v.transactions pass) (λ t. registers ≡ t.registers)
+      → ((p : ℕ) → references p ≡ (if p == pass then v.references p ++ held_ids registers else v.references p))
+      → Does v (record v { locks = locks; references = references }) held held pass (plan.Release id) (record { reply = reply.Done; logged = None })
+  does-release locks references id registers gives same named c w core h agree =
+      let g = granted-release h pass w.0 id w.2 in
+      let t = g.grants.transaction in
+      let is : registers ≡ g.grants.kept.registers = subst (λ (o : Option Running). IfSome o (λ t. registers ≡ t.registers)) g.grants.kept_is same in
+      let main = answers-release slots v core held h agree locks references pass w.0 g.grants.kept t (subst (λ x. GivesBack v.locks locks pass x) (sym g.names.id_is) gives) (subst (λ x. only_shares (holders_of v.locks x) pass ≡ true) (sym g.names.id_is) w.2.1)
+      (subst (λ rs. (p : ℕ) → references p ≡ (if p == pass then v.references p ++ held_ids rs else v.references p)) is named) (serves g.grants) in
+      subst (λ (c : TransactionCall). Answers slots v (record v { locks = locks; references = references }) core held held pass c reply.Done None) (sym w.1) main
 
   pub does-set : (new : List (HeldFrame slots)) (locks : Table) (id value noted old n : ℕ) → n ≡ v.owed + 1 → AddsOwner v.locks locks pass id → is_held held (page_of_id id) ≡ true → ((cells : List StoredCell) → Agree cells held → noted ≡ (cell_at cells id).payload) → ((cells : List StoredCell) → Agree cells held → old ≡ (cell_at cells id).payload)
       → ((cells : List StoredCell) → Agree cells held → is_live cells id ≡ true → Agree (edit cells id (pays value)) new)

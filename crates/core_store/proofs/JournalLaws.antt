@@ -1,5 +1,5 @@
 -- One note more keeps a journal sound.
-use Rattle.std.proofs.Common.{◌≡◌, ℕ, ◌+◌, ◌≤◌, List, [], ◌∷◌, ◌++◌, true, false, length, refl, sym, ap, ◌∙◌, subst, Option, Some, None, arith, append_assoc}
+use Rattle.std.proofs.Common.{◌≡◌, ℕ, ◌+◌, ◌≤◌, List, [], ◌∷◌, ◌++◌, true, false, length, map, refl, sym, ap, ◌∙◌, subst, Option, Some, None, arith, append_assoc}
 use Rattle.std.specs.Prelude.{is_some, IsSome, IfSome, option_map}
 use Rattle.std.specs.Option.{option_map_or}
 use Rattle.std.proofs.lemmas.List.{map-append, length_push}
@@ -7,7 +7,8 @@ use Rattle.std.proofs.lemmas.List.Sums.{fold-append}
 use Rattle.plain_model.specs.declared.object.Object.{Object}
 use Rattle.plain_model.specs.ActiveTransaction.{ActiveTransaction}
 use Rattle.plain_model.specs.Machine.{transaction_of}
-use Rattle.plain_model.specs.History.{Moment, IsAllowed, next, with_entry, end_of, is_stopped}
+use Rattle.plain_model.specs.declared.calls.Entry.{Entry}
+use Rattle.plain_model.specs.History.{Moment, IsAllowed, next, moment_after, with_entry, start_of, end_of, is_stopped}
 use Rattle.plain_model.proofs.HistoryLemmas.{IsLegal-with_entry, end_of-with_entry}
 use Rattle.log_record.specs.declared.cell_record.CellRecord.{CellRecord}
 use Rattle.log_record.specs.Records.{record_of, FitsCells, LaysWell}
@@ -27,13 +28,13 @@ use Rattle.core_store.specs.Leads.{Turns, AreLed}
 use Rattle.core_store.specs.Limited.{WasFull}
 use Rattle.core_store.specs.Logged.{after_logged}
 use Rattle.core_store.specs.Owed.{entries_owed}
-use Rattle.core_store.specs.References.{references_of}
+use Rattle.core_store.specs.References.{references_by, references_of}
 use Rattle.core_store.specs.RoundView.{RoundView, round_of, left_of}
 use Rattle.core_store.specs.Safe.{IsSafe}
 use Rattle.core_store.specs.Tables.{TablesView}
 use Rattle.core_store.specs.Transactions.{Running, running_at}
 use Rattle.core_store.specs.Stands.{Matches, Stands}
-use Rattle.core_store.proofs.LedLaws.{AreLed-push, references-push, last_left-push, left-told}
+use Rattle.core_store.proofs.LedLaws.{AreLed-push, references-from_push, last_left-push, left-told}
 use Rattle.core_store.specs.Clients.{AreNumbered, IsNumbered}
 use Rattle.core_store.specs.Spelled.{IsOfIds}
 use Rattle.core_store.specs.RedWalks.{RedWalk, no_walk, walk_after, IsOver, is_first_copy}
@@ -67,10 +68,16 @@ core-with : (cells cells' : List Cell) (m m' : Moment) (refs refs' : List Ref) (
     → (let c : Core = record { cells = cells; moment = m; refs = refs; queue = queue; round = round } in c) ≡ record { cells = cells'; moment = m'; refs = refs'; queue = queue'; round = round' }
 core-with cells cells' m m' refs refs' queue queue' round round' a b c d e = cc
 
-pub core-grown : (j : JournalView) (n : Note) (queue : List ℕ) (round : RoundView) (d : Core) → d ≡ core_after j.history.slots (core_of j) n.entry n.logged d.queue d.round → queue ≡ d.queue → round_of round ≡ d.round → core_of (grown j n queue round) ≡ d
-core-grown j n queue round d after q r =
-    core-with (cells_of (grown j n queue round)) (after_logged j.history.slots (cells_of j) n.logged) (end_of (with_entry j.history n.entry)) (next (end_of j.history) n.entry) (references_of (j.notes ++ n ∷ [])) (core_after j.history.slots (core_of j) n.entry n.logged d.queue d.round).refs queue d.queue (round_of round) d.round
-    (cells-grown j n queue round) (end_of-with_entry j.history n.entry) (references-push j.notes n) q r
+-- what the notes name, with one more
+references-push : (j : JournalView) (n : Note) → map (λ x. x.entry) j.notes ≡ j.history.entries → references_of (start_of j.history) (j.notes ++ n ∷ []) ≡ references_by (end_of j.history).state (references_of (start_of j.history) j.notes) n.entry n.logged
+references-push j n entries =
+    references-from_push (start_of j.history) [] j.notes n
+    ∙ ap (λ (es : List Entry). references_by (moment_after (start_of j.history) es).state (references_of (start_of j.history) j.notes) n.entry n.logged) entries
+
+pub core-grown : (j : JournalView) (n : Note) (queue : List ℕ) (round : RoundView) (d : Core) → map (λ x. x.entry) j.notes ≡ j.history.entries → d ≡ core_after j.history.slots (core_of j) n.entry n.logged d.queue d.round → queue ≡ d.queue → round_of round ≡ d.round → core_of (grown j n queue round) ≡ d
+core-grown j n queue round d entries after q r =
+    core-with (cells_of (grown j n queue round)) (after_logged j.history.slots (cells_of j) n.logged) (end_of (with_entry j.history n.entry)) (next (end_of j.history) n.entry) (references_of (start_of j.history) (j.notes ++ n ∷ [])) (core_after j.history.slots (core_of j) n.entry n.logged d.queue d.round).refs queue d.queue (round_of round) d.round
+    (cells-grown j n queue round) (end_of-with_entry j.history n.entry) (references-push j n entries) q r
     ∙ sym after
 
 pub AllWellLaid-push : (slots : ℕ) (cells : List Cell) (records : List (Option Record)) (r : Option Record) → AllWellLaid slots cells records → IfSome r (IsWellLaid (cells_after slots cells records)) → AllWellLaid slots cells (records ++ r ∷ [])
@@ -118,18 +125,18 @@ pub record Happens (j : JournalView) (w : TablesView) (n : Note) (d : Core) : Ty
   pub red : IsRedWalk (after_logged j.history.slots (cells_of j) n.logged) (walk_after (after_logged j.history.slots (cells_of j) n.logged) (red_of j) n) w.round
   pub copied : is_first_copy (red_of j) n.act ≡ true → IsOver (cells_of j) (red_of j)
 
-pub core-happened : (j : JournalView) (w : TablesView) (n : Note) (d : Core) → Happens j w n d → core_of (grown j n w.queue w.round) ≡ d
-core-happened j w n d h = core-grown j n w.queue w.round d h.after h.stands.queue h.stands.round
+pub core-happened : (j : JournalView) (w : TablesView) (n : Note) (d : Core) → map (λ x. x.entry) j.notes ≡ j.history.entries → Happens j w n d → core_of (grown j n w.queue w.round) ≡ d
+core-happened j w n d entries h = core-grown j n w.queue w.round d entries h.after h.stands.queue h.stands.round
 
 -- a crash stays safe
-safe-grown : (j : JournalView) (w : TablesView) (n : Note) (d : Core) → IsSafe j → Happens j w n d → IsSafe (grown j n w.queue w.round)
-safe-grown j w n d safe h =
+safe-grown : (j : JournalView) (w : TablesView) (n : Note) (d : Core) → map (λ x. x.entry) j.notes ≡ j.history.entries → IsSafe j → Happens j w n d → IsSafe (grown j n w.queue w.round)
+safe-grown j w n d entries safe h =
     let slots = j.history.slots in
     let r = option_map record_of n.logged in
     let moment = ap (λ (c : Core). c.moment) h.after in
     let cells = ap (λ (c : Core). c.cells) h.after ∙ sym (after-one slots (cells_of j) n.logged) in
     let done = events (opening_of j) (core_of j) d j.history.entries (logged_in j.notes) safe n.entry r h.allowed h.logs (some-fits (cells_of j) n.logged h.fits) h.stands.sound moment cells in
-    subst (λ (c : Core). IsRestartable (opening_of j) (with_entry j.history n.entry).entries (logged_in (j.notes ++ n ∷ [])) c) (sym (core-happened j w n d h))
+    subst (λ (c : Core). IsRestartable (opening_of j) (with_entry j.history n.entry).entries (logged_in (j.notes ++ n ∷ [])) c) (sym (core-happened j w n d entries h))
     (subst (λ rs. IsRestartable (opening_of j) (with_entry j.history n.entry).entries rs d) (sym (logged-push j.notes n)) done)
 
 -- its record has a spelling, and its ids are the store's
@@ -154,7 +161,7 @@ full-push j n queue round f = (f.0, f.1 ++ n ∷ [], ap (λ (ns : List Note). ns
 
 pub Keeps-note : (j : JournalView) (v w : TablesView) (n : Note) (d : Core) → Keeps j v → Happens j w n d → n.left ≡ left_of j.history.slots w.round → Keeps (grown j n w.queue w.round) w
 Keeps-note j v w n d k h left =
-    let core = core-happened j w n d h in
+    let core = core-happened j w n d k.entries h in
     let slots = j.history.slots in
     let told = left-told slots n.left w.round d.round left h.stands.round in
     record {
@@ -167,7 +174,7 @@ Keeps-note j v w n d k h left =
       laid = subst (AllWellLaid slots j.opening) (sym (logged-push j.notes n)) (AllWellLaid-push slots j.opening (logged_in j.notes) (option_map record_of n.logged) k.laid (some-lays (cells_of j) n.logged h.lays));
       stands = subst (λ (c : Core). Stands slots w c) (sym core) h.stands;
       led = subst (λ (c : Core). AreLed slots (opening_of j) (j.notes ++ n ∷ []) c) (sym core) (AreLed-push slots (opening_of j) (core_of j) d j.notes n k.led (record { after = h.after; turns = h.turns; left = told }));
-      safe = safe-grown j w n d k.safe h;
+      safe = safe-grown j w n d k.entries k.safe h;
       numbered = subst AreNumbered (sym (end_of-with_entry j.history n.entry)) (numbered-next (end_of j.history) n.entry k.numbered h.numbered);
       spelled = All-push (λ (x : Note). IfSome x.logged (HasCellSpelling slots)) j.notes n k.spelled (spelling-of slots j.history.ids n.logged (spelled-now j v w n d k h));
       of_ids = All-push (λ (x : Note). IfSome x.logged (IsOfIds j.history.ids)) j.notes n k.of_ids (ids-of slots j.history.ids n.logged (spelled-now j v w n d k h));

@@ -1,5 +1,5 @@
 -- A journal whose trace has grown by one note.
-use Rattle.std.proofs.Common.{◌≡◌, ℕ, ◌+◌, ◌≤◌, false, List, [], ◌∷◌, ◌++◌, sym, ap, ◌∙◌, subst, map}
+use Rattle.std.proofs.Common.{◌≡◌, ℕ, ◌+◌, ◌≤◌, false, List, [], ◌∷◌, ◌++◌, refl, sym, ap, ◌∙◌, subst, map}
 use Rattle.std.specs.Prelude.{length}
 use Rattle.std.proofs.lemmas.List.{map-append}
 use Rattle.plain_model.proofs.StepLaws.{end_of-ids}
@@ -65,7 +65,7 @@ module _ {slots : ℕ} (a b : Inside slots) (n : Note) (d : Core) (s : IsJournal
       cc
 
   core-is : core_of (view_of b) ≡ d
-  core-is = ap core_of seen ∙ core-happened (view_of a) (tables_of b.tables) n d h
+  core-is = ap core_of seen ∙ core-happened (view_of a) (tables_of b.tables) n d refl h
 
   cells : cells_of (view_of b) ≡ after_logged slots (cells_of (view_of a)) n.logged
   cells = ap (λ (c : Core). c.cells) (core-is ∙ h.after)

@@ -1,16 +1,16 @@
 -- One note more leads one step further.
 use Rattle.std.proofs.Common.{◌≡◌, ℕ, List, [], ◌∷◌, ◌++◌, map, Option, Some, None, refl, sym, ap, ◌∙◌, subst, arith}
-use Rattle.std.specs.Prelude.{◌↔◌, fold}
+use Rattle.std.specs.Prelude.{◌↔◌}
 use Rattle.std.specs.List.{last_or}
 use Rattle.std.specs.Option.{option_map_or}
-use Rattle.std.proofs.lemmas.List.{map-append}
-use Rattle.std.proofs.lemmas.List.Sums.{fold-append}
 use Rattle.store_model.specs.Core.{Core, Round}
 use Rattle.log_record.specs.declared.cell_record.CellRecord.{CellRecord}
 use Rattle.core_store.specs.declared.note.Note.{Note}
 use Rattle.core_store.specs.declared.act.Act.{Act}
 use Rattle.core_store.specs.declared.act.Act.TheVariants as act
-use Rattle.core_store.specs.References.{references_after, references_of}
+use Rattle.plain_model.specs.History.{Moment, next, moment_after}
+use Rattle.store_model.specs.Core.{Ref}
+use Rattle.core_store.specs.References.{references_by, references_from}
 use Rattle.core_store.specs.Leads.{Turns, Leads, AreLed}
 use Rattle.core_store.specs.Collects.{Collects, entry_of}
 use Rattle.core_store.specs.JournalView.{last_left}
@@ -21,10 +21,9 @@ AreLed-push slots c d e [] n l one = (e, subst (λ x. Leads slots x e n) (sym l)
 AreLed-push slots c d e (m ∷ ms) n l one = (l.0, l.1, AreLed-push slots l.0 d e ms n l.2 one)
 
 -- what the notes name
-pub references-push : (notes : List Note) (n : Note) → references_of (notes ++ n ∷ []) ≡ references_after (references_of notes) n.logged
-references-push notes n =
-    let logged = λ (x : Note). x.logged in
-    ap (fold references_after []) (map-append logged notes (n ∷ [])) ∙ fold-append references_after [] (map logged notes) (n.logged ∷ [])
+pub references-from_push : (m : Moment) (refs : List Ref) (notes : List Note) (n : Note) → references_from m refs (notes ++ n ∷ []) ≡ references_by (moment_after m (map (λ x. x.entry) notes)).state (references_from m refs notes) n.entry n.logged
+references-from_push m refs [] n = refl
+references-from_push m refs (x ∷ xs) n = references-from_push (next m x.entry) (references_by m.state refs x.entry x.logged) xs n
 
 -- the last note
 pub last_or-push : (o : Option Note) (notes : List Note) (n : Note) → last_or o (notes ++ n ∷ []) ≡ Some n

@@ -7,7 +7,7 @@ use Rattle.std.proofs.lemmas.Bool.{cond-true, cond-false}
 use Rattle.plain_model.specs.declared.write.Place.{Place}
 use Rattle.plain_model.specs.declared.write.Place.TheVariants.{Slot, Payload, Whole}
 use Rattle.plain_model.specs.declared.calls.Call.{Call as TransactionCall}
-use Rattle.plain_model.specs.declared.calls.Call.TheVariants.{Begin as BeginCall, Read, Make as MakeCall, Store as StoreCall, GetPay, SetPay, Commit as CommitCall, Abort}
+use Rattle.plain_model.specs.declared.calls.Call.TheVariants.{Begin as BeginCall, Read, Make as MakeCall, Store as StoreCall, GetPay, Release, SetPay, Commit as CommitCall, Abort}
 use Rattle.plain_model.specs.declared.calls.Reply.{Reply}
 use Rattle.plain_model.specs.declared.calls.Reply.TheVariants.{Done}
 use Rattle.plain_model.specs.declared.calls.Entry.TheVariants.{Call, Undo as UndoEntry}
@@ -106,6 +106,7 @@ call-logs c pass call reply a = by (refusal_of c.moment.state pass call) refl (t
             let ch = stored_change c.cells (register_id t r) slot (stored_target t source) in
             (ch.old_strong, ch.new_bit, ch.new_strong, refl)
         in_transaction (GetPay r) n = refl
+        in_transaction (Release r) n = refl
         in_transaction (SetPay r v) n = refl
         in_transaction CommitCall n = refl
         in_transaction Abort n = let no : None ≡ Some t = n refl in cc

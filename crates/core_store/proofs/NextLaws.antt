@@ -65,6 +65,7 @@ module _ {slots : ℕ} {v : TablesView} {core : Core} (h : Stands slots v core) 
   pub few-plan : (pass : ℕ) (c : TransactionCall) (p : Plan) → IsGranted v pass c p → AreFew v.ids (objects_of_plan core.cells p)
   few-plan pass c plan.Begin w = record { few = omega arith; within = tt }
   few-plan pass c plan.Commit w = record { few = omega arith; within = tt }
+  few-plan pass c (plan.Release id) w = record { few = omega arith; within = tt }
   few-plan pass c (plan.Read id slot into) w = few-one id (one-live id (granted-read h pass w.0 slot into id w.2).names.there)
   few-plan pass c (plan.Make id into) w = let g = granted-make h pass into id w.1 w.2 in let top = g.is.1 in let s = h.ids in few-one id (g.is.0, omega (arith, top, s))
   few-plan pass c (plan.Get id) w = few-one id (one-live id (granted-get h pass w.0 id w.2).names.there)

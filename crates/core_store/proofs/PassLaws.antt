@@ -1,5 +1,5 @@
 -- The collector looks at a slot, at which there is nothing to do, and goes on.
-use Rattle.std.proofs.Common.{◌≡◌, ◌≢◌, ℕ, ◌+◌, ◌<◌, ◌≤◌, List, length, get_or, drop, Bool, true, false, not, Some, refl, sym, ap, ◌∙◌, subst, arith, IfSome, ⊎_elim}
+use Rattle.std.proofs.Common.{◌≡◌, ◌≢◌, ℕ, ◌+◌, ◌<◌, ◌≤◌, List, length, get_or, drop, Bool, true, false, not, Some, refl, sym, ap, ◌∙◌, subst, arith, ⊎_elim}
 use Rattle.std.specs.Prelude.{◌==◌, if◌then◌else◌, slice_index}
 use Rattle.std.proofs.lemmas.Bool.{eqb-true, cases_lt}
 use Rattle.std.proofs.lemmas.List.{get_or_past, get_or-drop}
@@ -18,7 +18,7 @@ use Rattle.core_store.specs.declared.round_at.RoundAt.TheVariants as at
 use Rattle.core_store.specs.RoundView.{RoundView, Closed, Walking, Sweeping, round_of, asked, asked_by_sweep, asked_by_green, is_event, next_slot, looked_past, passed_by_sweep, passed_by_green, IsInStep, IsSweeping, Passes, none, more}
 use Rattle.core_store.specs.Tables.{TablesView}
 use Rattle.core_store.specs.Passed.{HasPassed}
-use Rattle.core_store.specs.Stands.{IsEmptied, IsTestedIn, IsTested, Stands}
+use Rattle.core_store.specs.Stands.{IsEmptied, IsTested, Stands}
 use Rattle.core_store.proofs.AskedGreen.{asked-by}
 use Rattle.core_store.proofs.GreenLooks.{green-looks, looks-tested}
 use Rattle.core_store.proofs.CollectedLaws.{slots-end}

@@ -1,13 +1,13 @@
 -- What the reference machine knows of a call that the tables grant.
-use Rattle.std.proofs.Common.{◌≡◌, ◌≢◌, ℕ, ◌<◌, ◌≤◌, List, true, false, refl, sym, ap, ◌∙◌, subst, Option, Some, None, Ok, arith}
-use Rattle.std.specs.Prelude.{if◌then◌else◌, Contains, unwrap_or, is_some, slice_index_or}
+use Rattle.std.proofs.Common.{Bool, ap₂, ◌≡◌, ◌≢◌, ℕ, ◌<◌, ◌≤◌, List, true, false, refl, sym, ap, ◌∙◌, subst, Option, Some, None, Ok, arith}
+use Rattle.std.specs.Prelude.{not, ◌&&◌, if◌then◌else◌, Contains, unwrap_or, is_some, slice_index_or}
 use Rattle.std.specs.Option.{option_map_or}
 use Rattle.plain_model.specs.declared.calls.Call.{Call as TransactionCall}
 use Rattle.plain_model.specs.declared.calls.Call.TheVariants as call
 use Rattle.plain_model.specs.declared.calls.Reply.{Reply}
-use Rattle.plain_model.specs.declared.calls.Reply.TheVariants.{Aborting, EmptyRegister, Full}
+use Rattle.plain_model.specs.declared.calls.Reply.TheVariants.{Aborting, EmptyRegister, NotShared, Full}
 use Rattle.plain_model.specs.ActiveTransaction.{ActiveTransaction}
-use Rattle.plain_model.specs.Machine.{State, is_stored, transaction_of, register, register_id, free_id, refusal_of, refusal_in, refusal_out, or_else, if_aborting, if_empty, if_busy, blocks_sharing, blocks_owning}
+use Rattle.plain_model.specs.Machine.{State, is_stored, transaction_of, register, register_id, free_id, refusal_of, refusal_in, refusal_out, or_else, if_aborting, if_empty, if_not_shared, if_busy, is_among, only_shares, blocks_sharing, blocks_owning}
 use Rattle.plain_model.specs.History.{Moment, IsId}
 use Rattle.plain_laws.proofs.Legal.{registers-stored_proof, not_empty}
 use Rattle.cell_model.specs.Cells.{Cell, is_live}
@@ -19,8 +19,9 @@ use Rattle.core_store.specs.Transactions.{Running, running_at}
 use Rattle.core_store.specs.Refusals.{if_not_running, if_no_register, source_of, HasSubject, HasSource}
 use Rattle.core_store.specs.Logged.{stored_target}
 use Rattle.core_store.specs.Tables.{TablesView}
-use Rattle.core_store.specs.Stands.{IsRunning, Stands}
-use Rattle.core_store.specs.Plans.{IsShareable, IsOwnable}
+use Rattle.core_store.specs.Stands.{IsRunning, owns_in, shares_in, Stands}
+use Rattle.strict_locks.specs.Locks.{holders_of, is_owner, is_sharer, only_shares as shares_only}
+use Rattle.core_store.specs.Plans.{IsShareable, IsOwnable, IsReleasable}
 use Rattle.core_store.proofs.PlanActive.{active-of, inactive-of, running-alive}
 use Rattle.core_store.proofs.PlanLocks.{unblocked-shared, unblocked-owned}
 use Rattle.core_store.proofs.PlanFree.{least-free, free_id-least}
@@ -164,6 +165,25 @@ module _ {slots : ℕ} {v : TablesView} {core : Core} (h : Stands slots v core) 
 
   pub granted-get : (pass r id : ℕ) → IsShareable v pass r id → GrantsOn slots v core.cells core.moment pass (call.GetPay r) r id
   granted-get pass r id w = shared pass r id (call.GetPay r) (λ t. refl) w
+
+  -- a client that shares an object and doesn't own it does so in the machine
+  pub shared-only : (pass id : ℕ) (t : ActiveTransaction) → transaction_of core.moment.state pass ≡ Some t → only_shares id t ≡ shares_only (holders_of v.locks id) pass
+  shared-only pass id t f =
+      let own : is_owner (holders_of v.locks id) pass ≡ is_among id t.owned = h.owners id pass ∙ ap (λ o. owns_in o id) f in
+      let share : is_sharer (holders_of v.locks id) pass ≡ is_among id t.shared = h.sharers id pass ∙ ap (λ o. shares_in o id) f in
+      ap₂ (λ (x y : Bool). x && not y) (sym share) (sym own)
+
+  pub granted-release : (pass r id : ℕ) → IsReleasable v pass r id → GrantsOn slots v core.cells core.moment pass (call.Release r) r id
+  unfolding grants
+  granted-release pass r id w =
+      let a = alive-of pass w.0.running w.0.is w.0.alive in
+      let e = subject-register pass r id w.0 a in
+      record {
+        grants =
+            grants pass (call.Release r) w.0.running w.0.is a
+            (only-rest a.transaction r id (λ x. if_not_shared a.transaction x) a.alive e ∙ ap (λ b. if b then None else Some NotShared) (shared-only pass id a.transaction a.found ∙ w.1));
+        names = named-there pass a.transaction r id a.found e;
+      }
 
   pub granted-set : (pass r value id : ℕ) → IsOwnable v pass r id → GrantsOn slots v core.cells core.moment pass (call.SetPay r value) r id
   unfolding grants

@@ -21,7 +21,7 @@ use Rattle.core_store.specs.Tables.{TablesView}
 use Rattle.core_store.specs.Stands.{Stands}
 use Rattle.core_store.specs.Plans.{IsGranted}
 use Rattle.core_store.specs.Ready.{objects_of_plan, IsPlanInRange}
-use Rattle.core_store.proofs.PlanLaws.{Grants, granted-begin, granted-read, granted-make, granted-store, granted-get, granted-set, granted-commit}
+use Rattle.core_store.proofs.PlanLaws.{Grants, granted-begin, granted-read, granted-make, granted-store, granted-get, granted-release, granted-set, granted-commit}
 
 -- the record of a plan, if it has one
 abbrev pub record_of_plan : List Cell → ℕ → Plan → Option CellRecord
@@ -30,6 +30,7 @@ record_of_plan cells pass (plan.Read id slot into) = None
 record_of_plan cells pass (plan.Make id into) = Some (logs.Make pass id)
 record_of_plan cells pass (plan.Store id slot target) = Some (store_record pass id slot target (stored_change cells id slot target))
 record_of_plan cells pass (plan.Get id) = None
+record_of_plan cells pass (plan.Release id) = None
 record_of_plan cells pass (plan.Set id value) = Some (logs.Pay pass id (cell_at cells id).payload value)
 record_of_plan cells pass plan.Commit = Some (logs.Commit pass)
 
@@ -67,6 +68,7 @@ module _ {slots : ℕ} {v : TablesView} {core : Core} (h : Stands slots v core) 
   unrefused-plan pass c (plan.Make id into) w = ap (refusal_of core.moment.state pass) w.0 ∙ (granted-make h pass into id w.1 w.2).grants.allowed
   unrefused-plan pass c (plan.Store id slot target) w = ap (refusal_of core.moment.state pass) w.2 ∙ (granted-store h pass w.0 slot w.1 id target w.3 w.4).grants.allowed
   unrefused-plan pass c (plan.Get id) w = ap (refusal_of core.moment.state pass) w.1 ∙ (granted-get h pass w.0 id w.2).grants.allowed
+  unrefused-plan pass c (plan.Release id) w = ap (refusal_of core.moment.state pass) w.1 ∙ (granted-release h pass w.0 id w.2).grants.allowed
   unrefused-plan pass c (plan.Set id value) w = ap (refusal_of core.moment.state pass) w.1 ∙ (granted-set h pass w.0 value id w.2).grants.allowed
   unrefused-plan pass c plan.Commit w = ap (refusal_of core.moment.state pass) w.0 ∙ (granted-commit h pass w.1).allowed
 
@@ -86,6 +88,7 @@ module _ {slots : ℕ} {v : TablesView} {core : Core} (h : Stands slots v core) 
       ∙ (ap (λ (x : ℕ). Some (store_record pass x slot (stored_target g.grants.transaction w.1) (stored_change core.cells x slot (stored_target g.grants.transaction w.1)))) g.names.id_is
       ∙ ap (λ (y : ℕ). Some (store_record pass id slot y (stored_change core.cells id slot y))) (sym g.target_is)))
   logged-plan pass c (plan.Get id) w = ap (λ c. logged_by core.moment.state core.cells pass c) w.1 ∙ granted-logs core.cells (granted-get h pass w.0 id w.2).grants
+  logged-plan pass c (plan.Release id) w = ap (λ c. logged_by core.moment.state core.cells pass c) w.1 ∙ granted-logs core.cells (granted-release h pass w.0 id w.2).grants
   logged-plan pass c (plan.Set id value) w =
       let g = granted-set h pass w.0 value id w.2 in
       ap (λ c. logged_by core.moment.state core.cells pass c) w.1 ∙ (granted-logs core.cells g.grants ∙ ap (λ (x : ℕ). Some (logs.Pay pass x (cell_at core.cells x).payload value)) g.names.id_is)
@@ -111,6 +114,7 @@ module _ {slots : ℕ} {v : TablesView} {core : Core} (h : Stands slots v core) 
   pages-plan pass c (plan.Get id) w =
       let g = granted-get h pass w.0 id w.2 in
       ap (λ c. pages_for core.moment.state core.cells pass c) w.1 ∙ (granted-pages core.cells g.grants ∙ ap (λ (x : ℕ). map page_of_id (objects_of_plan core.cells (plan.Get x))) g.names.id_is)
+  pages-plan pass c (plan.Release id) w = ap (λ c. pages_for core.moment.state core.cells pass c) w.1 ∙ granted-pages core.cells (granted-release h pass w.0 id w.2).grants
   pages-plan pass c (plan.Set id value) w =
       let g = granted-set h pass w.0 value id w.2 in
       ap (λ c. pages_for core.moment.state core.cells pass c) w.1 ∙ (granted-pages core.cells g.grants ∙ ap (λ (x : ℕ). map page_of_id (objects_of_plan core.cells (plan.Get x))) g.names.id_is)
@@ -126,6 +130,7 @@ module _ {slots : ℕ} {v : TablesView} {core : Core} (h : Stands slots v core) 
       same (plan.Make id into) = refl
       same (plan.Store id slot target) = refl
       same (plan.Get id) = refl
+      same (plan.Release id) = refl
       same (plan.Set id value) = refl
       same plan.Commit = refl
 
@@ -136,5 +141,6 @@ plan-in_range slots v pass c (plan.Read id slot into) r w = let k : IsInRange sl
 plan-in_range slots v pass c (plan.Make id into) r w = subst (λ c. IsInRange slots c) w.0 r
 plan-in_range slots v pass c (plan.Store id slot target) r w = let k : IsInRange slots (call.Store w.0 slot w.1) = subst (λ c. IsInRange slots c) w.2 r in k.1
 plan-in_range slots v pass c (plan.Get id) r w = tt
+plan-in_range slots v pass c (plan.Release id) r w = tt
 plan-in_range slots v pass c (plan.Set id value) r w = tt
 plan-in_range slots v pass c plan.Commit r w = tt

@@ -5,10 +5,10 @@ use Rattle.std.specs.Option.{option_map_or}
 use Rattle.plain_model.specs.declared.calls.Call.{Call as TransactionCall}
 use Rattle.plain_model.specs.declared.calls.Call.TheVariants as call
 use Rattle.plain_model.specs.declared.calls.Reply.{Reply}
-use Rattle.plain_model.specs.declared.calls.Reply.TheVariants.{NoTxn, HasTxn, Aborting, EmptyRegister, Busy, Full}
+use Rattle.plain_model.specs.declared.calls.Reply.TheVariants.{NoTxn, HasTxn, Aborting, EmptyRegister, NotShared, Busy, Full}
 use Rattle.plain_model.specs.ActiveTransaction.{ActiveTransaction}
-use Rattle.plain_model.specs.Machine.{transaction_of, register, register_id, free_id, refusal_of, refusal_in, refusal_out, or_else, if_aborting, if_empty, if_busy, blocks_sharing, blocks_owning}
-use Rattle.strict_locks.specs.Locks.{holders_of, StandsInWayOfShare, StandsInWayOfOwn, IsLeast}
+use Rattle.plain_model.specs.Machine.{transaction_of, register, register_id, free_id, refusal_of, refusal_in, refusal_out, or_else, if_aborting, if_empty, if_not_shared, if_busy, blocks_sharing, blocks_owning}
+use Rattle.strict_locks.specs.Locks.{holders_of, only_shares, StandsInWayOfShare, StandsInWayOfOwn, IsLeast}
 use Rattle.store_model.specs.Core.{Core}
 use Rattle.core_store.specs.Transactions.{Running, running_at}
 use Rattle.core_store.specs.Refusals.{if_no_register, subject_refusal, if_not_running, HasSubject, HasSource}
@@ -18,7 +18,7 @@ use Rattle.core_store.specs.Plans.{IsRefused}
 use Rattle.core_store.proofs.PlanActive.{active-of, inactive-of, running-alive}
 use Rattle.core_store.proofs.PlanLocks.{blocked-shared, blocked-owned}
 use Rattle.core_store.proofs.PlanFree.{free_id-none}
-use Rattle.core_store.proofs.PlanLaws.{refusal-in, refusal-out, only-rest, same-empty, alive-of, subject-register}
+use Rattle.core_store.proofs.PlanLaws.{refusal-in, refusal-out, only-rest, same-empty, alive-of, subject-register, shared-only}
 
 or_else-more : (a b c : Option Reply) (r : Reply) → or_else a b ≡ Some r → or_else a (or_else b c) ≡ Some r
 or_else-more (Some x) b c r h = h
@@ -72,6 +72,14 @@ module _ {slots : ℕ} {v : TablesView} {core : Core} (h : Stands slots v core) 
       refusal-in core.moment.state pass a.transaction (call.GetPay r) a.found
       ∙ (only-rest a.transaction r id (λ x. if_busy (blocks_sharing core.moment.state pass x)) a.alive e ∙ ap (λ o. if_busy o) (blocked-shared h pass id p l))
 
+  -- there is no shared lock to give back
+  unshared-release : (pass r id : ℕ) → HasSubject (running_at v.transactions pass) r id → only_shares (holders_of v.locks id) pass ≡ false → refusal_of core.moment.state pass (call.Release r) ≡ Some NotShared
+  unshared-release pass r id u l =
+      let a = alive-of h pass u.running u.is u.alive in
+      let e = subject-register h pass r id u a in
+      refusal-in core.moment.state pass a.transaction (call.Release r) a.found
+      ∙ (only-rest a.transaction r id (λ x. if_not_shared a.transaction x) a.alive e ∙ ap (λ b. if b then None else Some NotShared) (shared-only h pass id a.transaction a.found ∙ l))
+
   busy-set : (pass r value id p : ℕ) → HasSubject (running_at v.transactions pass) r id → IsLeast (StandsInWayOfOwn (holders_of v.locks id) pass) p → refusal_of core.moment.state pass (call.SetPay r value) ≡ Some (Busy p)
   busy-set pass r value id p u l =
       let a = alive-of h pass u.running u.is u.alive in
@@ -123,6 +131,12 @@ module _ (slots : ℕ) (v : TablesView) (pass : ℕ) where
 
   pub refuses-get_busy : (r id p : ℕ) → HasSubject (running_at v.transactions pass) r id → IsLeast (StandsInWayOfShare (holders_of v.locks id) pass) p → IsRefused slots v pass (call.GetPay r) (Busy p)
   refuses-get_busy r id p u l core h = busy-shared h pass r id p u l
+
+  pub refuses-release : (r : ℕ) (reply : Reply) → subject_refusal (running_at v.transactions pass) r ≡ Some reply → IsRefused slots v pass (call.Release r) reply
+  refuses-release r reply e core h = refused-subject h pass r (call.Release r) (λ t. if_not_shared t (register_id t r)) reply (λ t. refl) refl e
+
+  pub refuses-release_unshared : (r id : ℕ) → HasSubject (running_at v.transactions pass) r id → only_shares (holders_of v.locks id) pass ≡ false → IsRefused slots v pass (call.Release r) NotShared
+  refuses-release_unshared r id u l core h = unshared-release h pass r id u l
 
   pub refuses-set : (r value : ℕ) (reply : Reply) → subject_refusal (running_at v.transactions pass) r ≡ Some reply → IsRefused slots v pass (call.SetPay r value) reply
   refuses-set r value reply e core h = refused-subject h pass r (call.SetPay r value) (λ t. if_busy (blocks_owning core.moment.state pass (register_id t r))) reply (λ t. refl) refl e

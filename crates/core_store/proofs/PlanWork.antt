@@ -59,6 +59,7 @@ module _ {slots : ℕ} {v : TablesView} {core : Core} (h : Stands slots v core) 
   pub plan-work : (pass : ℕ) (c : TransactionCall) (p : Plan) → IsInRange slots c → IsGranted v pass c p → IfSome (work_of p) (IsWork slots)
   plan-work pass c plan.Begin r w = tt
   plan-work pass c plan.Commit r w = tt
+  plan-work pass c (plan.Release id) r w = tt
   plan-work pass c (plan.Read id slot into) r w = work-on id core.moment.state.ids (granted-read h pass w.0 slot into id w.2).names.there
   plan-work pass c (plan.Make id into) r w = let g = granted-make h pass into id w.1 w.2 in record { above = g.is.0; small = (let few = g.few in omega (arith, few)); change = tt }
   plan-work pass c (plan.Get id) r w = work-on id core.moment.state.ids (granted-get h pass w.0 id w.2).names.there

@@ -68,6 +68,7 @@ planned-commit v core h pass (Ok (plan.Read id slot into)) granted refused none 
 planned-commit v core h pass (Ok (plan.Make id into)) granted refused none = let e = granted.0 in absurd (cc)
 planned-commit v core h pass (Ok (plan.Store id slot target)) granted refused none = let e = granted.2 in absurd (cc)
 planned-commit v core h pass (Ok (plan.Get id)) granted refused none = let e = granted.1 in absurd (cc)
+planned-commit v core h pass (Ok (plan.Release id)) granted refused none = let e = granted.1 in absurd (cc)
 planned-commit v core h pass (Ok (plan.Set id value)) granted refused none = let e = granted.1 in absurd (cc)
 
 -- the room that is taken before is enough for the entry, and for all that is owed after it
@@ -78,5 +79,6 @@ room-enough c (Ok (plan.Read id slot into)) owed len room left h more commit = l
 room-enough c (Ok (plan.Make id into)) owed len room left h more commit = let k = needed-few c in omega (arith, h, more, k)
 room-enough c (Ok (plan.Store id slot target)) owed len room left h more commit = let k = needed-few c in omega (arith, h, more, k)
 room-enough c (Ok (plan.Get id)) owed len room left h more commit = let k = needed-few c in omega (arith, h, more, k)
+room-enough c (Ok (plan.Release id)) owed len room left h more commit = let k = needed-few c in omega (arith, h, more, k)
 room-enough c (Ok (plan.Set id value)) owed len room left h more commit = let k = needed-few c in omega (arith, h, more, k)
 room-enough c (Err reply) owed len room left h more commit = let k = needed-few c in omega (arith, h, more, k)

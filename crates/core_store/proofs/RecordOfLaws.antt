@@ -3,7 +3,7 @@ use Rattle.std.proofs.Common.{◌≡◌, ℕ, List, Option, Some, None, refl, sy
 use Rattle.std.specs.Prelude.{IfSome, unwrap_or}
 use Rattle.std.specs.Option.{option_map_or}
 use Rattle.plain_model.specs.declared.calls.Call.{Call as TransactionCall}
-use Rattle.plain_model.specs.declared.calls.Call.TheVariants.{Begin, Read, Make, Store, GetPay, SetPay, Commit, Abort}
+use Rattle.plain_model.specs.declared.calls.Call.TheVariants.{Begin, Read, Make, Store, GetPay, Release, SetPay, Commit, Abort}
 use Rattle.plain_model.specs.declared.calls.Reply.{Reply}
 use Rattle.plain_model.specs.ActiveTransaction.{ActiveTransaction}
 use Rattle.plain_model.specs.Machine.{State, step, success, transaction_of, refusal_in, refusal_out, free_id, register_id, new_transaction}
@@ -20,6 +20,7 @@ module _ (s : State) (cells : List Cell) (pass : ℕ) where
   of-active t Begin None = tt
   of-active t (Read r slot into) None = tt
   of-active t (GetPay r) None = tt
+  of-active t (Release r) None = tt
   of-active t Abort None = tt
   of-active t (Make into) None = (unwrap_or (free_id s) 0, refl, refl)
   of-active t (Store r slot source) None = refl
@@ -33,6 +34,7 @@ module _ (s : State) (cells : List Cell) (pass : ℕ) where
   of-call Begin None = refl
   of-call (Read r slot into) None = tt
   of-call (GetPay r) None = tt
+  of-call (Release r) None = tt
   of-call Abort None = tt
   of-call (Make into) None = tt
   of-call (Store r slot source) None = tt

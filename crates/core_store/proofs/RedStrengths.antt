@@ -6,7 +6,7 @@ use Rattle.plain_model.specs.declared.write.Place.{Place}
 use Rattle.plain_model.specs.declared.write.Place.TheVariants.{Slot, Payload, Whole}
 use Rattle.plain_model.specs.declared.write.Write.{Write}
 use Rattle.plain_model.specs.declared.calls.Call.{Call as TransactionCall}
-use Rattle.plain_model.specs.declared.calls.Call.TheVariants.{Begin as BeginCall, Read, Make as MakeCall, Store as StoreCall, GetPay, SetPay, Commit as CommitCall, Abort}
+use Rattle.plain_model.specs.declared.calls.Call.TheVariants.{Begin as BeginCall, Read, Make as MakeCall, Store as StoreCall, GetPay, Release, SetPay, Commit as CommitCall, Abort}
 use Rattle.plain_model.specs.declared.calls.Reply.{Reply}
 use Rattle.plain_model.specs.ActiveTransaction.{ActiveTransaction}
 use Rattle.plain_model.specs.Machine.{State, transaction_of, refusal_of}
@@ -69,6 +69,7 @@ call-by s cells pass call = by (refusal_of s pass call) (transaction_of s pass)
     in_transaction t (MakeCall into) = tt
     in_transaction t (StoreCall r slot source) = tt
     in_transaction t (GetPay r) = tt
+    in_transaction t (Release r) = tt
     in_transaction t (SetPay r value) = tt
     in_transaction t CommitCall = tt
     in_transaction t Abort = tt

@@ -11,7 +11,7 @@ use Rattle.store_model.specs.Sound.{IsSound}
 use Rattle.cell_model.proofs.EditLaws.{edit-keeps}
 use Rattle.core_store.specs.Changes.{is_counted_strong}
 use Rattle.core_store.specs.Owed.{entries_owed}
-use Rattle.core_store.specs.Saved.{HasOut, IsSpent, AreSaved}
+use Rattle.core_store.specs.Saved.{IsSpent, AreSaved}
 use Rattle.core_store.specs.References.{named_by}
 use Rattle.core_store.specs.RoundView.{RoundView, Closed, Walking, Sweeping, round_of, IsInStep}
 use Rattle.core_store.specs.Tables.{TablesView}

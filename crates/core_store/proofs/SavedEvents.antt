@@ -1,7 +1,6 @@
 -- What looks are saved by stays true over the events of the green walk, and is so at its start.
-use Rattle.std.proofs.Common.{◌≡◌, ◌≢◌, ℕ, ◌+◌, ◌<◌, ◌≤◌, ◌==◌, if◌then◌else◌, Bool, true, false, not, ◌&&◌, List, [], ◌∷◌, ◌++◌, length, slice_index_or, Option, Some, None, refl, sym, ap, ◌∙◌, subst, arith, ◌⊎◌, inl, inr, ⊎_elim, true≢false, eq-eqb}
-use Rattle.std.specs.Prelude.{Contains, map, get_or}
-use Rattle.std.proofs.lemmas.Bool.{eqb-true}
+use Rattle.std.proofs.Common.{◌≡◌, ◌≢◌, ℕ, ◌+◌, ◌<◌, ◌≤◌, ◌==◌, true, false, List, [], ◌∷◌, ◌++◌, length, slice_index_or, None, refl, sym, ap, ◌∙◌, subst, arith, ◌⊎◌, inl, inr, ⊎_elim, true≢false}
+use Rattle.std.specs.Prelude.{Contains, get_or}
 use Rattle.std.proofs.lemmas.List.{get_or-map, length-map}
 use Rattle.std.proofs.lemmas.List.Elements.{Contains-push}
 use Rattle.cell_model.specs.Cells.{Cell, Pointer, null, cell_at, pointer_at, is_live, edit, flipped, IsExact}
@@ -15,7 +14,7 @@ use Rattle.green_walk.specs.declared.sweep.SweepAt.TheVariants.{End}
 use Rattle.green_walk.specs.declared.sweep.Found.TheVariants.{Made}
 use Rattle.green_walk.specs.Judged.{Judged}
 use Rattle.green_walk.specs.Sweeping.{SweepState as Sweep, next as next_of_sweep}
-use Rattle.green_walk.specs.Greening.{Greening, GreenStage, AtSeed, AtInto, AtOut, waits, may_lead_to, behind_first, greened, moved, found, started as green_started, copied_slots, are_none}
+use Rattle.green_walk.specs.Greening.{Greening, GreenStage, AtInto, AtOut, waits, may_lead_to, behind_first, greened, moved, found, started as green_started, copied_slots, are_none}
 use Rattle.green_walk.proofs.GreenAsked.{green-done}
 use Rattle.core_store.specs.Changes.{is_counted_strong, has_no_strong}
 use Rattle.core_store.specs.Saved.{HasOut, IsSpent, WasPassed, AreSaved}

@@ -1,31 +1,22 @@
 -- What looks are saved by stays true over looks, events of the collector, and changes of a client.
 use Rattle.std.proofs.Common.{◌≡◌, ◌≢◌, ℕ, ◌+◌, ◌<◌, ◌≤◌, ◌==◌, nat_lt, if◌then◌else◌, Bool, true, false, not, ◌&&◌, List, [], ◌∷◌, ◌++◌, length, slice_index_or, Option, Some, None, refl, sym, ap, ◌∙◌, subst, arith, ◌⊎◌, inl, inr, ⊎_elim, true≢false}
-use Rattle.std.specs.Prelude.{Contains, IfSome, get_or, map}
-use Rattle.std.proofs.lemmas.Bool.{cases_eq, cases_lt, eqb-true, not-true, not-false, and_cases}
+use Rattle.std.specs.Prelude.{Contains}
+use Rattle.std.proofs.lemmas.Bool.{cases_lt, eqb-true, not-false, and_cases}
 use Rattle.std.proofs.lemmas.Bool.Decides.{nat_tests}
 use Rattle.std.proofs.lemmas.List.{get_or_append_left}
 use Rattle.std.proofs.lemmas.List.Elements.{Contains-append_left, Contains-push}
-use Rattle.cell_model.specs.Cells.{Cell, Pointer, cell_at, pointer_at}
-use Rattle.store_model.specs.Core.{Copy}
-use Rattle.store_model.specs.Sound.{copy_of}
-use Rattle.red_walk.specs.Walk.{Walk}
+use Rattle.cell_model.specs.Cells.{Cell, pointer_at}
 use Rattle.green_walk.specs.declared.copied_slots.CopiedSlot.{CopiedSlot}
-use Rattle.green_walk.specs.declared.green_at.GreenAt.{GreenAt}
-use Rattle.green_walk.specs.declared.green_at.GreenAt.TheVariants as green
 use Rattle.green_walk.specs.declared.green_at.Test.{Test}
 use Rattle.green_walk.specs.declared.sweep.SweepAt.TheVariants.{End}
-use Rattle.green_walk.specs.declared.sweep.Found.{Found}
-use Rattle.green_walk.specs.declared.sweep.Found.TheVariants.{Nothing, Made, Strong}
-use Rattle.green_walk.specs.Judged.{Judged}
 use Rattle.green_walk.specs.Sweeping.{SweepState as Sweep, next as next_of_sweep}
-use Rattle.green_walk.specs.Greening.{Greening, GreenStage, AtSeed, AtInto, AtOut, IsGreening, IsAnswer, waits, may_lead_to, first_with, behind_first, first_seed, walking, seed_done, settled_into, settled_out, settled, greened, moved, moved_to, next, found, found_in, found_at_seed, asked_at, testing, tested, again, started as green_started, copied_slots, are_none}
+use Rattle.green_walk.specs.Greening.{Greening, GreenStage, AtSeed, AtInto, AtOut, waits, may_lead_to, first_with, walking, seed_done, settled_out, settled, greened, again}
 use Rattle.ref_tables.specs.Queue.{has}
 use Rattle.red_walk.proofs.Members.{Contains-has}
 use Rattle.green_walk.proofs.GreenAsked.{green-done}
 use Rattle.green_walk.proofs.GreenSteps.{into-none, into-some, out-there, out-done}
-use Rattle.core_store.specs.Changes.{is_counted_strong, has_no_strong}
+use Rattle.core_store.specs.Changes.{is_counted_strong}
 use Rattle.core_store.specs.Saved.{HasOut, IsSpent, WasPassed, AreSaved}
-use Rattle.core_store.proofs.Copies.{copied-tells}
 
 -- ---- changes of a client
 

@@ -1,6 +1,6 @@
 -- What looks are saved by stays true over looks of the green walk.
-use Rattle.std.proofs.Common.{◌≡◌, ◌≢◌, ℕ, ◌+◌, ◌<◌, ◌≤◌, ◌==◌, if◌then◌else◌, Bool, true, false, not, ◌&&◌, List, [], ◌∷◌, ◌++◌, length, slice_index_or, Option, Some, None, refl, sym, ap, ◌∙◌, subst, arith, ◌⊎◌, inl, inr, ⊎_elim, true≢false}
-use Rattle.std.specs.Prelude.{Contains, IfSome}
+use Rattle.std.proofs.Common.{◌≡◌, ◌≢◌, ℕ, ◌+◌, ◌<◌, ◌≤◌, ◌==◌, if◌then◌else◌, Bool, true, false, ◌&&◌, List, [], ◌∷◌, length, slice_index_or, Option, Some, refl, sym, ap, ◌∙◌, subst, arith, inl, inr, ⊎_elim, true≢false}
+use Rattle.std.specs.Prelude.{IfSome}
 use Rattle.cell_model.specs.Cells.{Cell, cell_at, pointer_at}
 use Rattle.green_walk.specs.declared.copied_slots.CopiedSlot.{CopiedSlot}
 use Rattle.green_walk.specs.declared.green_at.GreenAt.{GreenAt}
@@ -11,13 +11,13 @@ use Rattle.green_walk.specs.declared.sweep.Found.{Found}
 use Rattle.green_walk.specs.declared.sweep.Found.TheVariants.{Nothing, Made, Strong}
 use Rattle.green_walk.specs.Sweeping.{SweepState as Sweep, next as next_of_sweep}
 use Rattle.green_walk.specs.Greening.{Greening, GreenStage, AtSeed, AtInto, AtOut, IsGreening, IsAnswer, IsTestable, waits, may_lead_to, behind_first, first_seed, walking, settled, greened, moved, next, found, found_in, found_at_seed, asked_at, testing, tested}
-use Rattle.green_walk.proofs.GreenSteps.{settled-greening, settled-waits, answer-same}
+use Rattle.green_walk.proofs.GreenSteps.{settled-greening, settled-waits}
 use Rattle.green_walk.proofs.GreenAnswers.{test-law}
 use Rattle.core_store.specs.declared.round_at.RoundAt.{RoundAt}
 use Rattle.core_store.specs.declared.round_at.RoundAt.TheVariants as at
 use Rattle.core_store.specs.Changes.{is_counted_strong, has_no_strong}
 use Rattle.core_store.specs.RoundView.{is_event, is_white, seen_test, passed_by_green}
-use Rattle.core_store.specs.Saved.{HasOut, IsSpent, WasPassed, AreSaved}
+use Rattle.core_store.specs.Saved.{IsSpent, AreSaved}
 use Rattle.core_store.specs.Stands.{IsTestedIn}
 use Rattle.core_store.proofs.AskedGreen.{IsAskedBy}
 use Rattle.core_store.proofs.GreenAsks.{test-answers}

@@ -6,7 +6,7 @@ use Rattle.std.proofs.lemmas.Bool.{cases_eq, eqb-true, eqb-false}
 use Rattle.plain_model.specs.declared.write.Place.{Place}
 use Rattle.plain_model.specs.declared.write.Place.TheVariants.{Slot, Payload, Whole}
 use Rattle.plain_model.specs.declared.calls.Call.{Call as TransactionCall}
-use Rattle.plain_model.specs.declared.calls.Call.TheVariants.{Begin as BeginCall, Read, Make as MakeCall, Store as StoreCall, GetPay, SetPay, Commit as CommitCall, Abort}
+use Rattle.plain_model.specs.declared.calls.Call.TheVariants.{Begin as BeginCall, Read, Make as MakeCall, Store as StoreCall, GetPay, Release, SetPay, Commit as CommitCall, Abort}
 use Rattle.plain_model.specs.declared.calls.Reply.{Reply}
 use Rattle.plain_model.specs.ActiveTransaction.{ActiveTransaction}
 use Rattle.plain_model.specs.Machine.{State, transaction_of, refusal_of, register_id}
@@ -133,6 +133,7 @@ call-client s cells pass call p = by (refusal_of s pass call) (transaction_of s 
         let id = register_id t r in
         (p, null-weak cells (pointer_at cells id slot), null-laid (relinked cells id slot null) id (stored_target t source))
     in_transaction t (GetPay r) = tt
+    in_transaction t (Release r) = tt
     in_transaction t (SetPay r value) = p
     in_transaction t CommitCall = p
     in_transaction t Abort = tt

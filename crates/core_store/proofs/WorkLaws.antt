@@ -1,5 +1,5 @@
 -- What the calls and the undo steps work on, in the store of the tables.
-use Rattle.std.proofs.Common.{◌≡◌, ℕ, ◌≤◌, List, [], refl, sym, subst, Option, Some, None, arith}
+use Rattle.std.proofs.Common.{◌≡◌, ℕ, List, [], refl, subst, Some, None, arith}
 use Rattle.std.specs.Option.{option_map_or}
 use Rattle.plain_model.specs.declared.write.Place.{Place}
 use Rattle.plain_model.specs.declared.write.Place.TheVariants.{Slot, Payload, Whole}
@@ -10,7 +10,6 @@ use Rattle.cell_model.specs.Cells.{Cell}
 use Rattle.store_model.specs.Core.{Core}
 use Rattle.core_store.specs.declared.plan.Plan.{Plan}
 use Rattle.core_store.specs.declared.plan.Plan.TheVariants as plan
-use Rattle.core_store.specs.declared.want.Work.{Work}
 use Rattle.core_store.specs.Logged.{objects_of_undo}
 use Rattle.core_store.specs.Plans.{IsGranted}
 use Rattle.core_store.specs.Ready.{objects_of_plan}
@@ -32,6 +31,7 @@ objects-plan cells (plan.Read id slot into) = refl
 objects-plan cells (plan.Make id into) = refl
 objects-plan cells (plan.Store id slot target) = refl
 objects-plan cells (plan.Get id) = refl
+objects-plan cells (plan.Release id) = refl
 objects-plan cells (plan.Set id value) = refl
 objects-plan cells plan.Commit = refl
 

@@ -5,7 +5,7 @@ use Rattle.plain_model.specs.declared.calls.Call.TheVariants as call
 use Rattle.plain_model.specs.declared.calls.Reply.{Reply}
 use Rattle.plain_model.specs.declared.calls.Reply.TheVariants.{Busy}
 use Rattle.plain_model.specs.Machine.{refusal_of}
-use Rattle.strict_locks.specs.Locks.{holders_of, StandsInWay, StandsInWayOfShare, StandsInWayOfOwn, Nobody, IsLeast}
+use Rattle.strict_locks.specs.Locks.{holders_of, only_shares, StandsInWay, StandsInWayOfShare, StandsInWayOfOwn, Nobody, IsLeast}
 use Rattle.store_model.specs.Core.{Core}
 use Rattle.core_store.specs.declared.plan.Lock.{Lock}
 use Rattle.core_store.specs.declared.plan.Lock.TheVariants.{Shared, Owned}
@@ -30,6 +30,10 @@ IsShareable v pass r id = HasSubject (running_at v.transactions pass) r id × No
 abbrev pub IsOwnable : TablesView → ℕ → ℕ → ℕ → Type 0
 IsOwnable v pass r id = HasSubject (running_at v.transactions pass) r id × Nobody (StandsInWayOfOwn (holders_of v.locks id) pass)
 
+-- the register names the object, and the client shares it and doesn't own it
+abbrev pub IsReleasable : TablesView → ℕ → ℕ → ℕ → Type 0
+IsReleasable v pass r id = HasSubject (running_at v.transactions pass) r id × (only_shares (holders_of v.locks id) pass ≡ true)
+
 -- the refusal of a lock: none where no other client stands in the way, else the least one that does
 abbrev pub IsBlockedBy : TablesView → ℕ → ℕ → Lock → Option Reply → Type 0
 IsBlockedBy v pass id lock None = Nobody (StandsInWay (is_owned lock) (holders_of v.locks id) pass)
@@ -42,6 +46,7 @@ IsGranted v pass c (plan.Read id slot into) = (r : ℕ) × (c ≡ call.Read r sl
 IsGranted v pass c (plan.Make id into) = (c ≡ call.Make into) × (if_not_running (running_at v.transactions pass) ≡ None) × IsLeastOf v.free id
 IsGranted v pass c (plan.Store id slot target) = (r : ℕ) × (source : Option ℕ) × (c ≡ call.Store r slot source) × IsOwnable v pass r id × HasSource (running_at v.transactions pass) source (Ok target)
 IsGranted v pass c (plan.Get id) = (r : ℕ) × (c ≡ call.GetPay r) × IsShareable v pass r id
+IsGranted v pass c (plan.Release id) = (r : ℕ) × (c ≡ call.Release r) × IsReleasable v pass r id
 IsGranted v pass c (plan.Set id value) = (r : ℕ) × (c ≡ call.SetPay r value) × IsOwnable v pass r id
 IsGranted v pass c plan.Commit = (c ≡ call.Commit) × (if_not_running (running_at v.transactions pass) ≡ None)
 

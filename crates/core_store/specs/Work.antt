@@ -16,6 +16,7 @@ use Rattle.core_store.specs.Logged.{object_and_targets}
 abbrev pub work_of : Plan → Option Work
 work_of plan.Begin = None
 work_of plan.Commit = None
+work_of (plan.Release id) = None
 work_of (plan.Read id slot into) = Some (record { id = id; change = None })
 work_of (plan.Make id into) = Some (record { id = id; change = None })
 work_of (plan.Get id) = Some (record { id = id; change = None })

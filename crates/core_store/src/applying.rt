@@ -183,7 +183,11 @@ pub(crate) fn entries_needed(call: &Call) -> u64
 {
     match call {
         Call::Begin | Call::Store { .. } | Call::SetPay { .. } => 2,
-        Call::Read { .. } | Call::Make { .. } | Call::GetPay { .. } | Call::Commit | Call::Abort =>
-            1,
+        Call::Read { .. }
+        | Call::Make { .. }
+        | Call::GetPay { .. }
+        | Call::Release { .. }
+        | Call::Commit
+        | Call::Abort => 1,
     }
 }

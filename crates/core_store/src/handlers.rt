@@ -21,6 +21,9 @@ use log_record::CellRecord;
 use plain_model::{Call, Memory, Place, Reply, Write};
 use ref_tables::Kind;
 
+/// How many registers a transaction has, and so how many references a `Release` adds at most.
+const MOST_HELD: u32 = 8;
+
 /// What a call is answered, and what it logs.
 #[derive(Clone, Copy)]
 pub(crate) struct Performed {
@@ -83,6 +86,24 @@ impl<const SLOTS: usize> Tables<SLOTS> {
         locks::share(&mut self.locks, pass, id)?;
         Ok(Performed {
             reply: Reply::Pay(held.cell(id).payload),
+            logged: None,
+        })
+    }
+
+    /// The client gives its shared lock on the object back, and names what its registers hold until its transaction ends. Room for
+    /// that is taken first, so that nothing has to be undone.
+    fn release(&mut self, pass: u8, id: u32) -> Result<Performed, Memory>
+        requires ready { (held : List (HeldFrame SLOTS)) × IsReady (view_of self.old) held pass (Plan.Release id) }
+        ensures ok { IfOk result (λ o. (held : List (HeldFrame SLOTS)) → Does (view_of self.old) (view_of self.new) held held pass (Plan.Release id) o) }
+        ensures owed { self.new.owed ≡ self.old.owed }
+        ensures err { OnErr result (view_of self.new ≡ view_of self.old) }
+    {
+        let registers = transactions::registers(&self.transactions, pass);
+        self.references.reserve(pass, MOST_HELD)?;
+        references::note_held(&mut self.references, pass, registers);
+        self.locks.drop_shared(pass, id);
+        Ok(Performed {
+            reply: Reply::Done,
             logged: None,
         })
     }
@@ -233,6 +254,7 @@ impl<const SLOTS: usize> Tables<SLOTS> {
             Plan::Make { id, into } => self.make(held, pass, id, into),
             Plan::Store { id, slot, target } => self.store(held, pass, id, slot, target),
             Plan::Get { id } => self.get(held, pass, id),
+            Plan::Release { id } => self.release(pass, id),
             Plan::Set { id, value } => self.set(held, pass, id, value),
             Plan::Commit => Ok(self.commit(pass)),
         }

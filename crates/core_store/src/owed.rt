@@ -25,6 +25,10 @@ pub fn bytes_needed(call: &Call) -> u64
         Call::Make { .. } => 6,
         Call::Store { .. } => 43,
         Call::SetPay { .. } => 47,
-        Call::Read { .. } | Call::GetPay { .. } | Call::Commit | Call::Abort => 0,
+        Call::Read { .. }
+        | Call::GetPay { .. }
+        | Call::Release { .. }
+        | Call::Commit
+        | Call::Abort => 0,
     }
 }

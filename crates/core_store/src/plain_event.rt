@@ -47,7 +47,7 @@ pub(crate) enum PlainEvent {
 }
 
 impl Cause {
-    /// The call as a cause of what it logged. Reads log nothing, and an abort logs at its end.
+    /// The call as a cause of what it logged. Reads and releases log nothing, and an abort logs at its end.
     #[inline(always)]
     fn of(call: &Call) -> Cause
         ensures { result ≡ cause_of call.now }
@@ -60,6 +60,7 @@ impl Cause {
             Call::Commit => Cause::Commit,
             Call::Read { .. } => Cause::AbortEnd,
             Call::GetPay { .. } => Cause::AbortEnd,
+            Call::Release { .. } => Cause::AbortEnd,
             Call::Abort => Cause::AbortEnd,
         }
     }

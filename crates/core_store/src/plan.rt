@@ -3,7 +3,7 @@
 ghost use Rattle.std.specs.Prelude.{◌≡◌, ℕ, ◌+◌, ◌<◌, ◌^◌, IfOk, IfErr, IfSome, None};
 ghost use Rattle.plain_model.specs.Machine.{IsInRange};
 ghost use Rattle.core_store.specs.Transactions.{running_at};
-ghost use Rattle.core_store.specs.Plans.{IsGranted, room_needed, IsRefused, IsShareable, IsOwnable, IsBlockedBy};
+ghost use Rattle.core_store.specs.Plans.{IsGranted, room_needed, IsRefused, IsShareable, IsOwnable, IsReleasable, IsBlockedBy};
 ghost use Rattle.core_store.specs.Views.{view_of};
 
 use crate::tables::Tables;
@@ -18,6 +18,7 @@ pub(crate) enum Plan {
     Make { id: u32, into: u8 },
     Store { id: u32, slot: u8, target: u32 },
     Get { id: u32 },
+    Release { id: u32 },
     Set { id: u32, value: u64 },
     Commit,
 }
@@ -74,6 +75,20 @@ impl<const SLOTS: usize> Tables<SLOTS> {
         match self.blocked(pass, id, Lock::Owned) {
             Some(reply) => Err(reply),
             None => Ok(id),
+        }
+    }
+
+    /// The object that the register names, whose shared lock the client may give back; or the first refusal that applies.
+    fn releasable(&self, pass: u8, r: u8) -> Result<u32, Reply>
+        requires { r < 8 }
+        ensures ok { IfOk result (IsReleasable (view_of self.now) pass r) }
+        ensures err { IfErr result (λ reply. IsRefused SLOTS (view_of self.now) pass (Call.Release r) reply) }
+    {
+        let id = transactions::subject(&self.transactions, pass, r)?;
+        if self.locks.shares(pass, id) {
+            Ok(id)
+        } else {
+            Err(Reply::NotShared)
         }
     }
 
@@ -143,6 +158,10 @@ impl<const SLOTS: usize> Tables<SLOTS> {
             Call::GetPay { r } => {
                 let id = self.shareable(pass, r)?;
                 Ok(Plan::Get { id })
+            }
+            Call::Release { r } => {
+                let id = self.releasable(pass, r)?;
+                Ok(Plan::Release { id })
             }
             Call::SetPay { r, value } => {
                 let id = self.ownable(pass, r)?;

@@ -65,6 +65,12 @@ impl Transaction {
         self.registers[r as usize]
     }
 
+    pub(crate) fn registers(&self) -> [Option<u32>; 8]
+        ensures { result ≡ self.now.registers }
+    {
+        self.registers
+    }
+
     /// The id that a register has, or 0 for null; or the refusal where the register is empty.
     pub(crate) fn source(&self, from: Option<u8>) -> Result<u32, Reply>
         requires { IfSome from (λ f. f < 8) }

@@ -147,6 +147,16 @@ pub(crate) fn subject(transactions: &Transactions, pass: u8, r: u8) -> Result<u3
     }
 }
 
+/// The registers of the client; empty ones where it has no transaction.
+pub(crate) fn registers(transactions: &Transactions, pass: u8) -> [Option<u32>; 8]
+    ensures { IfSome (running_at transactions.now.entries pass) (λ t. result ≡ t.registers) }
+{
+    match transactions.get(pass) {
+        Some(transaction) => transaction.registers(),
+        None => [None; 8],
+    }
+}
+
 /// The refusal where the client has no transaction, or one that is being undone.
 pub(crate) fn not_running(transactions: &Transactions, pass: u8) -> Option<Reply>
     ensures { result ≡ if_not_running (running_at transactions.now.entries pass) }

@@ -59,7 +59,7 @@ fn work_of(plan: Plan) -> Option<Work>
     ensures { result ≡ work_of plan }
 {
     match plan {
-        Plan::Begin | Plan::Commit => None,
+        Plan::Begin | Plan::Release { .. } | Plan::Commit => None,
         Plan::Read { id, .. } | Plan::Make { id, .. } | Plan::Get { id } | Plan::Set { id, .. } => {
             Some(Work { id, change: None })
         }

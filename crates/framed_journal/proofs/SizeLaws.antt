@@ -52,6 +52,7 @@ size-after_call slots old new pass c reply.NoTxn stopped full fault does = size-
 size-after_call slots old new pass c reply.HasTxn stopped full fault does = size-after_reply slots old.journal new.journal pass c reply.HasTxn (λ e. absurd cc, λ e. absurd cc) (does tt)
 size-after_call slots old new pass c reply.Aborting stopped full fault does = size-after_reply slots old.journal new.journal pass c reply.Aborting (λ e. absurd cc, λ e. absurd cc) (does tt)
 size-after_call slots old new pass c (reply.EmptyRegister reg) stopped full fault does = size-after_reply slots old.journal new.journal pass c (reply.EmptyRegister reg) (λ e. absurd cc, λ e. absurd cc) (does tt)
+size-after_call slots old new pass c reply.NotShared stopped full fault does = size-after_reply slots old.journal new.journal pass c reply.NotShared (λ e. absurd cc, λ e. absurd cc) (does tt)
 size-after_call slots old new pass c (reply.Busy other) stopped full fault does = size-after_reply slots old.journal new.journal pass c (reply.Busy other) (λ e. absurd cc, λ e. absurd cc) (does tt)
 size-after_call slots old new pass c reply.Full stopped full fault does = size-after_reply slots old.journal new.journal pass c reply.Full (λ e. absurd cc, λ e. absurd cc) (does tt)
 

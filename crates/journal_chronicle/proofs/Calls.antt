@@ -111,6 +111,7 @@ module _ {D : Type 0} (faults : D → ℕ) (slots : ℕ) (old new : LoggedView D
   running reply.HasTxn a before = entered reply.HasTxn a before tt (λ e. absurd (cc), λ e. absurd (cc))
   running reply.Aborting a before = entered reply.Aborting a before tt (λ e. absurd (cc), λ e. absurd (cc))
   running (reply.EmptyRegister n) a before = entered (reply.EmptyRegister n) a before tt (λ e. absurd (cc), λ e. absurd (cc))
+  running reply.NotShared a before = entered reply.NotShared a before tt (λ e. absurd (cc), λ e. absurd (cc))
   running (reply.Busy n) a before = entered (reply.Busy n) a before tt (λ e. absurd (cc), λ e. absurd (cc))
   running reply.Full a before = entered reply.Full a before tt (λ e. absurd (cc), λ e. absurd (cc))
 

@@ -73,6 +73,7 @@ has-success s p q t (call.Read r slot into) up = has-insert p q (next_transactio
 has-success s p q t (call.Make into) up = has-insert p q (next_transaction s t (call.Make into)) s.active
 has-success s p q t (call.Store r slot source) up = has-insert p q (next_transaction s t (call.Store r slot source)) s.active
 has-success s p q t (call.GetPay r) up = has-insert p q (next_transaction s t (call.GetPay r)) s.active
+has-success s p q t (call.Release r) up = has-insert p q (next_transaction s t (call.Release r)) s.active
 has-success s p q t (call.SetPay r value) up = has-insert p q (next_transaction s t (call.SetPay r value)) s.active
 
 ascend-success : (s : State) (q : ℕ) (t : ActiveTransaction) (c : TransactionCall) → PassesAscend s.active → PassesAscend (success s q t c).1.active
@@ -83,6 +84,7 @@ ascend-success s q t (call.Read r slot into) up = ascend-insert q (next_transact
 ascend-success s q t (call.Make into) up = ascend-insert q (next_transaction s t (call.Make into)) s.active up
 ascend-success s q t (call.Store r slot source) up = ascend-insert q (next_transaction s t (call.Store r slot source)) s.active up
 ascend-success s q t (call.GetPay r) up = ascend-insert q (next_transaction s t (call.GetPay r)) s.active up
+ascend-success s q t (call.Release r) up = ascend-insert q (next_transaction s t (call.Release r)) s.active up
 ascend-success s q t (call.SetPay r value) up = ascend-insert q (next_transaction s t (call.SetPay r value)) s.active up
 
 -- the step of a call that is refused, and of one that isn't
@@ -122,6 +124,7 @@ refused-tells s q o (call.Read a b d) r e = (refl, λ g. absurd (cc))
 refused-tells s q o (call.Make a) r e = (refl, λ g. absurd (cc))
 refused-tells s q o (call.Store a b d) r e = (refl, λ g. absurd (cc))
 refused-tells s q o (call.GetPay a) r e = (refl, λ g. absurd (cc))
+refused-tells s q o (call.Release a) r e = (refl, λ g. absurd (cc))
 refused-tells s q o (call.SetPay a b) r e = (refl, λ g. absurd (cc))
 
 -- what is done tells of a transaction what it does
@@ -136,6 +139,7 @@ granted-tells s q None (call.Read x y z) answer e a = absurd (cc)
 granted-tells s q None (call.Make x) answer e a = absurd (cc)
 granted-tells s q None (call.Store x y z) answer e a = absurd (cc)
 granted-tells s q None (call.GetPay x) answer e a = absurd (cc)
+granted-tells s q None (call.Release x) answer e a = absurd (cc)
 granted-tells s q None (call.SetPay x y) answer e a = absurd (cc)
 granted-tells s q (Some t) call.Begin answer e a = absurd (cc)
 granted-tells s q (Some t) call.Commit answer e (inl f) = rw f refl
@@ -146,6 +150,7 @@ granted-tells s q (Some t) (call.Read x y z) answer e a = refl
 granted-tells s q (Some t) (call.Make x) answer e a = refl
 granted-tells s q (Some t) (call.Store x y z) answer e a = refl
 granted-tells s q (Some t) (call.GetPay x) answer e a = refl
+granted-tells s q (Some t) (call.Release x) answer e a = refl
 granted-tells s q (Some t) (call.SetPay x y) answer e a = refl
 
 untold : (b : Bool) (o : Option Bool) (had : Bool) → o ≡ None → (if b then unwrap_or o had else had) ≡ had

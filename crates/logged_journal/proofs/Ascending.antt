@@ -20,6 +20,7 @@ ascend-success s pass t (call.Read r slot into) a = ascend-insert pass _ s.activ
 ascend-success s pass t (call.Make into) a = ascend-insert pass _ s.active a
 ascend-success s pass t (call.Store r slot source) a = ascend-insert pass _ s.active a
 ascend-success s pass t (call.GetPay r) a = ascend-insert pass _ s.active a
+ascend-success s pass t (call.Release r) a = ascend-insert pass _ s.active a
 ascend-success s pass t (call.SetPay r value) a = ascend-insert pass _ s.active a
 ascend-success s pass t call.Commit a = ascend-remove pass s.active a
 ascend-success s pass t call.Abort a = ascend-remove pass s.active a

@@ -1,6 +1,6 @@
 -- Each active transaction could have run alone, with the replies that it got.
 use Rattle.std.proofs.Common.{◌≡◌, ◌≢◌, ℕ, List, [], ◌∷◌, ◌++◌, Option, Some, None, refl, sym, ap, ◌∙◌, subst, arith, true, false, ⊎_elim, ◌⊎◌, inl, inr}
-use Rattle.std.specs.Prelude.{◌==◌, ◌&&◌, if◌then◌else◌, is_some, unwrap_or}
+use Rattle.std.specs.Prelude.{◌==◌, ◌&&◌, ◌||◌, if◌then◌else◌, is_some, unwrap_or}
 use Rattle.std.specs.Option.{option_map_or}
 use Rattle.std.specs.Ordering.{nat_cmp}
 use Rattle.std.specs.BTreeMap.{is_at}
@@ -9,7 +9,7 @@ use Rattle.std.proofs.lemmas.Bool.Decides.{nat_tests}
 use Rattle.std.proofs.lemmas.List.Sums.{fold-append}
 use Rattle.plain_model.specs.declared.object.Object.{Object}
 use Rattle.plain_model.specs.declared.calls.Call.{Call as TransactionCall}
-use Rattle.plain_model.specs.declared.calls.Call.TheVariants.{Begin, Read, Make, Store, GetPay, SetPay, Commit, Abort}
+use Rattle.plain_model.specs.declared.calls.Call.TheVariants.{Begin, Read, Make, Store, GetPay, SetPay, Release, Commit, Abort}
 use Rattle.plain_model.specs.declared.calls.Reply.{Reply}
 use Rattle.plain_model.specs.declared.calls.Reply.TheVariants.{Done}
 use Rattle.plain_model.specs.declared.calls.Entry.{Entry}
@@ -19,7 +19,7 @@ use Rattle.plain_model.specs.ActiveTransaction.{ActiveTransaction}
 use Rattle.plain_model.specs.Machine.{State, is_among, new_transaction, transaction_of, with_transaction, without_transaction, after_commit_of, step, success, refusal_in, free_id, own_graph, register_id}
 use Rattle.plain_model.specs.History.{Moment, IsAllowed, IsFailedCommit, next, holds, after_undo, after_delete}
 use Rattle.plain_laws.specs.Sound.{is_crash, IsSoundTransaction, IsSoundState, IsSoundMoment}
-use Rattle.plain_model.specs.Serial.{AnsweredCall, is_success, with_call, with_answer, answered_calls}
+use Rattle.plain_model.specs.Serial.{AnsweredCall, is_success, is_release, has_released, with_call, with_answer, answered_calls}
 use Rattle.plain_laws.specs.Laws.{commit-leaves_held}
 use Rattle.plain_laws.proofs.Entries.{at, change-insert, change-set_value, at-remove}
 use Rattle.plain_laws.proofs.Ids.{test_same}
@@ -27,7 +27,7 @@ use Rattle.plain_laws.proofs.Lookups.{object_at-after_writes, writes_at-other}
 use Rattle.plain_laws.proofs.States.{contrary, not_true, apart-now, unowned_unwritten}
 use Rattle.plain_laws.proofs.Legal.{sound-next, without_other}
 use Rattle.plain_laws.proofs.Transactions.{holds-shares_more, holds-owns_more}
-use Rattle.plain_laws.proofs.Alone.{AgreesHeld, IsWork, next_transaction, work-active, work-committed, work-aborting, work_alone, Runs, Runs-push, Runs-begin}
+use Rattle.plain_laws.proofs.Alone.{AgreesHeld, IsWork, KeepsLocks, next_transaction, work-active, work-committed, work-aborting, work_alone, Runs, Runs-push, Runs-begin}
 use Rattle.plain_laws.proofs.Ways.{Way, refused, begins, succeeds, way, success-succeeds}
 
 -- ---- a commit leaves what others hold
@@ -59,13 +59,30 @@ with_call-work sofar (Read r slot into) reply w = refl
 with_call-work sofar (GetPay r) reply w = refl
 with_call-work sofar (Store r slot x) reply w = refl
 with_call-work sofar (SetPay r v) reply w = refl
+with_call-work sofar (Release r) reply w = refl
 with_call-work sofar (Make into) reply w = refl
+
+-- a call more, where none so far gave a lock back
+pub released-push : (sofar : List AnsweredCall) (x : AnsweredCall) → has_released (sofar ++ x ∷ []) ≡ false → (has_released sofar ≡ false) × (is_release x.call ≡ false)
+released-push [] x f = (refl, elim (is_release x.call) as (λ b. (b || false) ≡ false → b ≡ false) [ true ↦ λ e. e | false ↦ λ e. e ] f)
+released-push (y ∷ ys) x f = elim (is_release y.call) as (λ b. (b || has_released (ys ++ x ∷ [])) ≡ false → ((b || has_released ys) ≡ false) × (is_release x.call ≡ false)) [ true ↦ λ e. absurd (cc) | false ↦ λ e. released-push ys x e ] f
+
+keeps_locks : (call : TransactionCall) → is_release call ≡ false → KeepsLocks call
+keeps_locks (Release r) f = absurd (cc)
+keeps_locks Begin f = tt
+keeps_locks Commit f = tt
+keeps_locks Abort f = tt
+keeps_locks (Read r slot into) f = tt
+keeps_locks (GetPay r) f = tt
+keeps_locks (Store r slot x) f = tt
+keeps_locks (SetPay r v) f = tt
+keeps_locks (Make into) f = tt
 
 -- ---- each active transaction could have run alone
 
--- on each graph that agrees with the committed one where the transaction holds objects
+-- on each graph that agrees with the committed one where the transaction holds objects, unless it gave a shared lock back
 abbrev pub IsTold : ℕ → ℕ → List Entry → State → Type 0
-IsTold ids slots before s = (p : ℕ) (t : ActiveTransaction) → transaction_of s p ≡ Some t → t.aborting ≡ false → (g : List Object) → AgreesHeld g s.committed t → Runs ids slots g p (answered_calls p before) t
+IsTold ids slots before s = (p : ℕ) (t : ActiveTransaction) → transaction_of s p ≡ Some t → t.aborting ≡ false → has_released (answered_calls p before) ≡ false → (g : List Object) → AgreesHeld g s.committed t → Runs ids slots g p (answered_calls p before) t
 
 -- the entry doesn't concern the transaction
 pub record IsKept (before : List Entry) (e : Entry) (s n : State) (q : ℕ) (u : ActiveTransaction) : Type 0 where
@@ -75,28 +92,30 @@ pub record IsKept (before : List Entry) (e : Entry) (s n : State) (q : ℕ) (u :
 
 -- or the transaction runs alone after it
 abbrev IsFresh : ℕ → ℕ → List Entry → Entry → State → ℕ → ActiveTransaction → Type 0
-IsFresh ids slots before e n q u = (g : List Object) → AgreesHeld g n.committed u → Runs ids slots g q (with_answer q (answered_calls q before) e) u
+IsFresh ids slots before e n q u = has_released (with_answer q (answered_calls q before) e) ≡ false → (g : List Object) → AgreesHeld g n.committed u → Runs ids slots g q (with_answer q (answered_calls q before) e) u
 
 agrees-back : (g c d : List Object) (t : ActiveTransaction) → ((x : ℕ) → holds x t ≡ true → object_at d x ≡ object_at c x) → AgreesHeld g d t → AgreesHeld g c t
 agrees-back g c d t same a x h m = let e = same x h in a x h (ap is_some e ∙ m) ∙ e
 
 told-by : (ids slots : ℕ) (before : List Entry) (e : Entry) (s n : State) → IsTold ids slots before s → ((q : ℕ) (u : ActiveTransaction) → transaction_of n q ≡ Some u → u.aborting ≡ false → IsKept before e s n q u ⊎ IsFresh ids slots before e n q u) → IsTold ids slots (before ++ e ∷ []) n
-told-by ids slots before e s n told each q u f a g agrees =
+told-by ids slots before e s n told each q u f a none g agrees =
+    let here : has_released (with_answer q (answered_calls q before) e) ≡ false = subst (λ xs. has_released xs ≡ false) (asked-push q before e) none in
     subst (λ xs. Runs ids slots g q xs u) (sym (asked-push q before e))
     (⊎_elim
-    (λ (k : IsKept before e s n q u). subst (λ xs. Runs ids slots g q xs u) (sym k.asks) (told q u k.was a g (agrees-back g s.committed n.committed u k.same agrees)))
-    (λ k. k g agrees)
+    (λ (k : IsKept before e s n q u). subst (λ xs. Runs ids slots g q xs u) (sym k.asks) (told q u k.was a (subst (λ xs. has_released xs ≡ false) k.asks here) g (agrees-back g s.committed n.committed u k.same agrees)))
+    (λ k. k here g agrees)
     (each q u f a))
 
-held_more : (s : State) (t : ActiveTransaction) (call : TransactionCall) → IsWork call → (x : ℕ) → holds x t ≡ true → holds x (next_transaction s t call) ≡ true
-held_more s t Begin w x m = absurd w
-held_more s t Commit w x m = absurd w
-held_more s t Abort w x m = absurd w
-held_more s t (Read r slot into) w x m = holds-shares_more x (register_id t r) t m
-held_more s t (GetPay r) w x m = holds-shares_more x (register_id t r) t m
-held_more s t (Store r slot y) w x m = holds-owns_more x (register_id t r) t m
-held_more s t (SetPay r v) w x m = holds-owns_more x (register_id t r) t m
-held_more s t (Make into) w x m = holds-owns_more x (unwrap_or (free_id s) 0) t m
+held_more : (s : State) (t : ActiveTransaction) (call : TransactionCall) → IsWork call → KeepsLocks call → (x : ℕ) → holds x t ≡ true → holds x (next_transaction s t call) ≡ true
+held_more s t Begin w l x m = absurd w
+held_more s t Commit w l x m = absurd w
+held_more s t Abort w l x m = absurd w
+held_more s t (Read r slot into) w l x m = holds-shares_more x (register_id t r) t m
+held_more s t (GetPay r) w l x m = holds-shares_more x (register_id t r) t m
+held_more s t (Store r slot y) w l x m = holds-owns_more x (register_id t r) t m
+held_more s t (SetPay r v) w l x m = holds-owns_more x (register_id t r) t m
+held_more s t (Release r) w l x m = absurd l
+held_more s t (Make into) w l x m = holds-owns_more x (unwrap_or (free_id s) 0) t m
 
 -- a call between begin and end
 told-work : (ids slots : ℕ) (before : List Entry) (s : State) (pass : ℕ) (t : ActiveTransaction) (call : TransactionCall) (reply : Reply) → IsWork call → s.slots ≡ slots → IsSoundState s → IsSoundState (success s pass t call).1 → transaction_of s pass ≡ Some t → refusal_in s pass t call ≡ None → reply ≡ (success s pass t call).0
@@ -111,14 +130,16 @@ told-work ids slots before s pass t call reply w sl h h2 e f r told =
     (λ (c : (q ≡ pass) × (v ≡ u)).
     let sound : IsSoundTransaction s.committed n.stored u = subst (λ g. IsSoundTransaction g n.stored u) same (subst (IsSoundTransaction n.committed n.stored) c.1 (h2.transactions q v k)) in
     let alive : t.aborting ≡ false = sym (work-aborting s t call w) ∙ (sym (ap (λ (z : ActiveTransaction). z.aborting) c.1) ∙ a) in
-    inr (λ g agrees.
-    let agrees2 : AgreesHeld g s.committed u = subst (λ d. AgreesHeld g d u) same (subst (AgreesHeld g n.committed) c.1 agrees) in
-    let agrees1 : AgreesHeld g s.committed t = λ x m. agrees2 x (held_more s t call w x m) in
-    let before_it = told pass t e alive g agrees1 in
-    let goes = work_alone s ids slots g before_it.stored n.stored pass t call w sl h.committed sound f agrees2 in
-    let run = Runs-push ids slots g pass (answered_calls pass before) t u call (success s pass t call).0 before_it goes in
+    inr (λ none g agrees.
     let listed : with_answer pass (answered_calls pass before) (Call pass call reply) ≡ answered_calls pass before ++ record { call = call; reply = (success s pass t call).0 } ∷ [] =
     ask-own pass (answered_calls pass before) call reply (ap is_success r ∙ success-succeeds s pass t call) ∙ (with_call-work (answered_calls pass before) call reply w ∙ ap (λ (z : Reply). answered_calls pass before ++ record { call = call; reply = z } ∷ []) r) in
+    let kept = released-push (answered_calls pass before) (record { call = call; reply = (success s pass t call).0 }) (subst (λ xs. has_released xs ≡ false) listed (subst (λ z. has_released (with_answer z (answered_calls z before) (Call pass call reply)) ≡ false) c.0 none)) in
+    let locks = keeps_locks call kept.1 in
+    let agrees2 : AgreesHeld g s.committed u = subst (λ d. AgreesHeld g d u) same (subst (AgreesHeld g n.committed) c.1 agrees) in
+    let agrees1 : AgreesHeld g s.committed t = λ x m. agrees2 x (held_more s t call w locks x m) in
+    let before_it = told pass t e alive kept.0 g agrees1 in
+    let goes = work_alone s ids slots g before_it.stored n.stored pass t call w locks sl h.committed sound f agrees2 in
+    let run = Runs-push ids slots g pass (answered_calls pass before) t u call (success s pass t call).0 before_it goes in
     let here : Runs ids slots g pass (with_answer pass (answered_calls pass before) (Call pass call reply)) u = subst (λ xs. Runs ids slots g pass xs u) (sym listed) run in
     subst (λ z. Runs ids slots g q (with_answer q (answered_calls q before) (Call pass call reply)) z) (sym c.1) (subst (λ z. Runs ids slots g z (with_answer z (answered_calls z before) (Call pass call reply)) u) (sym c.0) here)))
     (λ (c : (q ≢ pass) × (at q s.active ≡ Some v)). inl (record { asks = ask-other pass q (answered_calls q before) call reply c.0; was = c.1; same = λ x m. ap (λ d. object_at d x) same }))
@@ -129,7 +150,7 @@ told-begin : (ids slots : ℕ) (before : List Entry) (s : State) (pass : ℕ) �
 told-begin ids slots before s pass told =
     told-by ids slots before (Call pass Begin Done) s (with_transaction s pass new_transaction) told (λ q v k a.
     ⊎_elim
-    (λ (c : (q ≡ pass) × (v ≡ new_transaction)). inr (λ g agrees.
+    (λ (c : (q ≡ pass) × (v ≡ new_transaction)). inr (λ none g agrees.
     let here : Runs ids slots g pass (with_answer pass (answered_calls pass before) (Call pass Begin Done)) new_transaction = subst (λ xs. Runs ids slots g pass xs new_transaction) (sym (ask-own pass (answered_calls pass before) Begin Done refl)) (Runs-begin ids slots g pass) in
     subst (λ z. Runs ids slots g q (with_answer q (answered_calls q before) (Call pass Begin Done)) z) (sym c.1) (subst (λ z. Runs ids slots g z (with_answer z (answered_calls z before) (Call pass Begin Done)) new_transaction) (sym c.0) here)))
     (λ (c : (q ≢ pass) × (at q s.active ≡ Some v)). inl (record { asks = ask-other pass q (answered_calls q before) Begin Done c.0; was = c.1; same = λ x m. refl }))
@@ -163,6 +184,7 @@ told-success ids slots before s pass t (Read rr slot into) reply sl h h2 e f r t
 told-success ids slots before s pass t (GetPay rr) reply sl h h2 e f r told = told-work ids slots before s pass t (GetPay rr) reply tt sl h h2 e f (r (λ c. absurd (cc))) told
 told-success ids slots before s pass t (Store rr slot x) reply sl h h2 e f r told = told-work ids slots before s pass t (Store rr slot x) reply tt sl h h2 e f (r (λ c. absurd (cc))) told
 told-success ids slots before s pass t (SetPay rr v) reply sl h h2 e f r told = told-work ids slots before s pass t (SetPay rr v) reply tt sl h h2 e f (r (λ c. absurd (cc))) told
+told-success ids slots before s pass t (Release rr) reply sl h h2 e f r told = told-work ids slots before s pass t (Release rr) reply tt sl h h2 e f (r (λ c. absurd (cc))) told
 told-success ids slots before s pass t (Make into) reply sl h h2 e f r told = told-work ids slots before s pass t (Make into) reply tt sl h h2 e f (r (λ c. absurd (cc))) told
 
 told-call : (ids slots : ℕ) (before : List Entry) (s : State) (pass : ℕ) (call : TransactionCall) (reply : Reply) → s.slots ≡ slots → IsSoundState s → IsSoundState (step s pass call).1 → (reply ≡ (step s pass call).0) ⊎ IsFailedCommit s pass call reply

@@ -3,11 +3,11 @@ use Rattle.std.proofs.Common.{◌≡◌, ℕ, Option, Some, None, refl, sym, sub
 use Rattle.std.specs.Prelude.{if◌then◌else◌, is_some}
 use Rattle.std.specs.Option.{option_map_or}
 use Rattle.plain_model.specs.declared.calls.Call.{Call as TransactionCall}
-use Rattle.plain_model.specs.declared.calls.Call.TheVariants.{Begin, Read, Make, Store, GetPay, SetPay, Commit, Abort}
+use Rattle.plain_model.specs.declared.calls.Call.TheVariants.{Begin, Read, Make, Store, GetPay, SetPay, Release, Commit, Abort}
 use Rattle.plain_model.specs.declared.calls.Reply.{Reply}
-use Rattle.plain_model.specs.declared.calls.Reply.TheVariants.{Done, Aborting, EmptyRegister, Full}
+use Rattle.plain_model.specs.declared.calls.Reply.TheVariants.{Done, Aborting, EmptyRegister, NotShared, Full}
 use Rattle.plain_model.specs.ActiveTransaction.{ActiveTransaction}
-use Rattle.plain_model.specs.Machine.{State, register, new_transaction, transaction_of, with_transaction, step, success, refusal_in, refusal_out, or_else, if_empty, if_busy, if_aborting, free_id}
+use Rattle.plain_model.specs.Machine.{State, register, new_transaction, transaction_of, with_transaction, step, success, refusal_in, refusal_out, or_else, if_empty, if_not_shared, only_shares, if_busy, if_aborting, free_id}
 use Rattle.plain_model.specs.Serial.{is_success}
 
 -- ---- a refusal is no success
@@ -29,6 +29,9 @@ refusal-busy : (o : Option ℕ) → IsRefusal (if_busy o)
 refusal-busy (Some p) = refl
 refusal-busy None = refl
 
+refusal-not_shared : (t : ActiveTransaction) (id : ℕ) → IsRefusal (if_not_shared t id)
+refusal-not_shared t id = elim (only_shares id t) as (λ b. IsRefusal (if b then None else Some NotShared)) [ true ↦ refl | false ↦ refl ]
+
 refusal-source : (t : ActiveTransaction) (f : Option ℕ) → IsRefusal (option_map_or (if_empty t) f None)
 refusal-source t (Some f) = refusal-empty t f
 refusal-source t None = refl
@@ -41,6 +44,7 @@ refusal-in s pass t (Read r slot into) = refusal-or_else _ _ (refusal-aborting t
 refusal-in s pass t (GetPay r) = refusal-or_else _ _ (refusal-aborting t) (refusal-or_else _ _ (refusal-empty t r) (refusal-busy _))
 refusal-in s pass t (Store r slot f) = refusal-or_else _ _ (refusal-aborting t) (refusal-or_else _ _ (refusal-empty t r) (refusal-or_else _ _ (refusal-source t f) (refusal-busy _)))
 refusal-in s pass t (SetPay r v) = refusal-or_else _ _ (refusal-aborting t) (refusal-or_else _ _ (refusal-empty t r) (refusal-busy _))
+refusal-in s pass t (Release r) = refusal-or_else _ _ (refusal-aborting t) (refusal-or_else _ _ (refusal-empty t r) (refusal-not_shared t _))
 refusal-in s pass t (Make into) = refusal-or_else _ _ (refusal-aborting t) (elim (is_some (free_id s)) as (λ b. IsRefusal (if b then None else Some Full)) [ true ↦ refl | false ↦ refl ])
 
 refusal-out : (call : TransactionCall) → IsRefusal (refusal_out call)
@@ -49,6 +53,7 @@ refusal-out (Read r slot into) = refl
 refusal-out (GetPay r) = refl
 refusal-out (Store r slot f) = refl
 refusal-out (SetPay r v) = refl
+refusal-out (Release r) = refl
 refusal-out (Make into) = refl
 refusal-out Commit = refl
 refusal-out Abort = refl
@@ -59,6 +64,7 @@ success-succeeds s pass t (Read r slot into) = refl
 success-succeeds s pass t (GetPay r) = refl
 success-succeeds s pass t (Store r slot f) = refl
 success-succeeds s pass t (SetPay r v) = refl
+success-succeeds s pass t (Release r) = refl
 success-succeeds s pass t (Make into) = refl
 success-succeeds s pass t Commit = refl
 success-succeeds s pass t Abort = refl
@@ -88,6 +94,7 @@ way s pass call = by (transaction_of s pass) refl
         only_begin (GetPay r) g = absurd (cc)
         only_begin (Store r slot x) g = absurd (cc)
         only_begin (SetPay r v) g = absurd (cc)
+        only_begin (Release r) g = absurd (cc)
         only_begin (Make into) g = absurd (cc)
         only_begin Commit g = absurd (cc)
         only_begin Abort g = absurd (cc)

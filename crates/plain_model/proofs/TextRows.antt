@@ -2,8 +2,8 @@
 use Rattle.std.proofs.Common.{◌≡◌, List, [], ◌∷◌, None, refl}
 use Rattle.std.specs.Prelude.{codes}
 use Rattle.std.specs.Fmt.{digits}
-use Rattle.plain_model.specs.declared.calls.Call.TheVariants.{Begin, Read, Make, Store, GetPay, SetPay, Commit, Abort}
-use Rattle.plain_model.specs.declared.calls.Reply.TheVariants.{Done, Id, Pay, NoTxn, HasTxn, Aborting, EmptyRegister, Busy, Full, DiskFault}
+use Rattle.plain_model.specs.declared.calls.Call.TheVariants.{Begin, Read, Make, Store, GetPay, SetPay, Release, Commit, Abort}
+use Rattle.plain_model.specs.declared.calls.Reply.TheVariants.{Done, Id, Pay, NoTxn, HasTxn, Aborting, EmptyRegister, NotShared, Busy, Full, DiskFault}
 use Rattle.plain_model.specs.declared.calls.Entry.{Entry}
 use Rattle.plain_model.specs.declared.calls.Entry.TheVariants.{Call, Delete, Hidden, Undo, TurnBusy, Crash}
 use Rattle.plain_model.specs.Graphs.{blank}
@@ -23,8 +23,8 @@ stored-text = refl
 -- each verb, and each other reply
 refusals : List Entry
 refusals =
-    Call 64 (Read 0 0 1) NoTxn ∷ Call 7 Begin HasTxn ∷ Call 7 (Store 0 5 None) (EmptyRegister 0) ∷ Call 7 (GetPay 0) (Pay 10) ∷ Call 7 (SetPay 0 9) (Busy 12) ∷ Call 7 (Make 1) Full ∷ Call 8 Commit Aborting ∷ Call 7 Commit DiskFault ∷ []
+    Call 64 (Read 0 0 1) NoTxn ∷ Call 7 Begin HasTxn ∷ Call 7 (Store 0 5 None) (EmptyRegister 0) ∷ Call 7 (GetPay 0) (Pay 10) ∷ Call 7 (SetPay 0 9) (Busy 12) ∷ Call 7 (Make 1) Full ∷ Call 8 Commit Aborting ∷ Call 7 Commit DiskFault ∷ Call 9 (Release 3) NotShared ∷ []
 
-refusals-text : text_of refusals ≡ codes "64 read: notxn\n7 begin: hastxn\n7 store: empty 0\n7 get: 10\n7 set: busy 12\n7 make: full\n8 commit: aborting\n7 commit: fault\n"
+refusals-text : text_of refusals ≡ codes "64 read: notxn\n7 begin: hastxn\n7 store: empty 0\n7 get: 10\n7 set: busy 12\n7 make: full\n8 commit: aborting\n7 commit: fault\n9 release: notshared\n"
 unfolding refusals digits
 refusals-text = refl

@@ -2,7 +2,7 @@
 ghost use Rattle.std.specs.Prelude.{◌≡◌, ◌<◌, IfOk, IfErr, IfSome, Some, None, ◌||◌, true};
 ghost use Rattle.std.specs.Option.{option_map_or};
 ghost use Rattle.plain_model.specs.Graphs.{applied, FitsPlace};
-ghost use Rattle.plain_model.specs.Machine.{new_transaction, register, register_id, with_id, with_owned, with_register, with_write, is_among, if_empty, with_shared, nonzero};
+ghost use Rattle.plain_model.specs.Machine.{new_transaction, register, register_id, with_id, with_owned, with_register, with_write, is_among, if_empty, only_shares, with_shared, without_id, without_shared, nonzero};
 
 use crate::calls::Reply;
 use crate::graph::Graph;
@@ -42,6 +42,18 @@ fn with_id(alloc: Global, ids: &[u32], id: u32) -> Result<Vec<u32>, Memory>
         v.push(id)?;
     }
     Ok(v)
+}
+
+/// The list without the id.
+fn without_id(alloc: Global, ids: &[u32], id: u32) -> Result<Vec<u32>, Memory>
+    ensures { IfOk result (λ v. v.items ≡ without_id id ids.now) }
+{
+    let left = ids
+        .iter()
+        .copied()
+        .filter(|other| *other != id)
+        .collect(alloc)?;
+    Ok(left)
 }
 
 impl Transaction {
@@ -130,6 +142,29 @@ impl Transaction {
         ensures { IfOk result (λ t. t ≡ with_shared id self.now) }
     {
         let shared = with_id(alloc, self.shared.as_slice(), id)?;
+        let owned = Vec::from_slice(alloc, self.owned.as_slice())?;
+        let writes = Vec::from_slice(alloc, self.writes.as_slice())?;
+        Ok(Transaction {
+            writes,
+            shared,
+            owned,
+            registers: self.registers,
+            aborting: self.aborting,
+        })
+    }
+
+    /// Whether it shares the object and doesn't own it.
+    pub(crate) fn only_shares(&self, id: u32) -> bool
+        ensures { result ≡ only_shares id self.now }
+    {
+        self.shared.contains(&id) && !self.owned.contains(&id)
+    }
+
+    /// The transaction after it gave its share of the object back.
+    pub(crate) fn without_share(&self, alloc: Global, id: u32) -> Result<Transaction, Memory>
+        ensures { IfOk result (λ t. t ≡ without_shared id self.now) }
+    {
+        let shared = without_id(alloc, self.shared.as_slice(), id)?;
         let owned = Vec::from_slice(alloc, self.owned.as_slice())?;
         let writes = Vec::from_slice(alloc, self.writes.as_slice())?;
         Ok(Transaction {

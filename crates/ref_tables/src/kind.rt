@@ -9,6 +9,8 @@ pub enum Kind {
     Put,
     /// It took a reference to the object out of a slot.
     Cut,
+    /// It had the object in a register when it gave a shared lock back.
+    Held,
 }
 
 /// An entry of the temporary reference table: the object's id, and what the client did with it.

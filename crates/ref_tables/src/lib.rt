@@ -1,7 +1,7 @@
 //! Two tables of an object store's journal.
 //!
 //! `TempRefs` is the temporary reference table: the references that running transactions made, laid
-//! into slots or cut. What it names must not be deleted. `ZeroQueue` is the queue of the objects that
+//! into slots or cut, or had in registers when they gave a shared lock back. What it names must not be deleted. `ZeroQueue` is the queue of the objects that
 //! no strong reference leads to: those that a collector has to look at.
 #![tactic(auto)]
 

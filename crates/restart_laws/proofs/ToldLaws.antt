@@ -12,7 +12,7 @@ use Rattle.plain_model.specs.declared.write.Place.{Place}
 use Rattle.plain_model.specs.declared.write.Place.TheVariants.{Slot, Payload, Whole}
 use Rattle.plain_model.specs.declared.write.Write.{Write}
 use Rattle.plain_model.specs.declared.calls.Call.{Call as TransactionCall}
-use Rattle.plain_model.specs.declared.calls.Call.TheVariants.{Begin as BeginCall, Read, Make as MakeCall, Store as StoreCall, GetPay, SetPay, Commit as CommitCall, Abort}
+use Rattle.plain_model.specs.declared.calls.Call.TheVariants.{Begin as BeginCall, Read, Make as MakeCall, Store as StoreCall, GetPay, SetPay, Release, Commit as CommitCall, Abort}
 use Rattle.plain_model.specs.declared.calls.Reply.{Reply}
 use Rattle.plain_model.specs.declared.calls.Reply.TheVariants.{Done, Full, Aborting}
 use Rattle.plain_model.specs.declared.calls.Entry.{Entry}
@@ -28,7 +28,7 @@ use Rattle.cell_model.specs.Cells.{Cell, cell_at, pointer_at}
 use Rattle.cell_model.specs.Records.{Record, Begin, Make, Store, Pay, Commit, Undo, UndoPay, AbortEnd, Weaken, Strengthen, Flip, CutDead, Free}
 use Rattle.store_model.specs.Core.{Core}
 use Rattle.store_model.specs.Sound.{IsSound}
-use Rattle.store_model.specs.Steps.{Replaces, undone_by, read_by, get_by, set_by, store_by, make_by, moment_with, moment_begun, moment_committed, moment_aborted}
+use Rattle.store_model.specs.Steps.{Replaces, undone_by, read_by, get_by, release_by, set_by, store_by, make_by, moment_with, moment_begun, moment_committed, moment_aborted}
 use Rattle.store_model.proofs.Lists.{each}
 use Rattle.store_model.proofs.StepLaws.{replaces}
 use Rattle.store_model.proofs.ActiveLaws.{active-at, owner}
@@ -230,6 +230,9 @@ module _ (c : Core) (s : IsSound c) (pass : ℕ) (t : ActiveTransaction) (a : tr
   granted-call (GetPay r) reply logged g all h =
       is_told-of c.moment _ logged None h (nothing-told c.moment (next c.moment (Call pass (GetPay r) reply)) (granted-told c.moment s.state pass t a (GetPay r) reply (λ e. cc) g
       ∙ unwritten-told c.moment s.state pass t a (get_by t (register_id t r)) refl refl))
+  granted-call (Release r) reply logged g all h =
+      is_told-of c.moment _ logged None h (nothing-told c.moment (next c.moment (Call pass (Release r) reply)) (granted-told c.moment s.state pass t a (Release r) reply (λ e. cc) g
+      ∙ unwritten-told c.moment s.state pass t a (release_by t (register_id t r)) refl refl))
   granted-call (MakeCall into) reply logged g all h =
       let id = unwrap_or (free_id c.moment.state) 0 in
       let q = or_else_none (if_aborting t) (if is_some (free_id c.moment.state) then None else Some Full) g in
@@ -317,6 +320,7 @@ call-told c s pass call reply logged a None r None f h =
     begin (StoreCall x slot source) reply h e o = cc
     begin (GetPay x) reply h e o = cc
     begin (SetPay x v) reply h e o = cc
+    begin (Release x) reply h e o = cc
     begin CommitCall reply h e o = cc
     begin Abort reply h e o = cc
 call-told c s pass call reply logged a None r (Some t) f h =

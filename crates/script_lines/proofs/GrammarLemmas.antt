@@ -5,7 +5,7 @@ use Rattle.std.proofs.lemmas.Slice.Eq.{bytes_eq-Decides}
 use Rattle.script_lines.specs.Fields.{fields_of}
 use Rattle.script_lines.specs.Numbers.{client_of}
 use Rattle.script_lines.specs.declared.verb.Verb.{Verb}
-use Rattle.script_lines.specs.declared.verb.Verb.TheVariants.{Begin, Read, Make, Store, Get, Set, Commit, Abort, Undo}
+use Rattle.script_lines.specs.declared.verb.Verb.TheVariants.{Begin, Read, Make, Store, Get, Set, Release, Commit, Abort, Undo}
 use Rattle.script_lines.specs.Grammar.{request_of, is_collector, is_cleaner, is_crash, client_line, line_of_party, is_comment, verb_of, meaning_of}
 
 -- no client's line has more than three operands
@@ -20,6 +20,7 @@ request_of-many client Make (a ∷ b ∷ d ∷ e ∷ es) many = refl
 request_of-many client Store (a ∷ b ∷ d ∷ e ∷ es) many = refl
 request_of-many client Get (a ∷ b ∷ d ∷ e ∷ es) many = refl
 request_of-many client Set (a ∷ b ∷ d ∷ e ∷ es) many = refl
+request_of-many client Release (a ∷ b ∷ d ∷ e ∷ es) many = refl
 request_of-many client Commit (a ∷ b ∷ d ∷ e ∷ es) many = refl
 request_of-many client Abort (a ∷ b ∷ d ∷ e ∷ es) many = refl
 request_of-many client Undo (a ∷ b ∷ d ∷ e ∷ es) many = refl

@@ -3,7 +3,7 @@ use Rattle.std.specs.Prelude.{ℕ, ◌*◌, ◌<◌, ◌≤◌, ◌==◌, ◌≢
 use Rattle.plain_model.specs.declared.calls.Call.TheVariants as call
 use Rattle.plain_model.specs.Machine.{IsInRange}
 use Rattle.script_lines.specs.declared.verb.Verb.{Verb}
-use Rattle.script_lines.specs.declared.verb.Verb.TheVariants.{Begin, Read, Make, Store, Get, Set, Commit, Abort, Undo}
+use Rattle.script_lines.specs.declared.verb.Verb.TheVariants.{Begin, Read, Make, Store, Get, Set, Release, Commit, Abort, Undo}
 use Rattle.script_lines.specs.declared.grammar.Line.{Line}
 use Rattle.script_lines.specs.declared.grammar.Line.TheVariants as line
 use Rattle.script_lines.specs.Fields.{fields_of}
@@ -22,6 +22,7 @@ verb_of field =
     else if bytes_eq field (codes "store") then Some Store
     else if bytes_eq field (codes "get") then Some Get
     else if bytes_eq field (codes "set") then Some Set
+    else if bytes_eq field (codes "release") then Some Release
     else if bytes_eq field (codes "commit") then Some Commit
     else if bytes_eq field (codes "abort") then Some Abort
     else if bytes_eq field (codes "undo") then Some Undo
@@ -50,6 +51,9 @@ request_of client Set (register ∷ payload ∷ []) = do
   r ← register_of register
   v ← payload_of payload
   Some (line.Ask client (call.SetPay r v))
+request_of client Release (register ∷ []) = do
+  r ← register_of register
+  Some (line.Ask client (call.Release r))
 request_of client Commit [] = Some (line.Ask client call.Commit)
 request_of client Abort [] = Some (line.Abort client)
 request_of client Undo [] = Some (line.Undo client)

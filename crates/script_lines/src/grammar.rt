@@ -77,6 +77,10 @@ fn request_of(client: u8, verb: Verb, operands: Operands<'_>) -> Option<Line>
             let value = payload_of(value)?;
             ask(client, Call::SetPay { r, value })
         }
+        (Verb::Release, Operands::One(r)) => {
+            let r = register_of(r)?;
+            ask(client, Call::Release { r })
+        }
         (Verb::Commit, Operands::Nil) => ask(client, Call::Commit),
         (Verb::Abort, Operands::Nil) => Some(Line::Abort { client }),
         (Verb::Undo, Operands::Nil) => Some(Line::Undo { client }),

@@ -47,6 +47,7 @@ fn push_verb<const CAP: usize>(line: &mut ArrayString<CAP>, call: &Call)
         Call::Store { .. } => line.push_str(" store: "),
         Call::GetPay { .. } => line.push_str(" get: "),
         Call::SetPay { .. } => line.push_str(" set: "),
+        Call::Release { .. } => line.push_str(" release: "),
         Call::Commit => line.push_str(" commit: "),
         Call::Abort => line.push_str(" abort: "),
     }
@@ -69,6 +70,7 @@ fn push_reply<const CAP: usize>(line: &mut ArrayString<CAP>, reply: &Reply)
             line.push_str("empty ");
             push_number(line, u64::from(reg));
         }
+        Reply::NotShared => line.push_str("notshared"),
         Reply::Busy { pass } => {
             line.push_str("busy ");
             push_number(line, u64::from(pass));

@@ -38,6 +38,7 @@ not-found reply.NoTxn n = refl
 not-found reply.HasTxn n = refl
 not-found reply.Aborting n = refl
 not-found (reply.EmptyRegister reg) n = refl
+not-found reply.NotShared n = refl
 not-found (reply.Busy client) n = refl
 not-found reply.Full n = refl
 not-found reply.LogFull n = refl
@@ -56,6 +57,7 @@ entered-is client c reply.NoTxn = refl
 entered-is client c reply.HasTxn = refl
 entered-is client c reply.Aborting = refl
 entered-is client c (reply.EmptyRegister reg) = refl
+entered-is client c reply.NotShared = refl
 entered-is client c (reply.Busy other) = refl
 entered-is client c reply.Full = refl
 entered-is client c reply.LogFull = tt
@@ -122,6 +124,7 @@ module _ (x : Refused) (n : ℕ) (a m : Marks) (h : AreMarked x a) where
   marked-call reply.HasTxn = marked-joined x a (joined_marks m (marks_with (marked_by_call reply.HasTxn) n)) h
   marked-call reply.Aborting = marked-joined x a (joined_marks m (marks_with (marked_by_call reply.Aborting) n)) h
   marked-call (reply.EmptyRegister reg) = marked-joined x a (joined_marks m (marks_with (marked_by_call (reply.EmptyRegister reg)) n)) h
+  marked-call reply.NotShared = marked-joined x a (joined_marks m (marks_with (marked_by_call reply.NotShared) n)) h
   marked-call (reply.Busy client) = marked-joined x a (joined_marks m (marks_with (marked_by_call (reply.Busy client)) n)) h
   marked-call reply.Full = marked-joined x a (joined_marks m (marks_with (marked_by_call reply.Full) n)) h
 

@@ -3,7 +3,7 @@ use Rattle.std.proofs.Common.{◌≡◌, ◌≢◌, ℕ, refl, ap, ◌∙◌, So
 use Rattle.std.specs.Prelude.{◌==◌, if◌then◌else◌, unwrap_or}
 use Rattle.std.specs.Option.{option_map_or}
 use Rattle.plain_model.specs.declared.calls.Call.{Call as TransactionCall}
-use Rattle.plain_model.specs.declared.calls.Call.TheVariants.{Begin, Read, Make, Store, GetPay, SetPay, Commit, Abort}
+use Rattle.plain_model.specs.declared.calls.Call.TheVariants.{Begin, Read, Make, Store, GetPay, SetPay, Release, Commit, Abort}
 use Rattle.plain_model.specs.declared.calls.Reply.{Reply}
 use Rattle.plain_model.specs.declared.calls.Reply.TheVariants.{Done}
 use Rattle.plain_model.specs.ActiveTransaction.{ActiveTransaction}
@@ -32,6 +32,7 @@ call-undone undone pass (Make into) reply n = refl
 call-undone undone pass (Store r slot f) reply n = refl
 call-undone undone pass (GetPay r) reply n = refl
 call-undone undone pass (SetPay r value) reply n = refl
+call-undone undone pass (Release r) reply n = refl
 call-undone undone pass Commit reply n = refl
 call-undone undone pass Abort reply n = refl
 

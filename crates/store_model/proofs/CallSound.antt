@@ -3,7 +3,7 @@ use Rattle.std.proofs.Common.{◌≡◌, ◌≢◌, ℕ, ◌+◌, ◌-◌, List,
 use Rattle.std.specs.Prelude.{if◌then◌else◌, count_by, is_some, unwrap_or}
 use Rattle.std.specs.Option.{option_map_or}
 use Rattle.plain_model.specs.declared.calls.Call.{Call as TransactionCall}
-use Rattle.plain_model.specs.declared.calls.Call.TheVariants.{Begin, Read, Make, Store as StoreCall, GetPay, SetPay, Commit, Abort}
+use Rattle.plain_model.specs.declared.calls.Call.TheVariants.{Begin, Read, Make, Store as StoreCall, GetPay, SetPay, Release, Commit, Abort}
 use Rattle.plain_model.specs.declared.calls.Reply.{Reply}
 use Rattle.plain_model.specs.declared.calls.Reply.TheVariants.{Done, Id, Pay as PayReply, Full}
 use Rattle.plain_model.specs.declared.calls.Entry.TheVariants.{Call}
@@ -17,12 +17,13 @@ use Rattle.cell_model.specs.Cells.{Cell, cell_at, pointer_at, is_live}
 use Rattle.cell_model.specs.Records.{Make as MakeRecord, Store, Pay, after_record, Fits, IsWellLaid}
 use Rattle.store_model.specs.Core.{Ref, Core, slot_in, payload_in}
 use Rattle.store_model.specs.Sound.{IsSound}
-use Rattle.store_model.specs.Steps.{IsTouched, AreStoreReferences, AreLeftReferences, IsQueueLeft, read_by, get_by, set_by, store_by, after_transaction, after_begin, after_make, committed_core, aborted_core}
+use Rattle.store_model.specs.Steps.{IsTouched, AreStoreReferences, AreReleaseReferences, AreLeftReferences, IsQueueLeft, read_by, get_by, release_by, set_by, store_by, after_transaction, after_begin, after_make, committed_core, aborted_core}
 use Rattle.store_model.proofs.SeenLaws.{shared-alone, owned-alone}
 use Rattle.store_model.proofs.CallLaws.{call-granted, call-begun, call-refused, call-undone}
 use Rattle.store_model.proofs.GrantLaws.{not_aborting, served, served_store, refused-undone}
 use Rattle.store_model.proofs.BeginSound.{begin-sound}
 use Rattle.store_model.proofs.PaySound.{get-sound, set-sound}
+use Rattle.store_model.proofs.ReleaseSound.{release-sound}
 use Rattle.store_model.proofs.MomentSound.{moment-sound, read_running-sound, store_marked-sound, make_fitting-sound, commit_left-sound, abort_left-sound, slot-answer, payload-answer}
 
 -- the next id is one of the store's, and free
@@ -54,6 +55,10 @@ module _ (c : Core) (s : IsSound c) (pass : ℕ) (t : ActiveTransaction) (a : tr
   get-call r granted reply =
       let g = served c.moment.state t r (blocks_sharing c.moment.state pass (register_id t r)) granted in
       after (GetPay r) (λ e. absurd (cc)) granted reply (after_transaction c pass (get_by t (register_id t r)) c.cells c.refs) refl refl (get-sound c s pass t a (register_id t r) g.running g.held g.granted)
+
+  pub release-call : (r : ℕ) (more : List Ref) → refusal_in c.moment.state pass t (Release r) ≡ None → AreReleaseReferences pass t more → (reply : Reply) → IsSound (record c { moment = next c.moment (Call pass (Release r) reply); refs = c.refs ++ more })
+  release-call r more granted refs reply =
+      after (Release r) (λ e. absurd (cc)) granted reply (after_transaction c pass (release_by t (register_id t r)) c.cells (c.refs ++ more)) refl refl (release-sound c s pass t a (register_id t r) more refs.own refs.only refs.named)
 
   pub set-call : (r value old : ℕ) → refusal_in c.moment.state pass t (SetPay r value) ≡ None → Fits c.cells (Pay pass (register_id t r) old value) → (reply : Reply)
       → IsSound (record c { cells = after_record c.moment.state.slots c.cells (Pay pass (register_id t r) old value); moment = next c.moment (Call pass (SetPay r value) reply) })

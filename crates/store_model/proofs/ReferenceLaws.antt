@@ -1,11 +1,17 @@
 -- References of a store, references that are left at an end, and the queue at an end.
 use Rattle.std.proofs.Common.{◌≡◌, ◌≢◌, ℕ, List, [], ◌∷◌, ◌++◌, true, false, cond, not, refl, sym, ap, ◌∙◌, subst, ◌⊎◌, inl, inr, ⊎_elim, eq-eqb, ne_eqb}
-use Rattle.std.specs.Prelude.{◌==◌, ◌&&◌, if◌then◌else◌, Contains}
+use Rattle.std.specs.Prelude.{◌==◌, ◌&&◌, ◌||◌, if◌then◌else◌, Contains, map, filter, fold, Option, Some, None}
 use Rattle.std.proofs.lemmas.Bool.{cases_eq, cases_Bool, cond-true, cond-false, false_from_ne_true, and_from, or_cases, or_left, or_right}
 use Rattle.std.proofs.lemmas.List.Elements.{Contains-append_cases, Contains-append_left}
-use Rattle.store_model.specs.Core.{Put, Cut, Ref, Core, names, is_named}
+use Rattle.plain_model.specs.Graphs.{root}
+use Rattle.plain_model.specs.ActiveTransaction.{ActiveTransaction}
+use Rattle.plain_model.specs.Machine.{is_among, with_id}
+use Rattle.plain_laws.proofs.Ids.{among-added_more, among-added_same, among-added_cases}
+use Rattle.std.specs.Option.{option_map_or}
+use Rattle.std.proofs.lemmas.Bool.{eqb-true}
+use Rattle.store_model.specs.Core.{Put, Cut, Held, Ref, Core, names, is_named}
 use Rattle.store_model.specs.Sound.{in_round, IsSound}
-use Rattle.store_model.specs.Steps.{store_references, AreStoreReferences, references_left, AreLeftReferences, IsQueueLeft, Joins}
+use Rattle.store_model.specs.Steps.{store_references, AreStoreReferences, held_ids, release_references, AreReleaseReferences, references_left, AreLeftReferences, IsQueueLeft, Joins}
 use Rattle.store_model.proofs.Lists.{Contains-here, Contains-later}
 use Rattle.store_model.proofs.OnceLaws.{nothing-in, once-append}
 use Rattle.store_model.proofs.DeletionLaws.{names-is_named}
@@ -53,6 +59,81 @@ store_references-fit pass old target =
       new_named = λ n. names-new l1 l2 pass target (one_name target r2 n);
       old_named = λ n. names-more l1 l2 pass old (one_name old r1 n);
     }
+
+-- ---- a shared lock that is given back
+
+-- the ids of the registers, after those so far
+abbrev pub held_from : List ℕ → List (Option ℕ) → List ℕ
+held_from ids registers = fold (λ ids register. option_map_or (λ id. with_id id ids) register ids) ids registers
+
+held-more : (registers : List (Option ℕ)) (ids : List ℕ) (x : ℕ) → is_among x ids ≡ true → is_among x (held_from ids registers) ≡ true
+held-more [] ids x h = h
+held-more (None ∷ rs) ids x h = held-more rs ids x h
+held-more (Some y ∷ rs) ids x h = held-more rs (with_id y ids) x (among-added_more x y ids h)
+
+pub held-here : (registers : List (Option ℕ)) (ids : List ℕ) (x : ℕ) → Contains registers (Some x) → is_among x (held_from ids registers) ≡ true
+held-here [] ids x m = nothing-in (Some x) m
+held-here (None ∷ rs) ids x m = ⊎_elim (λ (e : None ≡ Some x). absurd (cc)) (λ k. held-here rs ids x k) (Contains-cons None rs (Some x) m)
+held-here (Some y ∷ rs) ids x m =
+    ⊎_elim
+    (λ (e : Some y ≡ Some x). let same : y ≡ x = cc in held-more rs (with_id y ids) x (subst (λ z. is_among z (with_id y ids) ≡ true) same (among-added_same y ids)))
+    (λ k. held-here rs (with_id y ids) x k)
+    (Contains-cons (Some y) rs (Some x) m)
+
+pub held-cases : (registers : List (Option ℕ)) (ids : List ℕ) (x : ℕ) → is_among x (held_from ids registers) ≡ true → (is_among x ids ≡ true) ⊎ Contains registers (Some x)
+held-cases [] ids x h = inl h
+held-cases (None ∷ rs) ids x h = ⊎_elim (λ e. inl e) (λ k. inr (Contains-later None rs (Some x) k)) (held-cases rs ids x h)
+held-cases (Some y ∷ rs) ids x h =
+    ⊎_elim
+    (λ e. ⊎_elim (λ k. inl k) (λ k. inr (subst (λ z. Contains (Some y ∷ rs) (Some z)) (sym k) (Contains-here (Some y) rs))) (among-added_cases x y ids e))
+    (λ k. inr (Contains-later (Some y) rs (Some x) k))
+    (held-cases rs (with_id y ids) x h)
+
+-- but for the root
+among-apart : (ids : List ℕ) (x : ℕ) → x ≢ root → is_among x ids ≡ true → is_among x (filter (λ id. not (id == root)) ids) ≡ true
+among-apart [] x n h = h
+among-apart (y ∷ ys) x n h =
+    ⊎_elim
+    (λ e. let same = eqb-true y x e in subst (λ b. is_among x (cond (not b) (y ∷ filter (λ id. not (id == root)) ys) (filter (λ id. not (id == root)) ys)) ≡ true) (sym (ne_eqb y root (λ q. n (sym same ∙ q)))) (or_left (y == x) (is_among x (filter (λ id. not (id == root)) ys)) e))
+    (λ e. elim (y == root) as (λ b. is_among x (cond (not b) (y ∷ filter (λ id. not (id == root)) ys) (filter (λ id. not (id == root)) ys)) ≡ true) [
+      | true ↦ among-apart ys x n e
+      | false ↦ or_right (y == x) (is_among x (filter (λ id. not (id == root)) ys)) (among-apart ys x n e)
+    ])
+    (or_cases (y == x) (is_among x ys) h)
+
+among-filtered : (ids : List ℕ) (x : ℕ) → is_among x (filter (λ id. not (id == root)) ids) ≡ true → is_among x ids ≡ true
+among-filtered [] x h = h
+among-filtered (y ∷ ys) x h = elim (y == root) as (λ b. is_among x (cond (not b) (y ∷ filter (λ id. not (id == root)) ys) (filter (λ id. not (id == root)) ys)) ≡ true → (y == x || is_among x ys) ≡ true) [
+  | true ↦ λ k. or_right (y == x) (is_among x ys) (among-filtered ys x k)
+  | false ↦ λ k. ⊎_elim (λ e. or_left (y == x) (is_among x ys) e) (λ e. or_right (y == x) (is_among x ys) (among-filtered ys x e)) (or_cases (y == x) (is_among x (filter (λ id. not (id == root)) ys)) k)
+] h
+
+abbrev held_by : ℕ → List ℕ → List Ref
+held_by pass ids = map (λ id. record { pass = pass; target = id; kind = Held }) ids
+
+held-own : (pass : ℕ) (ids : List ℕ) (r : Ref) → Contains (held_by pass ids) r → (r.pass ≡ pass) × (is_among r.target ids ≡ true)
+held-own pass [] r m = nothing-in r m
+held-own pass (y ∷ ys) r m =
+    let first : Ref = record { pass = pass; target = y; kind = Held } in
+    ⊎_elim
+    (λ (e : first ≡ r). (sym (ap (λ (q : Ref). q.pass) e), or_left (y == r.target) (is_among r.target ys) (eq-eqb y r.target (ap (λ (q : Ref). q.target) e))))
+    (λ k. let o = held-own pass ys r k in (o.0, or_right (y == r.target) (is_among r.target ys) o.1))
+    (Contains-cons first (held_by pass ys) r m)
+
+held-named : (pass : ℕ) (ids : List ℕ) (x : ℕ) → is_among x ids ≡ true → names (held_by pass ids) pass x ≡ true
+held-named pass [] x h = h
+held-named pass (y ∷ ys) x h =
+    ⊎_elim
+    (λ e. or_left ((pass == pass) && (y == x)) (names (held_by pass ys) pass x) (and_from (pass == pass) (y == x) (eq-eqb pass pass refl) e))
+    (λ e. or_right ((pass == pass) && (y == x)) (names (held_by pass ys) pass x) (held-named pass ys x e))
+    (or_cases (y == x) (is_among x ys) h)
+
+pub release_references-fit : (pass : ℕ) (t : ActiveTransaction) → AreReleaseReferences pass t (release_references pass t.registers)
+release_references-fit pass t = record {
+  own = λ r m. (held-own pass (held_ids t.registers) r m).0;
+  only = λ r m. ⊎_elim (λ (e : false ≡ true). absurd (cc)) (λ k. k) (held-cases t.registers [] r.target (among-filtered (held_from [] t.registers) r.target (held-own pass (held_ids t.registers) r m).1));
+  named = λ id m n. held-named pass (held_ids t.registers) id (among-apart (held_from [] t.registers) id n (held-here t.registers [] id m));
+}
 
 -- ---- an end
 

@@ -14,15 +14,15 @@ use Rattle.plain_model.specs.Machine.{State, transaction_of, with_transaction, n
 use Rattle.plain_model.specs.Outcomes.{IsReachableInSomeOutcome}
 use Rattle.plain_model.specs.History.{Moment, IsUnheld, after_undo, after_delete}
 use Rattle.plain_laws.specs.Sound.{IsSoundState, IsSoundMoment}
-use Rattle.plain_laws.proofs.Entries.{change-set_value, ascend-set_value}
+use Rattle.plain_laws.proofs.Entries.{ascend-set_value}
 use Rattle.plain_laws.proofs.Transactions.{sound-begun, sound-aborting}
-use Rattle.plain_laws.proofs.States.{sound-change, sound-with_transaction, apart-now}
-use Rattle.plain_laws.proofs.Legal.{sound-success, sound-next}
+use Rattle.plain_laws.proofs.States.{Nothing, swap-set_value, sound-change, sound-with_transaction, apart-now}
+use Rattle.plain_laws.proofs.Legal.{brings-begun, brings-undone, sound-success, sound-next}
 use Rattle.store_model.specs.Steps.{get_by, set_by}
 
 -- a client begins
 pub state-begun : (s : State) (pass : ℕ) → IsSoundState s → transaction_of s pass ≡ None → IsSoundState (with_transaction s pass new_transaction)
-state-begun s pass h e = sound-with_transaction s pass new_transaction h (sound-begun s.committed s.stored) (λ q u f n id. ((λ o. absurd (cc)), (λ o. refl)))
+state-begun s pass h e = sound-with_transaction s pass new_transaction Nothing h (sound-begun s.committed s.stored) (λ q u f n id. ((λ o. absurd (cc)), (λ o. refl))) (brings-begun s pass e)
 
 -- none of three refusals applies
 no_refusal : (a b c : Option Reply) → a ≡ None → b ≡ None → c ≡ None → or_else a (or_else b c) ≡ None
@@ -54,7 +54,7 @@ state-undone s pass t h e =
     let u : ActiveTransaction = record t { aborting = true } in
     subst (λ l. IsSoundState (record s { active = l }))
     (ap (λ o. option_map_or (λ (t : ActiveTransaction). set_value (is_at (nat_cmp pass)) s.active (record t { aborting = true })) o s.active) (sym e))
-    (sound-change s pass u (set_value (is_at (nat_cmp pass)) s.active u) h (change-set_value pass u s.active) (ascend-set_value pass u s.active h.passes) (sound-aborting s.committed s.stored t (h.transactions pass t e)) (apart-now s pass t h e))
+    (sound-change s pass u (set_value (is_at (nat_cmp pass)) s.active u) Nothing h (swap-set_value pass u t s.active e) (ascend-set_value pass u s.active h.passes) (sound-aborting s.committed s.stored t (h.transactions pass t e)) (apart-now s pass t h e) (brings-undone s pass t e))
 
 -- an object is deleted that no outcome reaches and nobody holds
 pub state-deleted : (s : State) (id : ℕ) → IsSoundState s → Contains s.stored id → (IsReachableInSomeOutcome s id → ⊥) → IsUnheld s id → IsSoundState (after_delete s id)

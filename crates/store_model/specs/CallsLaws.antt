@@ -2,7 +2,7 @@
 use Rattle.std.specs.Prelude.{◌≡◌, ◌≢◌, ℕ, ◌-◌, Bool, List, ◌++◌, count_by, Option, Some, None, unwrap_or}
 use Rattle.std.specs.Option.{option_map_or}
 use Rattle.plain_model.specs.declared.calls.Call.{Call as TransactionCall}
-use Rattle.plain_model.specs.declared.calls.Call.TheVariants.{Begin, Read, Make, Store as StoreCall, GetPay, SetPay, Commit, Abort}
+use Rattle.plain_model.specs.declared.calls.Call.TheVariants.{Begin, Read, Make, Store as StoreCall, GetPay, SetPay, Release, Commit, Abort}
 use Rattle.plain_model.specs.declared.calls.Reply.{Reply}
 use Rattle.plain_model.specs.declared.calls.Reply.TheVariants.{Done, Id, Pay as PayReply}
 use Rattle.plain_model.specs.declared.calls.Entry.TheVariants.{Call}
@@ -14,7 +14,7 @@ use Rattle.cell_model.specs.Cells.{Cell, cell_at, pointer_at}
 use Rattle.cell_model.specs.Records.{Make as MakeRecord, Store, Pay, after_record, Fits, IsWellLaid}
 use Rattle.store_model.specs.Core.{Ref, Core, slot_in, payload_in}
 use Rattle.store_model.specs.Sound.{IsSound}
-use Rattle.store_model.specs.Steps.{IsTouched, AreStoreReferences, AreLeftReferences, IsQueueLeft, after_make}
+use Rattle.store_model.specs.Steps.{IsTouched, AreStoreReferences, AreReleaseReferences, AreLeftReferences, IsQueueLeft, after_make}
 
 -- ---- a journal that collects nothing
 
@@ -35,6 +35,12 @@ JournalReadLaw = (c : Core) → IsSound c → (pass : ℕ) (t : ActiveTransactio
 -- a journal with a collector stays sound under a read of a payload
 abbrev pub JournalGetLaw : Type 0
 JournalGetLaw = (c : Core) → IsSound c → (pass : ℕ) (t : ActiveTransaction) → transaction_of c.moment.state pass ≡ Some t → (r : ℕ) → refusal_in c.moment.state pass t (GetPay r) ≡ None → (reply : Reply) → IsSound (record c { moment = next c.moment (Call pass (GetPay r) reply) })
+
+-- a journal with a collector stays sound where a client gives a shared lock back, and names what its registers hold
+abbrev pub JournalReleaseLaw : Type 0
+JournalReleaseLaw =
+    (c : Core) → IsSound c → (pass : ℕ) (t : ActiveTransaction) → transaction_of c.moment.state pass ≡ Some t → (r : ℕ) (more : List Ref) → refusal_in c.moment.state pass t (Release r) ≡ None → AreReleaseReferences pass t more → (reply : Reply)
+    → IsSound (record c { moment = next c.moment (Call pass (Release r) reply); refs = c.refs ++ more })
 
 -- a journal with a collector stays sound under a write of a payload
 abbrev pub JournalSetLaw : Type 0

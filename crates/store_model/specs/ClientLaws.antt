@@ -12,7 +12,7 @@ use Rattle.cell_model.specs.Records.{Make, Store, Pay, Undo, UndoPay, after_reco
 use Rattle.store_model.specs.Core.{Ref, Core, slot_in, payload_in}
 use Rattle.store_model.specs.Sound.{IsCurrent, IsSound}
 use Rattle.store_model.specs.Fresh.{fresh_core}
-use Rattle.store_model.specs.Steps.{IsOnlyWriter, IsTouched, AreStoreReferences, store_references, AreLeftReferences, references_left, IsQueueLeft, Joins, read_by, get_by, set_by, store_by, after_transaction, after_begin, after_make, after_undo, committed_core, aborted_core}
+use Rattle.store_model.specs.Steps.{IsOnlyWriter, IsTouched, AreStoreReferences, store_references, AreReleaseReferences, release_references, release_by, AreLeftReferences, references_left, IsQueueLeft, Joins, read_by, get_by, set_by, store_by, after_transaction, after_begin, after_make, after_undo, committed_core, aborted_core}
 
 -- a fresh store is sound
 abbrev pub FreshLaw : Type 0
@@ -68,6 +68,16 @@ StoreLaw =
 -- the references that a store adds are those that the law of stores asks for
 abbrev pub StoreReferencesLaw : Type 0
 StoreReferencesLaw = (pass old target : ℕ) → AreStoreReferences pass old target (store_references pass old target)
+
+-- the journal stays sound where a client gives a shared lock back, and names what its registers hold
+abbrev pub ReleaseLaw : Type 0
+ReleaseLaw =
+    (c : Core) → IsSound c → (pass : ℕ) (t : ActiveTransaction) → transaction_of c.moment.state pass ≡ Some t → (id : ℕ) (more : List Ref) → AreReleaseReferences pass t more
+    → IsSound (after_transaction c pass (release_by t id) c.cells (c.refs ++ more))
+
+-- the references that such a client adds are those that this law asks for
+abbrev pub ReleaseReferencesLaw : Type 0
+ReleaseReferencesLaw = (pass : ℕ) (t : ActiveTransaction) → AreReleaseReferences pass t (release_references pass t.registers)
 
 -- the journal stays sound where a client makes an object
 abbrev pub MakeLaw : Type 0

@@ -6,3 +6,4 @@ pub mod LockLaws
 mod MadeLists
 mod PutLaws
 mod RowLaws
+pub mod HeldLaws

@@ -85,7 +85,7 @@ lookup_push (i ∷ ids) (g ∷ locks) id x h even missing =
 -- ---- ids and their places
 
 -- no id stands at two places
-once : (ids places : List ℕ) (i j : ℕ) → ArePlaced ids places → i < length ids → j < length ids → get_or ids i 0 ≡ get_or ids j 0 → i ≡ j
+pub once : (ids places : List ℕ) (i j : ℕ) → ArePlaced ids places → i < length ids → j < length ids → get_or ids i 0 ≡ get_or ids j 0 → i ≡ j
 once ids places i j p li lj e = sym (p.placed i li) ∙ ap (λ x. get_or places x 0) e ∙ p.placed j lj
 
 first_at : (ids places : List ℕ) (place id : ℕ) → ArePlaced ids places → place < length ids → get_or ids place 0 ≡ id → (q : ℕ) → q < place → get_or ids q 0 ≢ id
@@ -114,7 +114,7 @@ missing_more ids i id other missing zero l = other
 missing_more ids i id other missing (suc q) l = missing q (omega (arith, l))
 
 -- an id stands at some place, or nowhere
-stands : (ids : List ℕ) (id : ℕ) → ((p : ℕ) × (p < length ids) × (get_or ids p 0 ≡ id)) ⊎ IsMissing ids id
+pub stands : (ids : List ℕ) (id : ℕ) → ((p : ℕ) × (p < length ids) × (get_or ids p 0 ≡ id)) ⊎ IsMissing ids id
 stands [] id = inr (λ q l. absurd (omega (arith, l)))
 stands (i ∷ ids) id =
     ⊎_elim
@@ -128,7 +128,7 @@ stands (i ∷ ids) id =
 
 -- ---- there are no more ids than places
 
-distinct : (ids places : List ℕ) → ArePlaced ids places → IsDistinct eqb ids
+pub distinct : (ids places : List ℕ) → ArePlaced ids places → IsDistinct eqb ids
 distinct ids places p = IsDistinct-from_apart eqb ids (λ i j d less l. ne_eqb (get_or ids i d) (get_or ids j d) (λ e.
     let same = once ids places i j p (omega (arith, less, l)) l (get_or_default ids i 0 d (omega (arith, less, l)) ∙ e ∙ get_or_default ids j d 0 l) in
     omega (arith, same, less)))
@@ -164,7 +164,7 @@ at_push P xs x all here place l =
     (subst (P (length xs)) (sym (get_or_push xs x 0 (length xs) refl)) here)
     place (let n = length_push xs x in omega (arith, l, n))
 
-placed_push : (ids places : List ℕ) (id : ℕ) → ArePlaced ids places → id < length places → IsMissing ids id → ArePlaced (ids ++ id ∷ []) (slice_set places id (length ids))
+pub placed_push : (ids places : List ℕ) (id : ℕ) → ArePlaced ids places → id < length places → IsMissing ids id → ArePlaced (ids ++ id ∷ []) (slice_set places id (length ids))
 placed_push ids places id p inside missing = record {
   within = at_push (λ place x. x < length (slice_set places id (length ids))) ids id
       (λ q l. let w = p.within q l in let n = length-set places id (length ids) in omega (arith, w, n))
@@ -195,24 +195,24 @@ Puts-push ids locks places id h r missing x = lookup_push ids locks id x h r.eve
 
 -- ---- a lock that is taken away
 
-removed_length : {X : Type 0} (xs : List X) (place : ℕ) (d : X) → place < length xs → length (swap_remove xs place d) ≡ length xs - 1
+pub removed_length : {X : Type 0} (xs : List X) (place : ℕ) (d : X) → place < length xs → length (swap_remove xs place d) ≡ length xs - 1
 removed_length xs place d l =
     let last = get_or xs (length xs - 1) d in
     let s = length-set xs place last in
     length-take-le (length xs - 1) (slice_set xs place last) (omega (arith, s))
 
-removed_other : {X : Type 0} (xs : List X) (place q : ℕ) (d e : X) → q < length xs - 1 → q ≢ place → get_or (swap_remove xs place d) q e ≡ get_or xs q e
+pub removed_other : {X : Type 0} (xs : List X) (place q : ℕ) (d e : X) → q < length xs - 1 → q ≢ place → get_or (swap_remove xs place d) q e ≡ get_or xs q e
 removed_other xs place q d e l other =
     let last = get_or xs (length xs - 1) d in
     get_or-take (length xs - 1) (slice_set xs place last) q e l ∙ get_or-set_other xs place q last e other
 
-removed_same : {X : Type 0} (xs : List X) (place : ℕ) (d e : X) → place < length xs - 1 → get_or (swap_remove xs place d) place e ≡ get_or xs (length xs - 1) e
+pub removed_same : {X : Type 0} (xs : List X) (place : ℕ) (d e : X) → place < length xs - 1 → get_or (swap_remove xs place d) place e ≡ get_or xs (length xs - 1) e
 removed_same xs place d e l =
     let last = get_or xs (length xs - 1) d in
     get_or-take (length xs - 1) (slice_set xs place last) place e l ∙ get_or-set_same xs place last e (omega (arith, l)) ∙ get_or_default xs (length xs - 1) d e (omega (arith, l))
 
 -- what holds at each place that stays and where the last one moves to
-at_removed : (P : ℕ → ℕ → Type 0) (xs : List ℕ) (place d : ℕ) → place < length xs → ((q : ℕ) → q < length xs - 1 → q ≢ place → P q (get_or xs q 0)) → (place < length xs - 1 → P place (get_or xs (length xs - 1) 0)) → (q : ℕ) → q < length (swap_remove xs place d) → P q (get_or (swap_remove xs place d) q 0)
+pub at_removed : (P : ℕ → ℕ → Type 0) (xs : List ℕ) (place d : ℕ) → place < length xs → ((q : ℕ) → q < length xs - 1 → q ≢ place → P q (get_or xs q 0)) → (place < length xs - 1 → P place (get_or xs (length xs - 1) 0)) → (q : ℕ) → q < length (swap_remove xs place d) → P q (get_or (swap_remove xs place d) q 0)
 at_removed P xs place d inside others moved q l =
     let n = removed_length xs place d inside in
     let below : q < length xs - 1 = omega (arith, l, n) in
@@ -223,7 +223,7 @@ at_removed P xs place d inside others moved q l =
     (cases_eq q place)
 
 -- the places of the ids where the last one moved into the place of the one that is taken away
-placed_moved : (ids places : List ℕ) (place d : ℕ) → ArePlaced ids places → place < length ids - 1 → ArePlaced (swap_remove ids place d) (slice_set places (get_or ids (length ids - 1) 0) place)
+pub placed_moved : (ids places : List ℕ) (place d : ℕ) → ArePlaced ids places → place < length ids - 1 → ArePlaced (swap_remove ids place d) (slice_set places (get_or ids (length ids - 1) 0) place)
 placed_moved ids places place d p l =
     let last = get_or ids (length ids - 1) 0 in
     let inside : place < length ids = omega (arith, l) in
@@ -239,7 +239,7 @@ placed_moved ids places place d p l =
     }
 
 -- the places of the ids where the one that is taken away stood last
-placed_last : (ids places : List ℕ) (place d : ℕ) → ArePlaced ids places → place < length ids → length ids - 1 ≤ place → ArePlaced (swap_remove ids place d) places
+pub placed_last : (ids places : List ℕ) (place d : ℕ) → ArePlaced ids places → place < length ids → length ids - 1 ≤ place → ArePlaced (swap_remove ids place d) places
 placed_last ids places place d p inside beyond = record {
   within = at_removed (λ q x. x < length places) ids place d inside
       (λ q lq other. p.within q (omega (arith, lq)))
@@ -271,7 +271,7 @@ AreRows-last ids locks places place d h r inside beyond = record {
 }
 
 -- the id that is taken away stands nowhere
-removed_missing : (ids places : List ℕ) (place id d : ℕ) → ArePlaced ids places → place < length ids → get_or ids place 0 ≡ id → IsMissing (swap_remove ids place d) id
+pub removed_missing : (ids places : List ℕ) (place id d : ℕ) → ArePlaced ids places → place < length ids → get_or ids place 0 ≡ id → IsMissing (swap_remove ids place d) id
 removed_missing ids places place id d p inside e = at_removed (λ q x. x ≢ id) ids place d inside
     (λ q lq other same. other (once ids places q place p (omega (arith, lq)) inside (same ∙ sym e)))
     (λ lp same. let o = once ids places (length ids - 1) place p (omega (arith, inside)) inside (same ∙ sym e) in omega (arith, o, lp))

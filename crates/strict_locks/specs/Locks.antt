@@ -35,6 +35,10 @@ is_sharer h p = list_any (is_at (nat_cmp p)) h.sharers
 abbrev pub is_holder : Holders → ℕ → Bool
 is_holder h p = is_owner h p || is_sharer h p
 
+-- whether the client shares the object and doesn't own it
+abbrev pub only_shares : Holders → ℕ → Bool
+only_shares h p = is_sharer h p && not (is_owner h p)
+
 -- the client owns or shares the object
 abbrev pub Holds : Holders → ℕ → Type 0
 Holds h p = is_holder h p ≡ true

@@ -14,6 +14,11 @@ pub record AreRows (ids : List ℕ) (locks : List Holders) (places : List ℕ) :
   pub placed : ArePlaced ids places
   pub few : length places ≤ 2 ^ 32
 
+-- each id has its place, and there are at most 2^32 places
+pub record AreNoted (ids places : List ℕ) : Type 0 where
+  pub placed : ArePlaced ids places
+  pub few : length places ≤ 2 ^ 32
+
 -- the places stay, there may be more of them after these, and there are at most 2^32
 pub record Grows (old new : List ℕ) : Type 0 where
   pub kept : (id : ℕ) → id < length old → slice_index new id ≡ slice_index old id

@@ -1,4 +1,5 @@
-//! Strict two-phase locking: the table of the locks that clients hold until their transactions end.
+//! Two-phase locking: the table of the locks that clients hold. An exclusive lock is kept until its client gives all of its locks back,
+//! and a shared one may be given back before.
 //!
 //! `LockTable` grants shared and exclusive locks on objects, or answers at once which client stands
 //! in the way. Each client has a list of the objects that it holds, so that the end of its
@@ -7,6 +8,7 @@
 
 mod client_set;
 mod clients;
+mod held_ids;
 mod lock_table;
 mod object_lock;
 mod objects;

@@ -1,8 +1,9 @@
-//! The table of the locks that clients hold until their transactions end.
+//! The table of the locks that clients hold.
 ghost use Rattle.std.specs.List.{IsDistinct};
 ghost use Rattle.std.specs.Ordering.{nat_cmp, eq_by_cmp};
 ghost use Rattle.std.specs.Prelude.{◌≡◌, ℕ, [], OnOk, OnErr, IfErr, true};
 
+use crate::held_ids::HeldIds;
 use crate::refusal::LockRefusal;
 use crate::rows::LockRows;
 use crate::standing::Standing;
@@ -10,11 +11,12 @@ use crate::{clients, objects};
 use std::alloc::Global;
 use std::marker::Model;
 
-/// The locks that clients hold. A client keeps each lock until it gives all of its locks back.
+/// The locks that clients hold. A client keeps each lock until it gives all of its locks back, but that it may give a shared lock back
+/// before.
 ///
 /// A shared lock is granted exactly where no other client owns the object. An exclusive lock, or
 /// the upgrade to one, is granted exactly where no other client holds the object at all. A client
-/// that owns an object and shares it keeps both facts. No call waits.
+/// that owns an object and shares it keeps both facts. No call waits. None but `drop_all` goes over what a client holds.
 ///
 /// `pass` is the client's number and `id` the object's. The table takes any number. Its memory grows with the
 /// greatest id that was ever locked and is not given back, so it is made for ids that are dense, as a store's are.
@@ -23,7 +25,7 @@ pub struct LockTable {
     alloc: Global,
     locks: LockRows,
     /// The objects that each client holds, at its number.
-    lists: Vec<Vec<u32>>,
+    lists: Vec<HeldIds>,
 }
 
 impl Model for LockTable {
@@ -38,7 +40,7 @@ impl Model for LockTable {
 }
 
 impl LockTable {
-    ghost use Rattle.strict_locks.specs.Locks.{holders_of, Holds, IsExclusive, NamesExactly, StandsInWay, StandsInWayOfShare, StandsInWayOfOwn, Nobody, IsLeastOrNone, AddsShare, AddsOwner, DropsAll};
+    ghost use Rattle.strict_locks.specs.Locks.{holders_of, Holds, IsExclusive, NamesExactly, StandsInWay, StandsInWayOfShare, StandsInWayOfOwn, Nobody, IsLeastOrNone, only_shares, AddsShare, AddsOwner, GivesBack, DropsAll};
     ghost use Rattle.strict_locks.specs.Refusal.{IsRefusal};
 
     /// The table without a lock. Where there is no memory for the first locks yet, each takes its own.
@@ -71,10 +73,14 @@ impl LockTable {
             }
             Standing::Free => {}
         }
-        clients::reserve(&mut self.lists, self.alloc, pass)?;
-        objects::share(&mut self.locks, pass, id)?;
-        clients::note(&mut self.lists, pass, id);
-        Ok(())
+        clients::add(&mut self.lists, self.alloc, pass, id)?;
+        match objects::share(&mut self.locks, pass, id) {
+            Ok(()) => Ok(()),
+            Err(refused) => {
+                clients::take_out(&mut self.lists, pass, id);
+                Err(refused.into())
+            }
+        }
     }
 
     /// Lets the client own the object, or upgrades its shared lock.
@@ -96,10 +102,14 @@ impl LockTable {
             }
             Standing::Free => {}
         }
-        clients::reserve(&mut self.lists, self.alloc, pass)?;
-        objects::own_first(&mut self.locks, pass, id)?;
-        clients::note(&mut self.lists, pass, id);
-        Ok(())
+        clients::add(&mut self.lists, self.alloc, pass, id)?;
+        match objects::own_first(&mut self.locks, pass, id) {
+            Ok(()) => Ok(()),
+            Err(refused) => {
+                clients::take_out(&mut self.lists, pass, id);
+                Err(refused.into())
+            }
+        }
     }
 
     /// The objects that the client holds, each once. It takes no memory.
@@ -108,6 +118,22 @@ impl LockTable {
         ensures once { IsDistinct (eq_by_cmp nat_cmp) result.now }
     {
         clients::list(&self.lists, pass)
+    }
+
+    /// Whether the client shares the object and doesn't own it. It takes no memory.
+    pub fn shares(&self, pass: u8, id: u32) -> bool
+        ensures { result ≡ only_shares (holders_of self.now id) pass }
+    {
+        objects::only_shares(&self.locks, pass, id)
+    }
+
+    /// Gives the client's shared lock on the object back. It takes no memory, and goes over nothing that the client holds.
+    pub fn drop_shared(&mut self, pass: u8, id: u32)
+        requires { only_shares (holders_of self.old id) pass ≡ true }
+        ensures { GivesBack self.old self.new pass id }
+    {
+        objects::give_back(&mut self.locks, pass, id);
+        clients::take_out(&mut self.lists, pass, id);
     }
 
     /// Gives all of the client's locks back. It takes no memory, and goes only over the objects

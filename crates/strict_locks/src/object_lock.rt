@@ -1,6 +1,6 @@
 //! The lock of one object.
 ghost use Rattle.std.specs.Prelude.{◌≡◌, ℕ, ◌||◌, ◌&&◌, ◌==◌, not, [], Some, None};
-ghost use Rattle.strict_locks.specs.Locks.{is_owner, is_sharer, is_holder, Holds, IsExclusive, StandsInWayOfShare, StandsInWayOfOwn, Nobody, IsLeastOrNone};
+ghost use Rattle.strict_locks.specs.Locks.{is_owner, is_sharer, is_holder, only_shares, Holds, IsExclusive, StandsInWayOfShare, StandsInWayOfOwn, Nobody, IsLeastOrNone};
 ghost use Rattle.strict_locks.specs.Standing.{IsStanding};
 
 use crate::client_set::ClientSet;
@@ -101,6 +101,13 @@ impl ObjectLock {
         } else {
             Standing::Free
         }
+    }
+
+    /// Whether the client shares the object and doesn't own it.
+    pub(crate) fn only_shares(&self, pass: u8) -> bool
+        ensures { result ≡ only_shares self.now pass }
+    {
+        self.sharers.contains(pass) && self.owner != Some(pass)
     }
 
     /// The least client that holds the object.

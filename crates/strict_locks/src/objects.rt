@@ -1,6 +1,6 @@
 //! The lock of each object.
 ghost use Rattle.std.specs.Prelude.{◌≡◌, OnOk, OnErr};
-ghost use Rattle.strict_locks.specs.Locks.{holders_of, is_owner, is_sharer, is_holder, Holds, IsExclusive, StandsInWayOfShare, StandsInWayOfOwn, Nobody, IsLeastOrNone, AddsShare, AddsOwner, GivesBack, DropsAll, AreHeld};
+ghost use Rattle.strict_locks.specs.Locks.{holders_of, is_owner, is_sharer, is_holder, only_shares, Holds, IsExclusive, StandsInWayOfShare, StandsInWayOfOwn, Nobody, IsLeastOrNone, AddsShare, AddsOwner, GivesBack, DropsAll, AreHeld};
 ghost use Rattle.strict_locks.specs.Clients.{NamesHeld};
 ghost use Rattle.strict_locks.specs.Standing.{IsStanding};
 
@@ -51,6 +51,16 @@ pub(crate) fn standing_to_own(locks: &LockRows, pass: u8, id: u32) -> Standing
     }
 }
 
+/// Whether the client shares the object and doesn't own it.
+pub(crate) fn only_shares(locks: &LockRows, pass: u8, id: u32) -> bool
+    ensures { result ≡ only_shares (holders_of locks.now id) pass }
+{
+    match locks.get(id) {
+        Some(lock) => lock.only_shares(pass),
+        None => false,
+    }
+}
+
 /// Adds the client to those that share the object. Out of memory leaves the locks as they were.
 pub(crate) fn share(locks: &mut LockRows, pass: u8, id: u32) -> Result<(), AllocError>
     requires { Nobody (StandsInWayOfShare (holders_of locks.old id) pass) }
@@ -95,7 +105,7 @@ pub(crate) fn own_first(locks: &mut LockRows, pass: u8, id: u32) -> Result<(), A
 }
 
 /// Takes the client from the holders of the object.
-fn give_back(locks: &mut LockRows, pass: u8, id: u32)
+pub(crate) fn give_back(locks: &mut LockRows, pass: u8, id: u32)
     ensures gives { GivesBack locks.old locks.new pass id }
     ensures held { AreHeld locks.old → AreHeld locks.new }
 {

@@ -1,10 +1,9 @@
 //! The locks in rows, each beside the id of its object.
-ghost use Rattle.std.specs.Prelude.{◌≡◌, ◌≢◌, ℕ, ◌<◌, ◌≤◌, ◌^◌, [], length, nat_eq, slice_index, None, IfSome, IfNone, OnOk, OnErr};
+ghost use Rattle.std.specs.Prelude.{◌≡◌, ◌≢◌, ℕ, ◌<◌, ◌≤◌, ◌^◌, [], ◌∷◌, ◌++◌, vec_len, vec_capacity, length, nat_eq, slice_index, None, IfSome, IfNone, OnOk, OnErr};
 ghost use Rattle.std.specs.Map.{lookup};
 ghost use Rattle.std.specs.Option.{option_copied, option_copied_mut};
 ghost use Rattle.strict_locks.specs.Rows.{ArePlaced, Grows, Puts};
 
-use crate::clients::push_into_room;
 use crate::object_lock::ObjectLock;
 use std::alloc::{AllocError, Global};
 use std::marker::Model;
@@ -38,6 +37,14 @@ impl Model for LockRows {
     ghost invariant = { λ a. AreRows a.ids.items a.locks.items a.places.items };
 }
 
+/// Appends the id, for which there is room.
+fn push_into_room(ids: &mut Vec<u32>, id: u32)
+    requires { vec_len ids.old < vec_capacity ids.old }
+    ensures { ids.new.items ≡ ids.old.items ++ id ∷ [] }
+{
+    let _ = ids.push(id);
+}
+
 /// Makes a place for the id, and for each one below it that has none.
 fn make(places: &mut Vec<u32>, id: u32) -> Result<(), AllocError>
     requires { length places.old.items ≤ 2 ^ 32 }
@@ -52,7 +59,7 @@ fn make(places: &mut Vec<u32>, id: u32) -> Result<(), AllocError>
 
 /// Sees that the id has a place.
 #[inline(always)]
-fn open(places: &mut Vec<u32>, id: u32) -> Result<(), AllocError>
+pub(crate) fn open(places: &mut Vec<u32>, id: u32) -> Result<(), AllocError>
     requires { length places.old.items ≤ 2 ^ 32 }
     ensures grows { Grows places.old.items places.new.items }
     ensures opened { OnOk result (id < length places.new.items) }
@@ -65,7 +72,7 @@ fn open(places: &mut Vec<u32>, id: u32) -> Result<(), AllocError>
 
 /// The place at which the id stands.
 #[inline(always)]
-fn place_of(ids: &Vec<u32>, places: &Vec<u32>, id: u32) -> Option<usize>
+pub(crate) fn place_of(ids: &Vec<u32>, places: &Vec<u32>, id: u32) -> Option<usize>
     requires { ArePlaced ids.now.items places.now.items }
     ensures found { IfSome result (λ place. (place < length ids.now.items) × (slice_index ids.now.items place ≡ id)) }
     ensures missing { IfNone result ((place : ℕ) → place < length ids.now.items → slice_index ids.now.items place ≢ id) }

@@ -1,5 +1,5 @@
 use Rattle.store_model.proofs.calls_keep_journals_sound.Goals as goal
-use Rattle.store_model.proofs.CallSound.{begin-call, refusal-call, read-call, get-call, set-call, store-call, make-call, commit-call, abort-call, read-reply, get-reply, old-slot, old-payload}
+use Rattle.store_model.proofs.CallSound.{begin-call, refusal-call, read-call, get-call, release-call, set-call, store-call, make-call, commit-call, abort-call, read-reply, get-reply, old-slot, old-payload}
 
 pub returns : goal.returns
 returns c = record {
@@ -7,6 +7,7 @@ returns c = record {
   refuses = refusal-call;
   reads = read-call;
   gets = get-call;
+  releases = release-call;
   sets = set-call;
   stores = store-call;
   makes = make-call;

@@ -22,6 +22,11 @@ returns-in-store c =
     let e : c.args.field.now ≡ codes "store" = search (rules, text_from_reads) in
     rw e
 
+pub returns-in-release : goal.returns-in-release
+returns-in-release c =
+    let e : c.args.field.now ≡ codes "release" = search (rules, text_from_reads) in
+    rw e
+
 pub returns-in-commit : goal.returns-in-commit
 returns-in-commit c =
     let e : c.args.field.now ≡ codes "commit" = search (rules, text_from_reads) in

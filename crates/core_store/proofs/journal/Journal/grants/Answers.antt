@@ -1,4 +1,4 @@
-use Rattle.std.proofs.Common.{◌≡◌, true, false, None, sym, ap, ◌∙◌, subst, rules}
+use Rattle.std.proofs.Common.{◌≡◌, false, None, sym, ap, ◌∙◌, subst, rules}
 use Rattle.std.specs.Prelude.{◌&&◌, not, is_none}
 use Rattle.plain_model.specs.Machine.{refusal_of, transaction_of}
 use Rattle.plain_model.specs.declared.calls.Call.TheVariants.{Abort}

@@ -1,10 +1,10 @@
-use Rattle.std.proofs.Common.{◌≡◌, false, true, ◌≤◌, [], inl, inr, sym, ap, ◌∙◌, subst, refl, rules, ⊎_elim, arith}
+use Rattle.std.proofs.Common.{◌≡◌, true, ◌≤◌, [], inl, inr, sym, ap, ◌∙◌, subst, refl, rules, ⊎_elim, arith}
 use Rattle.core_store.specs.Frames.{Agree, HoldsAll}
 use Rattle.core_store.specs.JournalView.{JournalView, cells_of, core_of}
 use Rattle.core_store.specs.Journal.{view_of}
-use Rattle.core_store.specs.Limited.{is_past_limit, pages_for_collector}
+use Rattle.core_store.specs.Limited.{pages_for_collector}
 use Rattle.core_store.specs.RoundView.{Closed, none, asked, is_event}
-use Rattle.core_store.proofs.JournalLooks.{looked-ids, looked-sound, looked-view, looked-core, looked-passes}
+use Rattle.core_store.proofs.JournalLooks.{looked-sound, looked-view, looked-core, looked-passes}
 use Rattle.core_store.specs.Views.{view_of as tables_of}
 use Rattle.core_store.proofs.AskLaws.{standing}
 use Rattle.core_store.proofs.IdleLaws.{idle-event, idle-both, some-left, some-behind}

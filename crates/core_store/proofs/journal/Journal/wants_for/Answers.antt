@@ -1,10 +1,10 @@
-use Rattle.std.proofs.Common.{◌≡◌, sym, ap, ◌∙◌, subst, rules}
+use Rattle.std.proofs.Common.{sym, ap, ◌∙◌, subst, rules}
 use Rattle.core_store.specs.Frames.{Agree, IsNext, pages_held}
 use Rattle.core_store.specs.JournalView.{JournalView, cells_of, core_of}
 use Rattle.core_store.specs.Journal.{view_of}
 use Rattle.core_store.specs.Logged.{want_of}
 use Rattle.core_store.specs.Views.{view_of as tables_of}
-use Rattle.core_store.specs.Work.{IsWorkIn, pages_of_work}
+use Rattle.core_store.specs.Work.{pages_of_work}
 use Rattle.core_store.proofs.JournalSteps.{ids-same}
 use Rattle.core_store.proofs.AskLaws.{works-tables}
 use Rattle.core_store.proofs.journal.Journal.wants_for.Goals as goal

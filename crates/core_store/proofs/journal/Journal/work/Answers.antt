@@ -1,4 +1,4 @@
-use Rattle.std.proofs.Common.{◌≡◌, None, true, false, sym, ap, ◌∙◌, subst, rules}
+use Rattle.std.proofs.Common.{◌≡◌, None, true, false, sym, ◌∙◌, subst, rules}
 use Rattle.plain_model.specs.declared.calls.Call.TheVariants.{Abort}
 use Rattle.plain_model.specs.Machine.{transaction_of}
 use Rattle.plain_model.specs.History.{end_of}
@@ -8,7 +8,7 @@ use Rattle.core_store.specs.Logged.{pages_for}
 use Rattle.core_store.specs.Limited.{is_past_limit}
 use Rattle.core_store.specs.Transactions.{running_at}
 use Rattle.core_store.specs.Views.{view_of as tables_of}
-use Rattle.core_store.specs.Work.{IsWorkIn, pages_of_work}
+use Rattle.core_store.specs.Work.{pages_of_work}
 use Rattle.core_store.proofs.JournalLaws.{inactive-running}
 use Rattle.core_store.proofs.AskLaws.{call-within, call-past, works-journal}
 use Rattle.core_store.proofs.WorkLaws.{no-work}

@@ -15,3 +15,9 @@ returns-in-Begin-clause-ok g c =
 
 pub returns-in-Commit-clause-ok : goal.returns-in-Commit-clause-ok
 returns-in-Commit-clause-ok g c = rw c.in-Commit.is (c.commit.ensures.does c.args.held.now)
+
+pub returns-in-Release-clause-ok : goal.returns-in-Release-clause-ok
+returns-in-Release-clause-ok g c =
+    rw c.in-Release.is
+    (if_ok c.release.result (λ (o : Performed). (held : List (HeldFrame g.row.SLOTS)) → Does (view_of c.args.self.now) (view_of c.release.new.self) held held c.args.pass (plan.Release c.in-Release.id) o)
+    (λ (o : Performed). Does (view_of c.args.self.now) (view_of c.release.new.self) c.args.held.now c.args.held.now c.args.pass (plan.Release c.in-Release.id) o) (λ o k. k c.args.held.now) c.release.ensures.ok)

@@ -1,8 +1,7 @@
-use Rattle.std.proofs.Common.{rules, ◌≡◌, ◌<◌, ◌≤◌, ◌*◌, ℕ, List, [], Some, None, map, sym, ap, subst, ◌∙◌, arith}
+use Rattle.std.proofs.Common.{rules, ◌≡◌, ◌<◌, ◌≤◌, [], Some, None, map, sym, ap, subst, ◌∙◌, arith}
 use Rattle.std.specs.Prelude.{Option, IfSome, slice_get}
 use Rattle.std.specs.Option.{option_map_or}
 use Rattle.cell_page.specs.Format.{page_of_id}
-use Rattle.cell_model.specs.Cells.{Cell}
 use Rattle.core_store.specs.declared.want.Work.{Work}
 use Rattle.core_store.specs.Work.{objects_of, IsWork, AreFew}
 use Rattle.core_store.specs.Collecting.{work_at}

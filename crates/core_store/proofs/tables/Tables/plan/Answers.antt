@@ -1,6 +1,6 @@
 use Rattle.std.proofs.Common.{IfErr, sym, subst}
 use Rattle.plain_model.specs.declared.calls.Call.{Call}
-use Rattle.plain_model.specs.declared.calls.Call.TheVariants.{Read, GetPay, SetPay}
+use Rattle.plain_model.specs.declared.calls.Call.TheVariants.{Read, GetPay, SetPay, Release}
 use Rattle.plain_model.specs.declared.calls.Reply.{Reply}
 use Rattle.core_store.specs.Plans.{IsRefused}
 use Rattle.core_store.specs.Views.{view_of}
@@ -18,6 +18,12 @@ returns-in_err-id-in-GetPay-clause-err g c =
     let P = λ (x : Call) (reply : Reply). IsRefused g.row.SLOTS (view_of c.args.self.now) c.args.pass x reply in
     if_err c.from_residual-in_err-id-in-GetPay.result _ (P c.args.call.now) c.from_residual-in_err-id-in-GetPay.ensures.1
     (λ y k. subst (λ (x : Call). P x y) (sym c.in-GetPay.is) (subst (λ (e : Reply). P (GetPay c.in-GetPay.r) e) (sym k) c.in_err-id-in-GetPay.ensures.err))
+
+pub returns-in_err-id-in-Release-clause-err : goal.returns-in_err-id-in-Release-clause-err
+returns-in_err-id-in-Release-clause-err g c =
+    let P = λ (x : Call) (reply : Reply). IsRefused g.row.SLOTS (view_of c.args.self.now) c.args.pass x reply in
+    if_err c.from_residual-in_err-id-in-Release.result _ (P c.args.call.now) c.from_residual-in_err-id-in-Release.ensures.1
+    (λ y k. subst (λ (x : Call). P x y) (sym c.in-Release.is) (subst (λ (e : Reply). P (Release c.in-Release.r) e) (sym k) c.in_err-id-in-Release.ensures.err))
 
 pub returns-in_err-id-in-SetPay-clause-err : goal.returns-in_err-id-in-SetPay-clause-err
 returns-in_err-id-in-SetPay-clause-err g c =

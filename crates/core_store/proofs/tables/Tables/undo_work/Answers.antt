@@ -1,5 +1,5 @@
-use Rattle.std.proofs.Common.{◌≡◌, List, Some, ap, sym, subst, ◌∙◌}
-use Rattle.std.specs.Prelude.{Option, ℕ}
+use Rattle.std.proofs.Common.{Some, ap, sym, subst, ◌∙◌}
+use Rattle.std.specs.Prelude.{Option}
 use Rattle.plain_model.specs.declared.write.Write.{Write}
 use Rattle.core_store.specs.declared.want.Work.{Work}
 use Rattle.core_store.specs.Logged.{pages_for_undo}

@@ -1,4 +1,4 @@
-use Rattle.std.proofs.Common.{◌≤◌, List, [], sym, ◌∙◌, ⊎_elim, arith, rules}
+use Rattle.std.proofs.Common.{◌≤◌, [], sym, ◌∙◌, ⊎_elim, arith, rules}
 use Rattle.std.specs.Option.{option_map_or}
 use Rattle.core_store.specs.Work.{objects_of}
 use Rattle.core_store.proofs.NextLaws.{next-of}

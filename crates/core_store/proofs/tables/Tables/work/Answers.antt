@@ -1,5 +1,5 @@
-use Rattle.std.proofs.Common.{◌≡◌, List, ap, sym, subst, ◌∙◌}
-use Rattle.std.specs.Prelude.{Option, ℕ}
+use Rattle.std.proofs.Common.{ap, sym, subst, ◌∙◌}
+use Rattle.std.specs.Prelude.{Option}
 use Rattle.core_store.specs.declared.want.Work.{Work}
 use Rattle.core_store.specs.Work.{IsWorkIn, pages_of_work}
 use Rattle.core_store.proofs.PlanRecords.{pages-work, refused-pages}

@@ -1,5 +1,5 @@
 use Rattle.std.proofs.Common.{None, arith}
-use Rattle.core_store.proofs.ThreeLaws.{none-put, none-held}
+use Rattle.core_store.proofs.ThreeLaws.{none-put}
 use Rattle.core_store.proofs.three.Three.clear.Goals as goal
 
 pub invariant_of-self : goal.invariant_of-self

@@ -1,4 +1,4 @@
-use Rattle.std.proofs.Common.{sym, ap, ◌∙◌, List, length, eqb, ne_eqb, ◌≡◌}
+use Rattle.std.proofs.Common.{sym, ap, ◌∙◌, List, length, eqb, ne_eqb}
 use Rattle.std.specs.Prelude.{◌&&◌}
 use Rattle.core_store.specs.declared.frame.Frame.{Frame}
 use Rattle.core_store.specs.declared.three.HeldFrame.{HeldFrame}

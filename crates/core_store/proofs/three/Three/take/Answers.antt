@@ -1,6 +1,5 @@
-use Rattle.std.proofs.Common.{sym, ap, ◌∙◌, arith, refl, subst, List, [], ◌∷◌, ◌++◌, IfSome, Option, ℕ, ◌<◌, ◌≡◌, ◌≢◌}
+use Rattle.std.proofs.Common.{sym, arith, subst, List, [], ◌∷◌, ◌++◌, IfSome, ℕ, ◌<◌, ◌≡◌, ◌≢◌}
 use Rattle.core_store.specs.declared.three.HeldFrame.{HeldFrame}
-use Rattle.core_store.specs.declared.frame.Frame.{Frame}
 use Rattle.core_store.specs.Inside.{AreThreeInside, held_in}
 use Rattle.core_store.proofs.ThreeLaws.{none-put, AreThreeInside-taken, taken-of-all}
 use Rattle.core_store.proofs.three.Three.take.Goals as goal

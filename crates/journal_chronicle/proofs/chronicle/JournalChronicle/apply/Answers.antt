@@ -66,3 +66,6 @@ returns-clause-areas g c = rw (← (c.as_mut-logged.ensures.value ∙ c.self.vie
 pub returns-clause-count : goal.returns-clause-count
 returns-clause-count g c =
     subst (λ (v : LoggedView g.row.D.Denot). c.apply-reply.result ≢ DiskFault → g.D.Disk.faults c.apply-reply.new.self.disk ≡ g.D.Disk.faults v.disk) (c.as_mut-logged.ensures.value ∙ c.self.view_is) c.apply-reply.ensures.count
+
+pub returns-clause-stopped : goal.returns-clause-stopped
+returns-clause-stopped g c = rw (← (c.as_mut-logged.ensures.value ∙ c.self.view_is)) c.apply-reply.ensures.stopped

@@ -23,5 +23,8 @@ returns-in-GetPay-clause-size c = size-answered _ _ _ _ c.get_pay.result c.get_p
 pub returns-in-SetPay-clause-size : goal.returns-in-SetPay-clause-size
 returns-in-SetPay-clause-size c = size-answered _ _ _ _ c.set_pay.result c.set_pay.ensures.ok c.set_pay.ensures.err
 
+pub returns-in-Release-clause-size : goal.returns-in-Release-clause-size
+returns-in-Release-clause-size c = size-answered _ _ _ _ c.release.result c.release.ensures.ok c.release.ensures.err
+
 pub returns-in-Abort-clause-size : goal.returns-in-Abort-clause-size
 returns-in-Abort-clause-size c = size-step _ _ _ _ _ c.abort.ensures
