@@ -20,7 +20,7 @@ ghost use Rattle.core_store.specs.Opening.{ArePages, stored_in, opened_history};
 ghost use Rattle.logged_journal.specs.View.{KeepsLog, OnlyTakesRoom, bytes_counted, history_of};
 ghost use Rattle.logged_journal.specs.Records.{MayHave, MayHaveAll};
 ghost use Rattle.logged_journal.specs.Opens.{OpensAfter, OpensDuring};
-ghost use Rattle.logged_journal.specs.Upkeep.{IsPastLogToClean, IsPastLogToTurn, IsTurned, KeepsButPages, Turns, TellsBusy, FailsUpkeep};
+ghost use Rattle.logged_journal.specs.Upkeep.{IsPastLogToClean, IsPastLogToTurn, IsTurned, KeepsButPages, Turns, TellsBusy, FailsUpkeep, OnlyNames};
 ghost use Rattle.logged_journal.specs.Calls.{IsOfJournal, IsGranted, IsPastLog, DoesCall, KeepsDisk, GoesOn, OnlyForces, FailsCommit, DoesAbortStep};
 ghost use Rattle.framed_journal.specs.Holding.{AreFramesOf};
 ghost use Rattle.framed_journal.specs.Upkeep.{CleansPage, ForcesPages};
@@ -300,6 +300,9 @@ impl<const SLOTS: usize, D: Disk> FramedJournal<SLOTS, D> {
 
         // The images that joined the log before that are those of the changed pages without a current one, ascending, each once.
         ensures old_log { result ≡ Upkeep.Done → ForcesPages SLOTS D.content self.old self.new }
+
+        // Of the super area the first byte alone changes, which names the other log area then.
+        ensures super_area { OnlyNames D.content D.may_leave self.old self.new result }
         ensures fault { result ≡ Upkeep.DiskFault → FailsUpkeep D.faults self.old self.new }
         ensures later { D.faults self.old.disk ≤ D.faults self.new.disk }
 

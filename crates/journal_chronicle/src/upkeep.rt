@@ -13,7 +13,7 @@ ghost use Rattle.logged_journal.specs.Calls.{KeepsDisk};
 ghost use Rattle.logged_journal.specs.Records.{MayHaveAll};
 ghost use Rattle.logged_journal.specs.Opens.{OpensAfter};
 ghost use Rattle.logged_journal.specs.Checkpoints.{ForcesImages};
-ghost use Rattle.logged_journal.specs.Upkeep.{IsClean, IsPastLogToClean, IsPastLogToTurn, IsTurned, Cleans, OnlyCleans, Turns, TellsBusy, FailsUpkeep};
+ghost use Rattle.logged_journal.specs.Upkeep.{IsClean, IsPastLogToClean, IsPastLogToTurn, IsTurned, Cleans, OnlyCleans, Turns, TellsBusy, FailsUpkeep, OnlyNames};
 ghost use Rattle.journal_chronicle.specs.Steps.{entered_by_refusal, entered_by_upkeep, marked_by_refusal, marked_by_upkeep, no_page, GoesOnWith};
 
 use crate::chronicle::{JournalChronicle, count_notes};
@@ -152,6 +152,9 @@ impl<const SLOTS: usize, D: Disk> JournalChronicle<SLOTS, D> {
 
         // The images that joined the log before that are those of the changed pages without a current one, ascending, each once.
         ensures old_log { result ≡ Upkeep.Done → ForcesImages D.content frames.now self.old self.new }
+
+        // Of the super area the first byte alone changes, which names the other log area then.
+        ensures super_area { OnlyNames D.content D.may_leave self.old self.new result }
 
         ensures fault { result ≡ Upkeep.DiskFault → FailsUpkeep D.faults self.old self.new }
         ensures later { D.faults self.old.disk ≤ D.faults self.new.disk }

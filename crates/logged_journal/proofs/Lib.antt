@@ -27,3 +27,4 @@ pub mod CheckpointImages
 pub mod CheckpointPlaces
 pub mod CheckpointSteps
 pub mod OldLogs
+pub mod NamedAreas

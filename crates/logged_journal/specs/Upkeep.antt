@@ -1,9 +1,10 @@
 -- What upkeep of the log and of the pages does: a page is cleaned, and the log is turned.
 use Rattle.std.specs.Prelude.{◌≡◌, ◌≢◌, ◌⊎◌, ℕ, suc, ◌+◌, ◌*◌, ◌<◌, ◌≤◌, max, List, [], ◌∷◌, ◌++◌, length, replicate, true, false, if◌then◌else◌, Option, Some, None, option_map}
 use Rattle.disk_model.specs.declared.area.Area.{Area}
-use Rattle.disk_model.specs.declared.area.Area.TheVariants.{Pages}
+use Rattle.disk_model.specs.declared.area.Area.TheVariants.{Super, Pages}
 use Rattle.disk_model.specs.Areas.{Bytes, in_area}
-use Rattle.disk_model.specs.Told.{Keeps}
+use Rattle.disk_model.specs.Changes.{written, Torn}
+use Rattle.disk_model.specs.Told.{Keeps, Follows}
 use Rattle.disk_model.specs.Causes.{Rose}
 use Rattle.plain_model.specs.declared.calls.Entry.TheVariants.{Hidden, TurnBusy}
 use Rattle.cell_model.specs.Cells.{Cell}
@@ -13,7 +14,7 @@ use Rattle.log_record.specs.declared.record.Record.{Record}
 use Rattle.log_record.specs.declared.record.Record.TheVariants.{Image}
 use Rattle.log_record.specs.Spelling.{record_bytes}
 use Rattle.gate_log.specs.Batches.{IsLog, most_bytes}
-use Rattle.gate_log.specs.State.{appended, forced, forced_area, other_log}
+use Rattle.gate_log.specs.State.{appended, forced, forced_area, naming_byte, other_log}
 use Rattle.gate_log.specs.OnDisk.{named_by}
 use Rattle.page_area.specs.Place.{bytes_of_page}
 use Rattle.opened_images.specs.LogRecords.{body_of, all_of, first_records}
@@ -135,6 +136,12 @@ pub record Turns {D : Type 0} (slots : ℕ) (old new : LoggedView D) : Type 0 wh
   pub area : new.log.area ≡ other_log old.log.area
   pub first : new.log.durable ≡ 9
   pub marks : new.marks ≡ replicate (length old.marks) unmarked
+
+-- What a checkpoint makes of the super area: all but its first byte stays. Where the checkpoint was done, that byte names the other
+-- log area.
+pub record OnlyNames {D : Type 0} (content : D → Area → Option (List ℕ)) (may_leave : D → Area → List ℕ → Type 0) (old new : LoggedView D) (result : Upkeep) : Type 0 where
+  pub others : Follows content may_leave (Torn 0 1) old.disk new.disk Super
+  pub named : result ≡ Done → content new.disk Super ≡ option_map (written 0 (naming_byte (other_log old.log.area) ∷ [])) (content old.disk Super)
 
 -- with the images that a turn needs, in one batch, the log would be longer than a log may be
 abbrev pub IsPastFormat : {D : Type 0} → ℕ → LoggedView D → Type 0

@@ -1,13 +1,14 @@
 //! The log is turned: a checkpoint, after which it begins anew.
-ghost use Rattle.std.specs.Prelude.{◌≡◌, ◌≢◌, ◌⊎◌, ◌↔◌, ℕ, ◌+◌, ◌*◌, ◌<◌, ◌≤◌, [], true, false, length, vec_capacity, IfOk, IfSome, IsSome, Some, None, OnOk, OnErr};
-ghost use Rattle.disk_model.specs.declared.area.Area.TheVariants.{Pages};
-ghost use Rattle.disk_model.specs.Told.{Keeps, KeepsOthers, EachImage, Leaves};
+ghost use Rattle.std.specs.Prelude.{◌≡◌, ◌≢◌, ◌⊎◌, ◌↔◌, ℕ, ◌+◌, ◌*◌, ◌<◌, ◌≤◌, [], ◌∷◌, true, false, length, option_map, vec_capacity, IfOk, IfSome, IsSome, Some, None, OnOk, OnErr};
+ghost use Rattle.disk_model.specs.declared.area.Area.TheVariants.{Super, Pages};
+ghost use Rattle.disk_model.specs.Changes.{written, Torn};
+ghost use Rattle.disk_model.specs.Told.{Keeps, KeepsOthers, Follows, EachImage, Leaves};
 ghost use Rattle.disk_model.specs.Time.{LeavesOnlyImages};
 ghost use Rattle.plain_model.specs.History.{end_of, least_active};
 ghost use Rattle.cell_page.specs.Format.{IsSlotCount, AreTyped, page_size, page_bytes};
 ghost use Rattle.cell_page.specs.Stored.{HoldsPage};
 ghost use Rattle.gate_log.specs.Batches.{most_bytes};
-ghost use Rattle.gate_log.specs.State.{other_log};
+ghost use Rattle.gate_log.specs.State.{naming_byte, other_log};
 ghost use Rattle.log_record.specs.Spelling.{known_version};
 ghost use Rattle.page_area.specs.InPlace.{HasCopy};
 ghost use Rattle.opened_images.specs.Marks.{StandsInPlace};
@@ -18,7 +19,7 @@ ghost use Rattle.core_store.specs.Owed.{bytes_owed};
 ghost use Rattle.logged_journal.specs.View.{OnlyTakesRoom, bytes_counted, history_of, image_bytes, image_need};
 ghost use Rattle.logged_journal.specs.Records.{MayHaveAll};
 ghost use Rattle.logged_journal.specs.Opens.{OpensAfter};
-ghost use Rattle.logged_journal.specs.Upkeep.{IsPastFormat, IsPastLogToTurn, IsTurned, LogsImage, OnlyDisk, Turns, TellsBusy, FailsUpkeep};
+ghost use Rattle.logged_journal.specs.Upkeep.{IsPastFormat, IsPastLogToTurn, IsTurned, LogsImage, OnlyDisk, OnlyNames, Turns, TellsBusy, FailsUpkeep};
 ghost use Rattle.logged_journal.specs.Checkpoints.{ForcesImages, page_in, has_changed, wants_image, changed_below, wanted_below, AreThere, LogsImages, AreCurrent, BeginsAnew};
 
 use crate::cleaning::BATCH_BYTES;
@@ -127,7 +128,7 @@ impl<const SLOTS: usize, D: Disk> LoggedJournal<SLOTS, D> {
         requires room { page_size SLOTS * length (changed_below self.old.marks (length self.old.marks)) ≤ vec_capacity run.old }
         ensures done { OnOk result (OnlyDisk self.old self.new) }
         ensures there { OnOk result (IfSome (D.content self.new.disk Pages) (AreThere frames.now self.old.marks (length self.old.marks))) }
-        ensures others { OnOk result (KeepsOthers D.content D.may_leave self.old.disk self.new.disk Pages) }
+        ensures others { KeepsOthers D.content D.may_leave self.old.disk self.new.disk Pages }
         ensures fault { OnErr result (FailsUpkeep D.faults self.old self.new) }
         ensures later { D.faults self.old.disk ≤ D.faults self.new.disk }
         ensures count { OnOk result (D.faults self.new.disk ≡ D.faults self.old.disk) }
@@ -158,7 +159,7 @@ impl<const SLOTS: usize, D: Disk> LoggedJournal<SLOTS, D> {
         requires room { page_size SLOTS * length (changed_below self.old.marks (length self.old.marks)) ≤ vec_capacity run.old }
         ensures done { OnOk result (OnlyDisk self.old self.new) }
         ensures stand { OnOk result ((page : ℕ) → page < length frames.now → Leaves D.may_leave self.new.disk Pages (λ area. StandsInPlace SLOTS area (cells_of self.old.journal) page)) }
-        ensures others { OnOk result (KeepsOthers D.content D.may_leave self.old.disk self.new.disk Pages) }
+        ensures others { KeepsOthers D.content D.may_leave self.old.disk self.new.disk Pages }
         ensures fault { OnErr result (FailsUpkeep D.faults self.old self.new) }
         ensures later { D.faults self.old.disk ≤ D.faults self.new.disk }
         ensures count { OnOk result (D.faults self.new.disk ≡ D.faults self.old.disk) }
@@ -188,6 +189,8 @@ impl<const SLOTS: usize, D: Disk> LoggedJournal<SLOTS, D> {
         ensures done { OnOk result (BeginsAnew SLOTS pages self.old self.new) }
         ensures turned { OnOk result (EachImage D.may_leave self.new.disk (IsTurned SLOTS (cells_of self.old.journal) (other_log self.old.log.area))) }
         ensures old { OnOk result (Keeps D.content D.may_leave self.old.disk self.new.disk self.old.log.area) }
+        ensures others { Follows D.content D.may_leave (Torn 0 1) self.old.disk self.new.disk Super }
+        ensures named { OnOk result (D.content self.new.disk Super ≡ option_map (written 0 (naming_byte (other_log self.old.log.area) ∷ [])) (D.content self.old.disk Super)) }
         ensures fault { OnErr result (FailsUpkeep D.faults self.old self.new) }
         ensures later { D.faults self.old.disk ≤ D.faults self.new.disk }
         ensures count { OnOk result (D.faults self.new.disk ≡ D.faults self.old.disk) }
@@ -237,6 +240,7 @@ impl<const SLOTS: usize, D: Disk> LoggedJournal<SLOTS, D> {
         ensures done { result ≡ Upkeep.Done → Turns SLOTS self.old self.new }
         ensures turned { result ≡ Upkeep.Done → EachImage D.may_leave self.new.disk (IsTurned SLOTS (cells_of self.old.journal) (other_log self.old.log.area)) }
         ensures old_log { result ≡ Upkeep.Done → ForcesImages D.content frames.now self.old self.new }
+        ensures super_area { OnlyNames D.content D.may_leave self.old self.new result }
         ensures fault { result ≡ Upkeep.DiskFault → FailsUpkeep D.faults self.old self.new }
         ensures later { D.faults self.old.disk ≤ D.faults self.new.disk }
         ensures count { result ≢ Upkeep.DiskFault → D.faults self.new.disk ≡ D.faults self.old.disk }
@@ -308,6 +312,7 @@ impl<const SLOTS: usize, D: Disk> LoggedJournal<SLOTS, D> {
         ensures done { result ≡ Upkeep.Done → Turns SLOTS self.old self.new }
         ensures turned { result ≡ Upkeep.Done → EachImage D.may_leave self.new.disk (IsTurned SLOTS (cells_of self.old.journal) (other_log self.old.log.area)) }
         ensures old_log { result ≡ Upkeep.Done → ForcesImages D.content frames.now self.old self.new }
+        ensures super_area { OnlyNames D.content D.may_leave self.old self.new result }
         ensures fault { result ≡ Upkeep.DiskFault → FailsUpkeep D.faults self.old self.new }
         ensures later { D.faults self.old.disk ≤ D.faults self.new.disk }
         ensures count { result ≢ Upkeep.DiskFault → D.faults self.new.disk ≡ D.faults self.old.disk }
@@ -363,6 +368,9 @@ impl<const SLOTS: usize, D: Disk> LoggedJournal<SLOTS, D> {
 
         // The images that joined the log before that are those of the changed pages without a current one, ascending, each once.
         ensures old_log { result ≡ Upkeep.Done → ForcesImages D.content frames.now self.old self.new }
+
+        // Of the super area the first byte alone changes, which names the other log area then.
+        ensures super_area { OnlyNames D.content D.may_leave self.old self.new result }
         ensures fault { result ≡ Upkeep.DiskFault → FailsUpkeep D.faults self.old self.new }
         ensures later { D.faults self.old.disk ≤ D.faults self.new.disk }
         ensures count { result ≢ Upkeep.DiskFault → D.faults self.new.disk ≡ D.faults self.old.disk }

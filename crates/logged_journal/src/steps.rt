@@ -106,7 +106,7 @@ impl<const SLOTS: usize, D: Disk> LoggedJournal<SLOTS, D> {
         requires bounded { bytes_counted self.old + 5 ≤ most_bytes }
         ensures done { OnOk result (ForcesAll self.old self.new) }
         ensures bytes { OnOk result (D.content self.new.disk self.old.log.area ≡ option_map (forced_area self.old.log.durable self.old.log.tail) (D.content self.old.disk self.old.log.area)) }
-        ensures area { OnOk result (IsLogArea self.old.log.area) }
+        ensures area { IsLogArea self.old.log.area }
         ensures others { KeepsOthers D.content D.may_leave self.old.disk self.new.disk self.old.log.area }
         ensures fault { OnErr result (FailsUpkeep D.faults self.old self.new) }
         ensures later { D.faults self.old.disk ≤ D.faults self.new.disk }

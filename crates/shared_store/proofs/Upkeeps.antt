@@ -14,6 +14,7 @@ use Rattle.logged_journal.specs.View.{LoggedView, OnlyTakesRoom, history_of}
 use Rattle.logged_journal.specs.Calls.{KeepsDisk}
 use Rattle.logged_journal.specs.Opens.{OpensAfter}
 use Rattle.logged_journal.specs.Upkeep.{IsPastLogToClean, IsPastLogToTurn, Cleans, Turns, TellsBusy, FailsUpkeep}
+use Rattle.logged_journal.proofs.NamedAreas.{names-still}
 use Rattle.logged_journal.proofs.OldLogs.{only-memory}
 use Rattle.latch_table.specs.declared.hold.Held.{Held}
 use Rattle.latch_table.specs.Holds.{IsAlone}
@@ -209,6 +210,7 @@ module _ {D : Type 0} (slots : ℕ) (faults : D → ℕ) (content : D → Area �
     done = λ e. absurd (r.never.0 (ap Some e));
     turned = λ e. absurd (r.never.0 (ap Some e));
     old_log = λ e. absurd (r.never.0 (ap Some e));
+    super_area = names-still content may_leave j k u r.untouched.disk (λ e. r.never.0 (ap Some e));
     fault = λ e. absurd (r.never.2 (ap Some e));
     later = same-faults slots faults may_leave j k r.untouched.disk;
     count = λ e. ap faults r.untouched.disk;
@@ -240,6 +242,7 @@ module _ {D : Type 0} (slots : ℕ) (faults : D → ℕ) (content : D → Area �
     done = λ e. turns-in_room u w reserved room (d.done e);
     turned = d.turned;
     old_log = λ e. let f = d.old_log e in record { frames = f.frames; pages = f.pages; agree = f.agree; forced = f.forced };
+    super_area = let f = d.super_area in record { others = f.others; named = f.named };
     fault = λ e. fails-in_room slots faults may_leave u w reserved room (d.fault e);
     later = d.later;
     count = d.count;
@@ -267,6 +270,7 @@ module _ {D : Type 0} (slots : ℕ) (faults : D → ℕ) (content : D → Area �
     done = λ e. absurd (cc);
     turned = λ e. absurd (cc);
     old_log = λ e. absurd (cc);
+    super_area = names-still content may_leave j k upkeep.Memory (ap (λ (x : LoggedView D). x.disk) m.takes) (λ e. cc (e));
     fault = λ e. absurd (cc);
     later = same-faults slots faults may_leave j k (ap (λ (x : LoggedView D). x.disk) m.takes);
     count = λ e. ap faults (ap (λ (x : LoggedView D). x.disk) m.takes);

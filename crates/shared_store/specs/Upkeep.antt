@@ -15,7 +15,7 @@ use Rattle.logged_journal.specs.declared.upkeep.Upkeep.{Upkeep}
 use Rattle.logged_journal.specs.declared.upkeep.Upkeep.TheVariants as upkeep
 use Rattle.logged_journal.specs.Opens.{OpensAfter}
 use Rattle.logged_journal.specs.View.{LoggedView, OnlyTakesRoom, bytes_counted, history_of}
-use Rattle.logged_journal.specs.Upkeep.{IsPastLogToClean, IsPastLogToTurn, IsTurned, Turns, TellsBusy, FailsUpkeep}
+use Rattle.logged_journal.specs.Upkeep.{IsPastLogToClean, IsPastLogToTurn, IsTurned, Turns, TellsBusy, FailsUpkeep, OnlyNames}
 use Rattle.framed_journal.specs.Upkeep.{CleansPage, ForcesPages}
 use Rattle.latch_table.specs.declared.hold.Held.{Held}
 use Rattle.latch_table.specs.Holds.{IsAlone}
@@ -97,6 +97,7 @@ pub record DoesTurnOn {D : Type 0} (slots : ℕ) (faults : D → ℕ) (content :
   pub done : result ≡ upkeep.Done → Turns slots before after
   pub turned : result ≡ upkeep.Done → EachImage may_leave after.disk (IsTurned slots (cells_of before.journal) (other_log before.log.area))
   pub old_log : result ≡ upkeep.Done → ForcesPages slots content before after
+  pub super_area : OnlyNames content may_leave before after result
   pub fault : result ≡ upkeep.DiskFault → FailsUpkeep faults before after
   pub later : faults before.disk ≤ faults after.disk
   pub count : result ≢ upkeep.DiskFault → faults after.disk ≡ faults before.disk

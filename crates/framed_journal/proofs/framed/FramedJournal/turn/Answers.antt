@@ -5,7 +5,7 @@ use Rattle.core_store.specs.Frames.{AllAgree}
 use Rattle.core_store.specs.JournalView.{cells_of}
 use Rattle.logged_journal.specs.declared.upkeep.Upkeep.TheVariants.{LogFull, Memory}
 use Rattle.logged_journal.specs.View.{LoggedView}
-use Rattle.logged_journal.specs.Upkeep.{IsPastLogToTurn}
+use Rattle.logged_journal.specs.Upkeep.{IsPastLogToTurn, OnlyNames}
 use Rattle.framed_journal.specs.Upkeep.{ForcesPages}
 use Rattle.framed_journal.proofs.HoldLaws.{slots-few}
 use Rattle.framed_journal.proofs.WholeLaws.{in-size, in-same}
@@ -39,3 +39,6 @@ returns-clause-too_long g c = subst (λ (v : LoggedView g.row.D.Denot). c.turn.r
 pub returns-clause-only_too_long : goal.returns-clause-only_too_long
 returns-clause-only_too_long g c =
     subst (λ (v : LoggedView g.row.D.Denot). IsPastLogToTurn g.row.SLOTS v → (c.turn.result ≡ LogFull) ⊎ (c.turn.result ≡ Memory)) c.self.view_is c.turn.ensures.only_too_long
+
+pub returns-clause-super_area : goal.returns-clause-super_area
+returns-clause-super_area g c = subst (λ (v : LoggedView g.row.D.Denot). OnlyNames g.D.Disk.content g.D.Disk.may_leave v c.turn.new.self c.turn.result) c.self.view_is c.turn.ensures.super_area

@@ -2,7 +2,7 @@ use Rattle.std.proofs.Common.{◌≡◌, ◌≢◌, ◌⊎◌, ◌≤◌, length
 use Rattle.logged_journal.specs.declared.upkeep.Upkeep.TheVariants.{Done, LogFull, Memory, DiskFault}
 use Rattle.logged_journal.specs.View.{LoggedView}
 use Rattle.logged_journal.specs.Checkpoints.{ForcesImages}
-use Rattle.logged_journal.specs.Upkeep.{IsPastLogToTurn}
+use Rattle.logged_journal.specs.Upkeep.{OnlyNames, IsPastLogToTurn}
 use Rattle.journal_chronicle.specs.Steps.{entered_by_upkeep, marked_by_upkeep, no_page, GoesOnWith}
 use Rattle.journal_chronicle.specs.Inside.{IsChronicle}
 use Rattle.journal_chronicle.proofs.Goings.{slots-few}
@@ -57,3 +57,7 @@ returns-clause-old_log g c =
 pub returns-clause-count : goal.returns-clause-count
 returns-clause-count g c =
     subst (λ (v : LoggedView g.row.D.Denot). c.turn-answer.result ≢ DiskFault → g.D.Disk.faults c.turn-answer.new.self.disk ≡ g.D.Disk.faults v.disk) (c.as_mut-logged.ensures.value ∙ c.self.view_is) c.turn-answer.ensures.count
+
+pub returns-clause-super_area : goal.returns-clause-super_area
+returns-clause-super_area g c =
+    subst (λ (v : LoggedView g.row.D.Denot). OnlyNames g.D.Disk.content g.D.Disk.may_leave v c.turn-answer.new.self c.turn-answer.result) (c.as_mut-logged.ensures.value ∙ c.self.view_is) c.turn-answer.ensures.super_area

@@ -1,13 +1,14 @@
-use Rattle.std.proofs.Common.{◌≡◌, ◌∙◌, ℕ, ◌+◌, ◌≤◌, List, [], ◌∷◌, ◌++◌, map, ⊎_elim, sym, ap, subst, arith, Ok, Err, Option}
-use Rattle.std.specs.Prelude.{OnOk, IsOk, IfSome, Result, vec_capacity, vec_len}
-use Rattle.disk_model.specs.declared.area.Area.TheVariants.{Pages}
+use Rattle.std.proofs.Common.{◌≡◌, ◌∙◌, ℕ, ◌+◌, ◌≤◌, List, [], ◌∷◌, ◌++◌, map, ⊎_elim, sym, ap, subst, arith, rules, Ok, Err, Option}
+use Rattle.std.specs.Prelude.{OnOk, IsOk, IfSome, Result, option_map, vec_capacity, vec_len}
+use Rattle.disk_model.specs.declared.area.Area.TheVariants.{Super, Pages}
+use Rattle.disk_model.specs.Changes.{written, Torn}
 use Rattle.disk_model.specs.Causes.{Rose}
-use Rattle.disk_model.specs.Told.{Keeps, EachImage}
+use Rattle.disk_model.specs.Told.{Keeps, Follows, EachImage}
 use Rattle.disk_model.specs.Time.{LeavesOnlyImages}
 use Rattle.disk_model.proofs.Moments.{at_exit}
 use Rattle.log_record.specs.Spelling.{record_bytes}
 use Rattle.log_record.specs.declared.record.Record.TheVariants.{Turn}
-use Rattle.gate_log.specs.State.{turned, failed, other_log}
+use Rattle.gate_log.specs.State.{turned, failed, naming_byte, other_log}
 use Rattle.disk_model.specs.declared.area.Area.{Area}
 use Rattle.gate_log.specs.OnDisk.{IsOn}
 use Rattle.core_store.specs.declared.note.Note.{Note}
@@ -22,7 +23,7 @@ use Rattle.logged_journal.specs.Upkeep.{IsTurned}
 use Rattle.logged_journal.proofs.ImagesOpen.{TellsItself}
 use Rattle.logged_journal.proofs.CommitDone.{was-ok, on-ok, on-err}
 use Rattle.logged_journal.proofs.Upkeeps.{kept-stopped}
-use Rattle.logged_journal.proofs.CheckpointBegins.{IsReady, ready, first-bytes, batch, turn-moments, kept-anew, anew-turned}
+use Rattle.logged_journal.proofs.CheckpointBegins.{IsReady, some-id, ready, first-bytes, batch, turn-moments, kept-anew, anew-turned}
 use Rattle.logged_journal.proofs.logged.LoggedJournal.begin_anew.Goals as goal
 
 on-written : {T E : Type 0} {P : Type 0} (r : Result T E) → IsOk r → OnOk r P → P
@@ -245,3 +246,26 @@ pub returns-clause-old : goal.returns-clause-old
 returns-clause-old g c =
     subst (λ (w : LoggedView g.row.D.Denot). Keeps g.D.Disk.content g.D.Disk.may_leave w.disk c.turn.new.disk w.log.area) c.self.view_is
     (subst (λ (d : g.row.D.Denot). Keeps g.D.Disk.content g.D.Disk.may_leave d c.turn.new.disk c.self.inside.log.area) c.as_mut.ensures.value c.turn.ensures.old)
+
+pub returns-then-is_err-clause-others : goal.returns-then-is_err-clause-others
+returns-then-is_err-clause-others g c =
+    subst (λ (w : LoggedView g.row.D.Denot). Follows g.D.Disk.content g.D.Disk.may_leave (Torn 0 1) w.disk c.turn.new.disk Super) c.self.view_is
+    (subst (λ (d : g.row.D.Denot). Follows g.D.Disk.content g.D.Disk.may_leave (Torn 0 1) d c.turn.new.disk Super) c.as_mut.ensures.value c.turn.ensures.other_names)
+
+pub returns-clause-others : goal.returns-clause-others
+returns-clause-others g c =
+    subst (λ (w : LoggedView g.row.D.Denot). Follows g.D.Disk.content g.D.Disk.may_leave (Torn 0 1) w.disk c.turn.new.disk Super) c.self.view_is
+    (subst (λ (d : g.row.D.Denot). Follows g.D.Disk.content g.D.Disk.may_leave (Torn 0 1) d c.turn.new.disk Super) c.as_mut.ensures.value c.turn.ensures.other_names)
+
+pub returns-clause-named : goal.returns-clause-named
+returns-clause-named g c =
+    let named = on-ok c.turn.result _ (sym c.is_err.ensures.value ∙ c.if-is_err.false) c.turn.ensures.name in
+    let here = subst (λ (d : g.row.D.Denot). g.D.Disk.content c.turn.new.disk Super ≡ option_map (written 0 (naming_byte (other_log c.self.inside.log.area) ∷ [])) (g.D.Disk.content d Super)) c.as_mut.ensures.value named in
+    subst (λ (w : LoggedView g.row.D.Denot). g.D.Disk.content c.turn.new.disk Super ≡ option_map (written 0 (naming_byte (other_log w.log.area) ∷ [])) (g.D.Disk.content w.disk Super)) c.self.view_is here
+
+pub write-requires : goal.write-requires
+write-requires g c =
+    let some = some-id c.self.inside.journal c.history.ensures.safe in
+    let ids = ap (λ (w : LoggedView g.row.D.Denot). w.journal.history.ids) c.self.view_is in
+    let known = c.requires.pages in
+    (search rules, (c.self.invariant.size, (c.known_version.ensures, omega (arith, some, ids, known), search rules)))

@@ -60,5 +60,5 @@ pub returns-clause-areas : goal.returns-clause-areas
 returns-clause-areas g c =
     let succeeded = sym c.is_err.ensures.value ∙ c.if-is_err.false in
     cleans-all g.D.Disk.content g.D.Disk.may_leave c.args.page c.args.frame.now.page c.args.self.now c.log_wanted.new.self c.log_wanted.ensures.logged c.force_all.new.self c.put_in_place.new.self c.hide.new.self
-    (on-ok c.force_all.result _ succeeded c.force_all.ensures.area) c.force_all.ensures.others c.put_in_place.ensures.others (on-ok c.force_all.result _ succeeded c.force_all.ensures.bytes)
+    c.force_all.ensures.area c.force_all.ensures.others c.put_in_place.ensures.others (on-ok c.force_all.result _ succeeded c.force_all.ensures.bytes)
     (ap (λ (w : LoggedView g.row.D.Denot). w.disk) c.hide.ensures.hidden)

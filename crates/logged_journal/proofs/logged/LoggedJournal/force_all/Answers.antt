@@ -131,6 +131,12 @@ returns-clause-area g c =
     let stands = c.self.invariant.kept.standing (runs v c.args.self.now c.self.view_is c.requires.running) in
     subst (λ (w : LoggedView g.row.D.Denot). IsLogArea w.log.area) c.self.view_is stands.on.area
 
+pub returns-then-is_err-clause-area : goal.returns-then-is_err-clause-area
+returns-then-is_err-clause-area g c =
+    let v = view_of c.self.inside in
+    let stands = c.self.invariant.kept.standing (runs v c.args.self.now c.self.view_is c.requires.running) in
+    subst (λ (w : LoggedView g.row.D.Denot). IsLogArea w.log.area) c.self.view_is stands.on.area
+
 pub returns-then-is_err-clause-others : goal.returns-then-is_err-clause-others
 returns-then-is_err-clause-others g c =
     subst (λ (w : LoggedView g.row.D.Denot). KeepsOthers g.D.Disk.content g.D.Disk.may_leave w.disk c.force.new.disk w.log.area) c.self.view_is

@@ -55,4 +55,7 @@ returns-clause-stand g c =
 
 pub returns-clause-others : goal.returns-clause-others
 returns-clause-others g c =
-    keeps_still (on-ok c.write_changed.result _ (sym c.is_err.ensures.value ∙ c.if-is_err.false) c.write_changed.ensures.others) c.sync_pages.ensures.keeps
+    keeps_still c.write_changed.ensures.others c.sync_pages.ensures.keeps
+
+pub returns-then-is_err-2-clause-others : goal.returns-then-is_err-2-clause-others
+returns-then-is_err-2-clause-others g c = keeps_still c.write_changed.ensures.others c.sync_pages.ensures.keeps

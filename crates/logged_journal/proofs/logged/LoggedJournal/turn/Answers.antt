@@ -12,6 +12,7 @@ use Rattle.logged_journal.specs.declared.upkeep.Upkeep.TheVariants.{LogFull}
 use Rattle.logged_journal.specs.Upkeep.{IsPastFormat}
 use Rattle.logged_journal.specs.Checkpoints.{ForcesImages}
 use Rattle.logged_journal.proofs.OldLogs.{only-memory, has-room}
+use Rattle.logged_journal.proofs.NamedAreas.{names-still, names-after}
 use Rattle.logged_journal.proofs.RoomTaken.{room-entry, room-have}
 use Rattle.logged_journal.proofs.UpkeepOpens.{still-upkeep, still-opened, upkeep-opens}
 use Rattle.logged_journal.proofs.logged.LoggedJournal.turn.Given.{Over}
@@ -88,3 +89,14 @@ returns-in-Some-clause-only_too_long g c past =
     (λ f. let full = (e.full.0 (is ∙ ap (λ (u : Upkeep). Some u) f)).1 in let room = past.room in let clash = sym full ∙ room in cc (clash))
     (λ n f. let some = e.only_stopped n (is ∙ ap (λ (u : Upkeep). Some u) f) in let running = past.running in let clash = subst (λ (o : Option FailedCall). IsSome o) running some in cc (clash))
     (λ n f. let least = e.only_busy n (is ∙ ap (λ (u : Upkeep). Some u) f) in let idle = past.idle in let clash = sym idle ∙ least in cc (clash)))
+
+pub returns-in-Some-clause-super_area : goal.returns-in-Some-clause-super_area
+returns-in-Some-clause-super_area g c =
+    let e = c.refuse_turn.ensures in
+    names-still g.D.Disk.content g.D.Disk.may_leave c.args.self.now c.refuse_turn.new.self c.in-Some.upkeep e.untouched.disk (λ f. e.never.0 (c.in-Some.is ∙ ap (λ (u : Upkeep). Some u) f))
+
+pub returns-in-None-clause-super_area : goal.returns-in-None-clause-super_area
+returns-in-None-clause-super_area g c =
+    let v = c.args.self.now in
+    let w = c.refuse_turn.new.self in
+    names-after g.D.Disk.content g.D.Disk.may_leave v w c.turn_idle.new.self c.turn_idle.result (room-entry v w (c.refuse_turn.ensures.free c.in-None.is).2) c.turn_idle.ensures.super_area

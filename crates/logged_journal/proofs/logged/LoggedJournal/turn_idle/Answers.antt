@@ -17,6 +17,8 @@ use Rattle.logged_journal.specs.Checkpoints.{wanted_below, changed_below, Forces
 use Rattle.logged_journal.proofs.CommitDone.{on-ok}
 use Rattle.logged_journal.proofs.RoomTaken.{room-same, room-log, room-have}
 use Rattle.logged_journal.proofs.OldLogs.{need-is}
+use Rattle.logged_journal.specs.declared.upkeep.Upkeep.TheVariants.{LogFull, Memory}
+use Rattle.logged_journal.proofs.NamedAreas.{names-still, names-after}
 use Rattle.logged_journal.proofs.UpkeepOpens.{still-upkeep}
 use Rattle.logged_journal.proofs.logged.LoggedJournal.turn_idle.Goals as goal
 
@@ -108,3 +110,21 @@ returns-in-Ok-clause-too_long g c =
       λ is. absurd (⊎_elim (λ done. let clash = sym done ∙ is in cc (clash)) (λ fault. let clash = sym fault ∙ is in cc (clash)) c.turn_in_room.ensures.answers),
       λ past. absurd (let clash = sym c.if-is_too_long.false ∙ c.is_too_long.ensures.long.1 (omega (arith, need, past)) in cc (clash)),
     )
+
+pub returns-then-is_too_long-clause-super_area : goal.returns-then-is_too_long-clause-super_area
+returns-then-is_too_long-clause-super_area g c =
+    names-still g.D.Disk.content g.D.Disk.may_leave c.args.self.now c.mark_full.new.self LogFull (ap (λ (w : LoggedView g.row.D.Denot). w.disk) c.mark_full.ensures.marked) (λ e. cc (e))
+
+pub returns-then-is_err-clause-super_area : goal.returns-then-is_err-clause-super_area
+returns-then-is_err-clause-super_area g c =
+    names-still g.D.Disk.content g.D.Disk.may_leave c.args.self.now c.take_room.new.self Memory (ap (λ (w : LoggedView g.row.D.Denot). w.disk) c.take_room.ensures.same) (λ e. cc (e))
+
+pub returns-in-Err-clause-super_area : goal.returns-in-Err-clause-super_area
+returns-in-Err-clause-super_area g c =
+    names-still g.D.Disk.content g.D.Disk.may_leave c.args.self.now c.take_room.new.self Memory (ap (λ (w : LoggedView g.row.D.Denot). w.disk) c.take_room.ensures.same) (λ e. cc (e))
+
+pub returns-in-Ok-clause-super_area : goal.returns-in-Ok-clause-super_area
+returns-in-Ok-clause-super_area g c =
+    let v = c.args.self.now in
+    let w = c.take_room.new.self in
+    names-after g.D.Disk.content g.D.Disk.may_leave v w c.turn_in_room.new.self c.turn_in_room.result (room-log v v w (room-same v v refl) c.take_room.ensures.same) c.turn_in_room.ensures.super_area

@@ -15,11 +15,13 @@ use Rattle.core_store.specs.Frames.{AllAgree}
 use Rattle.core_store.specs.JournalView.{JournalView, cells_of}
 use Rattle.logged_journal.specs.View.{LoggedView, bytes_counted}
 use Rattle.logged_journal.specs.Records.{MayHaveAll}
+use Rattle.logged_journal.specs.declared.upkeep.Upkeep.TheVariants.{Done, DiskFault}
 use Rattle.logged_journal.specs.Upkeep.{IsTurned}
 use Rattle.logged_journal.specs.Checkpoints.{changed_below, AreCurrent}
 use Rattle.logged_journal.proofs.CommitDone.{on-ok, on-err}
 use Rattle.logged_journal.proofs.CleanSteps.{fails-behind}
 use Rattle.logged_journal.proofs.OldLogs.{old-log}
+use Rattle.logged_journal.proofs.NamedAreas.{names-unforced, names-unplaced, names-old, names-other}
 use Rattle.logged_journal.proofs.CheckpointSteps.{images-current, images-changed, leads-all, all-runs, all-marks, all-empty, placed-moments, leads-placed, placed-durable, anew-moments, placed-area, hidden-owes, hidden-runs, hidden-full, hidden-limits, turns}
 use Rattle.logged_journal.proofs.logged.LoggedJournal.turn_in_room.Goals as goal
 
@@ -327,9 +329,42 @@ returns-clause-old_log g c is =
     let anew = c.begin_anew.new.self in
     let disk_same : c.lower_peak.new.self.disk ≡ anew.disk = ap (λ (w : LoggedView g.row.D.Denot). w.disk) c.lower_peak.ensures.lowered ∙ ap (λ (w : LoggedView g.row.D.Denot). w.disk) c.hide.ensures.hidden in
     old-log g.D.Disk.content g.D.Disk.may_leave frames v im all placed anew c.lower_peak.new.self logs
-    (on-ok c.force_all.result _ (sym c.is_err.ensures.value ∙ c.if-is_err.false) c.force_all.ensures.area)
+    c.force_all.ensures.area
     (on-ok c.force_all.result _ (sym c.is_err.ensures.value ∙ c.if-is_err.false) c.force_all.ensures.bytes)
-    (on-ok c.place_all.result _ (sym c.is_err-2.ensures.value ∙ c.if-is_err-2.false) c.place_all.ensures.others)
+    c.place_all.ensures.others
     (placed-area frames v im all running logs forces grows placed only)
     (on-ok c.begin_anew.result _ (sym c.is_err-3.ensures.value ∙ c.if-is_err-3.false) c.begin_anew.ensures.old)
     disk_same
+
+pub returns-then-is_err-clause-super_area : goal.returns-then-is_err-clause-super_area
+returns-then-is_err-clause-super_area g c =
+    names-unforced g.D.Disk.content g.D.Disk.may_leave c.args.frames.now (length c.args.self.now.marks) c.args.self.now c.log_images.new.self c.force_all.new.self c.log_images.ensures.logged c.force_all.ensures.area c.force_all.ensures.others DiskFault (λ e. cc (e))
+
+pub returns-then-is_err-2-clause-super_area : goal.returns-then-is_err-2-clause-super_area
+returns-then-is_err-2-clause-super_area g c =
+    names-unplaced g.D.Disk.content g.D.Disk.may_leave c.args.frames.now (length c.args.self.now.marks) c.args.self.now c.log_images.new.self c.force_all.new.self c.log_images.ensures.logged c.force_all.ensures.area c.force_all.ensures.others
+    c.place_all.new.self c.place_all.ensures.others DiskFault (λ e. cc (e))
+
+pub returns-then-is_err-3-clause-super_area : goal.returns-then-is_err-3-clause-super_area
+returns-then-is_err-3-clause-super_area g c =
+    names-old g.D.Disk.content g.D.Disk.may_leave c.args.frames.now (length c.args.self.now.marks) c.args.self.now c.log_images.new.self c.force_all.new.self c.log_images.ensures.logged c.force_all.ensures.area c.force_all.ensures.others
+    c.place_all.new.self c.place_all.ensures.others c.begin_anew.new.self c.begin_anew.ensures.others DiskFault (λ e. cc (e))
+
+pub returns-clause-super_area : goal.returns-clause-super_area
+returns-clause-super_area g c =
+    let v = c.args.self.now in
+    let frames = c.args.frames.now in
+    let im = c.log_images.new.self in
+    let all = c.force_all.new.self in
+    let logs = c.log_images.ensures.logged in
+    let more = c.log_images.ensures.counted in
+    let grows : bytes_counted v ≤ bytes_counted im = omega (arith, more) in
+    let running = c.requires.running in
+    let forces = on-ok c.force_all.result _ (sym c.is_err.ensures.value ∙ c.if-is_err.false) c.force_all.ensures.done in
+    let placed = c.place_all.new.self in
+    let only = on-ok c.place_all.result _ (sym c.is_err-2.ensures.value ∙ c.if-is_err-2.false) c.place_all.ensures.done in
+    let anew = c.begin_anew.new.self in
+    let disk_same : c.lower_peak.new.self.disk ≡ anew.disk = ap (λ (w : LoggedView g.row.D.Denot). w.disk) c.lower_peak.ensures.lowered ∙ ap (λ (w : LoggedView g.row.D.Denot). w.disk) c.hide.ensures.hidden in
+    names-other g.D.Disk.content g.D.Disk.may_leave c.args.frames.now (length c.args.self.now.marks) c.args.self.now c.log_images.new.self c.force_all.new.self c.log_images.ensures.logged c.force_all.ensures.area c.force_all.ensures.others
+    placed c.place_all.ensures.others anew c.begin_anew.ensures.others c.lower_peak.new.self Done disk_same (placed-area frames v im all running logs forces grows placed only)
+    (on-ok c.begin_anew.result _ (sym c.is_err-3.ensures.value ∙ c.if-is_err-3.false) c.begin_anew.ensures.named)

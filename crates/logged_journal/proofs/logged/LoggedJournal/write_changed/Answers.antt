@@ -143,3 +143,9 @@ returns-clause-others g c =
     let now = c.place_changed.new.disk in
     subst (λ (w : LoggedView g.row.D.Denot). KeepsOthers g.D.Disk.content g.D.Disk.may_leave w.disk now Pages) c.self.view_is
     (subst (λ (d : g.row.D.Denot). KeepsOthers g.D.Disk.content g.D.Disk.may_leave d now Pages) c.as_mut.ensures.value c.place_changed.ensures.only.keeps)
+
+pub returns-then-is_err-clause-others : goal.returns-then-is_err-clause-others
+returns-then-is_err-clause-others g c =
+    let now = c.place_changed.new.disk in
+    subst (λ (w : LoggedView g.row.D.Denot). KeepsOthers g.D.Disk.content g.D.Disk.may_leave w.disk now Pages) c.self.view_is
+    (subst (λ (d : g.row.D.Denot). KeepsOthers g.D.Disk.content g.D.Disk.may_leave d now Pages) c.as_mut.ensures.value c.place_changed.ensures.only.keeps)

@@ -93,6 +93,7 @@ returns-clause-does g c =
       done = e.done;
       turned = e.turned;
       old_log = λ done. record { frames = c.in-Some.frames.now; pages = all.pages; agree = all.agree; forced = e.old_log done };
+      super_area = e.super_area;
       fault = e.fault;
       later = e.later;
       count = e.count;

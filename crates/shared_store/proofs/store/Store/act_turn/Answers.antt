@@ -129,6 +129,7 @@ returns-clause-made g c =
       done = e.done;
       turned = e.turned;
       old_log = λ done. record { frames = c.as_slice.result.now; pages = pages; agree = agree; forced = e.old_log done };
+      super_area = e.super_area;
       fault = e.fault;
       later = e.later;
       count = e.count;
