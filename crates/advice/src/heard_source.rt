@@ -1,17 +1,32 @@
-//! A source of which is known what was read last.
+//! A source of which is known what was read last, and how much.
 ghost use Rattle.std.specs.Prelude.{◌≡◌};
 
 use crate::latest::Latest;
+use crate::progress::{MEBIBYTE, passed};
 use outside_io::{ReadFailed, Source};
 use std::marker::Model;
 
-/// A source of which the last bytes that were read are kept. Where somebody at a terminal gives them, a prompt asks for each
-/// piece. To contracts it is the source under it.
+/// After how many bytes that were read a line is told.
+const READ_OF_A_LINE: u64 = 64 * MEBIBYTE;
+
+/// Who hears of what is read.
+#[derive(Drop)]
+pub enum Listener<P: Eprint + Drop> {
+    /// Nobody.
+    Nobody,
+    /// Who types the input at this terminal: a prompt asks for each piece.
+    Typist(P),
+    /// Who waits at this terminal for the end of a long stream: a line comes for each 64 MiB that were read.
+    Onlooker(P),
+}
+
+/// A source of which the last bytes that were read are kept, and of which a listener hears. To contracts it is the source under it.
 #[derive(Drop)]
 pub struct HeardSource<R: Source + Drop, P: Eprint + Drop> {
     source: R,
     latest: Latest,
-    terminal: Option<P>,
+    read: u64,
+    listener: Listener<P>,
 }
 
 impl<R: Source + Drop, P: Eprint + Drop> Model for HeardSource<R, P> {
@@ -21,14 +36,15 @@ impl<R: Source + Drop, P: Eprint + Drop> Model for HeardSource<R, P> {
 }
 
 impl<R: Source + Drop, P: Eprint + Drop> HeardSource<R, P> {
-    /// This source, and the terminal on which the prompt is shown, if there is one.
-    pub fn over(source: R, terminal: Option<P>) -> HeardSource<R, P>
+    /// This source, of which the listener hears.
+    pub fn over(source: R, listener: Listener<P>) -> HeardSource<R, P>
         ensures { result ≡ source }
     {
         HeardSource {
             source,
             latest: Latest::new(),
-            terminal,
+            read: 0,
+            listener,
         }
     }
 
@@ -38,17 +54,27 @@ impl<R: Source + Drop, P: Eprint + Drop> HeardSource<R, P> {
     }
 }
 
-/// Shows the prompt, where there is a terminal.
-fn ask<P: Eprint>(terminal: &Option<P>) {
-    if let Some(terminal) = terminal {
+/// Shows the prompt to who types the input.
+fn ask<P: Eprint + Drop>(listener: &Listener<P>) {
+    if let Listener::Typist(terminal) = listener {
         let _ = eprint!(terminal; "brahma> ");
     }
 }
 
 /// Leaves the line of the prompt, where the input ends.
-fn end<P: Eprint>(terminal: &Option<P>) {
-    if let Some(terminal) = terminal {
+fn end<P: Eprint + Drop>(listener: &Listener<P>) {
+    if let Listener::Typist(terminal) = listener {
         let _ = eprintln!(terminal);
+    }
+}
+
+/// Counts bytes that were read, and tells an onlooker where their number gets a line.
+fn count_read<P: Eprint + Drop>(read: &mut u64, more: u64, listener: &Listener<P>) {
+    if let (Some(now), Listener::Onlooker(terminal)) =
+        (passed(read, more, READ_OF_A_LINE), listener)
+    {
+        let mebibytes = now / MEBIBYTE;
+        let _ = eprintln!(terminal; "brahma: {mebibytes} MiB of the stream read");
     }
 }
 
@@ -58,12 +84,13 @@ impl<R: Source + Drop, P: Eprint + Drop> Source for HeardSource<R, P> {
     ghost faults = { R.faults };
 
     fn read(&mut self, into: &mut [u8]) -> Result<usize, ReadFailed> {
-        ask(&self.terminal);
+        ask(&self.listener);
         let count = self.source.read(into)?;
         if count == 0 {
-            end(&self.terminal);
+            end(&self.listener);
         }
         self.latest.add(&into[..count]);
+        count_read(&mut self.read, count as u64, &self.listener);
         Ok(count)
     }
 }

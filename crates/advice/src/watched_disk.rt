@@ -1,6 +1,7 @@
 //! A disk of which is known what it failed, and how far it has come.
 ghost use Rattle.std.specs.Prelude.{◌≡◌};
 
+use crate::progress::{KIBIBYTE, MEBIBYTE, passed};
 use disk_model::{Area, Disk, DiskFailed};
 use std::fmt;
 use std::marker::Model;
@@ -13,12 +14,6 @@ const READ_OF_A_LINE: u64 = 64 * MEBIBYTE;
 
 /// After how many bytes that were written into the pages a line is told.
 const WRITTEN_OF_A_LINE: u64 = 128 * KIBIBYTE;
-
-/// The bytes of a kibibyte.
-const KIBIBYTE: u64 = 1 << 10;
-
-/// The bytes of a mebibyte.
-const MEBIBYTE: u64 = 1 << 20;
 
 /// What a call of the disk was to do.
 #[derive(Clone, Copy)]
@@ -103,17 +98,6 @@ impl<D: Disk, P: Eprint + Drop + Send> WatchedDisk<D, P> {
     /// The call that it failed first, if it failed one.
     pub fn failed(&self) -> Option<FailedAct> {
         self.failed
-    }
-}
-
-/// Adds to a count. Answers what it is now, where it passed a multiple of this size by that.
-fn passed(count: &mut u64, more: u64, size: u64) -> Option<u64> {
-    let before = count.checked_div(size)?;
-    *count = count.saturating_add(more);
-    if before < count.checked_div(size)? {
-        Some(*count)
-    } else {
-        None
     }
 }
 
