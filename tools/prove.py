@@ -25,8 +25,8 @@ LANE = 5_000_000_000
 # What one copy of a proof takes of memory, in bytes: so much, and so much for each crate below.
 COPY, COPY_BELOW = 1_000_000_000, 40_000_000
 
-# The lines from which a proof gets two copies for each processor. Each copy has a fixed share of the functions, and those that take
-# long stand together: with more copies than processors less is left for the last one alone.
+# The lines from which a proof gets two copies for each processor. The copies wait for each other now and then, so with more of them than
+# processors less time is lost over a function that takes long.
 LONG = 10_000
 
 # What was measured of four processors: lines of source, definitions and proofs that are proved in a second.
@@ -194,12 +194,8 @@ def work(proof, lanes, lane):
     while name := proof.take(lane):
         with open(f"{LOGS}/{name}", "w", encoding="utf-8") as log:
             how = {"stdin": subprocess.DEVNULL, "stdout": log, "stderr": subprocess.STDOUT}
-            # The others take what the crate for which most work waits leaves of the processors, and have no copies that would each
-            # read the libraries below.
-            if proof.is_first(name):
-                words = ["rt", "lib", "--jobs", str(proof.copies(name))]
-            else:
-                words = ["nice", "-n", "10", "rt", "lib", "--jobs", "1"]
+            # The crate for which most work waits has several copies, and so most of the processors. The others have one each.
+            words = ["rt", "lib", "--jobs", str(proof.copies(name) if proof.is_first(name) else 1)]
             status = subprocess.run(words, cwd=f"{lane}/crates/{name}", **how).returncode
         if not status:
             for it in lanes:
