@@ -62,7 +62,7 @@ fn grow<D: Disk>(
 impl ObjectMap {
     /// The map that the store keeps under the root's slot. All of its objects are looked at, and stay as they are.
     ///
-    /// [`MapRefusal::NotMap`] comes exactly where the graph keeps no map there, and names an object that shows it.
+    /// [`MapRefusal::NotMap`] comes only where the graph keeps no map there.
     /// [`MapRefusal::Memory`] comes where there is no memory for the ids of all values, or where the store refused a call for that.
     /// [`MapRefusal::Store`] comes only where the store refused the last call for want of room.
     pub fn attach<D: Disk>(alloc: Global, client: &mut Client<D>) -> Result<ObjectMap, MapRefusal>
