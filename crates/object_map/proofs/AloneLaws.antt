@@ -22,7 +22,7 @@ use Rattle.plain_laws.proofs.Lookups.{has_object-after_writes}
 use Rattle.plain_laws.proofs.States.{contrary}
 use Rattle.plain_laws.proofs.Entries.{at_here, insert_same}
 use Rattle.plain_laws.proofs.Ids.{test_same, free_unstored}
-use Rattle.plain_laws.proofs.Legal.{sound-step, known_stored}
+use Rattle.plain_laws.proofs.Legal.{sound-step, there_stored}
 use Rattle.object_map.specs.Maps.{slot_of, payload_of}
 use Rattle.object_map.specs.Clients.{free_ids}
 use Rattle.object_map.proofs.FreeLaws.{free_none, free_made}
@@ -214,7 +214,7 @@ absent s pass id a free =
     has_object-after_writes s.slots s.committed t.writes id
     ∙ both_false (has_object s.committed id) (has_made t id)
     (λ m. contrary (is_stored s.stored id) (a.sound.committed_stored id m) free)
-    (λ m. contrary (is_stored s.stored id) (known_stored s t id a.sound (a.sound.transactions pass t (its_transaction s pass a)) (inl m)) free)
+    (λ m. contrary (is_stored s.stored id) (there_stored s t id a.sound (a.sound.transactions pass t (its_transaction s pass a)) (inl m)) free)
 
 -- what a make comes to: no id is free, or the object is made
 pub record MakesOne (into : ℕ) (s z : State) (pass : ℕ) (reply : Reply) : Type 0 where

@@ -47,6 +47,7 @@ pub record IsClient {D : Type 0} (store : LoggedView D) (number : ℕ) : Type 0 
 abbrev pub is_look : TransactionCall → Bool
 is_look (call.Read r slot into) = true
 is_look (call.GetPay r) = true
+is_look (call.Release r) = true
 is_look _ = false
 
 -- a call that neither begins nor ends a transaction

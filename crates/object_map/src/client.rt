@@ -61,6 +61,7 @@ fn heard(reply: Reply) -> Result<Reply, MapRefusal>
         Reply::HasTxn => Ok(reply),
         Reply::Aborting => Ok(reply),
         Reply::EmptyRegister { .. } => Ok(reply),
+        Reply::NotShared => Ok(reply),
         Reply::Busy { .. } => Ok(reply),
         Reply::Full => Ok(reply),
     }
