@@ -29,6 +29,10 @@ room_is v e = subst (λ n. 13 < n) (sym e) (omega arith)
 pub slots_are : (n : ℕ) → n ≡ object_slots → 13 < n
 slots_are n e = subst (λ k. 13 < k) (sym e) (omega arith)
 
+-- a put of a key that is there needs no id
+pub needs_none : (key value : ℕ) (pairs : List (ℕ × ℕ)) → Some value ≡ value_of key pairs → 0 ≡ ids_needed key pairs
+needs_none key value pairs e = ap (λ o. option_map_or (λ _. 0) o (ids_beside pairs)) e
+
 beside_three : (pairs : List (ℕ × ℕ)) → pairs ≢ [] → ids_beside pairs ≡ 3
 beside_three [] n = absurd (n refl)
 beside_three (p ∷ ps) n = refl

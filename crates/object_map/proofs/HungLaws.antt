@@ -71,7 +71,7 @@ has_cell P c (leaf i k d v) a h = subst P h a
 has_cell P c (inner i b l r) a h = ⊎_elim (λ x. has_cell P c l a.0 x) (λ x. has_cell P c r a.1 x) h
 
 -- a cell is none of the objects of a tree with other cells
-cell_apart : (f : ℕ → Option Object) (c w : ℕ) → IsCell (f c) w → (t : Tree) → AreObjects f t → AllCells (λ d. c ≢ d) t → AllNodes (λ x. x ≢ c) t
+pub cell_apart : (f : ℕ → Option Object) (c w : ℕ) → IsCell (f c) w → (t : Tree) → AreObjects f t → AllCells (λ d. c ≢ d) t → AllNodes (λ x. x ≢ c) t
 cell_apart f c w o (leaf i k d v) a n = ((λ e. leaf_or_cell (f c) k d w (subst (λ z. IsLeaf (f z) k d) e a.0) o), (λ e. n (sym e)))
 cell_apart f c w o (inner i b l r) a n = ((λ e. inner_or_cell (f c) b (id_of l) (id_of r) w (subst (λ z. IsInner (f z) b (id_of l) (id_of r)) e a.0) o), cell_apart f c w o l a.1 n.0, cell_apart f c w o r a.2 n.1)
 

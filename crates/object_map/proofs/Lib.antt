@@ -26,3 +26,8 @@ pub mod GrowLaws
 pub mod WalkLaws
 pub mod LookLaws
 pub mod GuideLaws
+pub mod MapTreeLaws
+pub mod ApartLaws
+pub mod IdListLaws
+pub mod GainLaws
+pub mod LossLaws

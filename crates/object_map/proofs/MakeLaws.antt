@@ -109,6 +109,7 @@ leaf_made key value cell leaf c0 c1 l0 l1 a b c d e f room m1 q1 w1 m2 q2 w2 q3 
       new_cell = makes_new 4 cell a b m1;
       stay = λ x h. (let n : x ≢ cell = apart_new (at a) x cell h (makes_new 4 cell a b m1) in
           let k : x ≢ leaf = apart_new (at c) x leaf (ap (λ o. is_some o) (early x n) ∙ h) free_leaf in later x k ∙ early x n);
+      rest = λ x n k. later x n ∙ early x k;
       others = λ r n k. writes_held l1 c1 r (Slot 2) e f w3 ∙ writes_held l0 key r Payload d e w2 ∙ m2.others r n ∙ writes_held c0 value r Payload b c w1 ∙ m1.others r k;
       slots = w3.slots ∙ w2.slots ∙ m2.slots ∙ slots;
     }
@@ -145,13 +146,15 @@ inner_made bit rl rh id i0 i1 i2 low high a b c d e room ll lh nl nh m q0 w0 q1 
     let high_some : high ≢ 0 = λ z. nh (sym high_is ∙ z) in
     let inner : IsInner (at e id) bit low high = blank_inner a.slots id bit low high (at e id) room low_some high_some at_id in
     let new : at a id ≡ None = makes_new 5 id a b m in
+    let beside : (x : ℕ) → x ≢ id → at e x ≡ at a x = λ x n. writes_other id x high (Slot 1) d e v2 n ∙ writes_other id x low (Slot 0) c d v1 n ∙ writes_other id x bit Payload b c v0 n ∙ makes_other 5 id x a b m n in
     record {
       id = id;
       here = writes_held i2 high 5 (Slot 1) d e w2 ∙ writes_held i1 low 5 (Slot 0) c d w1 ∙ writes_held i0 bit 5 Payload b c w0 ∙ m.here;
       is_inner = subst (λ x. IsInner (at e id) bit x (held_id a rh)) low_is (subst (λ x. IsInner (at e id) bit low x) high_is inner);
       named = m.named;
       new_id = new;
-      stay = λ x h. (let n : x ≢ id = apart_new (at a) x id h new in writes_other id x high (Slot 1) d e v2 n ∙ writes_other id x low (Slot 0) c d v1 n ∙ writes_other id x bit Payload b c v0 n ∙ makes_other 5 id x a b m n);
+      stay = λ x h. beside x (apart_new (at a) x id h new);
+      rest = beside;
       others = λ r n. writes_held i2 high r (Slot 1) d e w2 ∙ writes_held i1 low r (Slot 0) c d w1 ∙ writes_held i0 bit r Payload b c w0 ∙ m.others r n;
       slots = w2.slots ∙ w1.slots ∙ w0.slots ∙ m.slots;
     }

@@ -24,13 +24,14 @@ use Rattle.object_map.proofs.GetLaws.{HoldsMap, holds_map, empty_map, cell_here,
 use Rattle.object_map.proofs.PartLaws.{leads_has, hangs_same}
 use Rattle.object_map.proofs.NextLaws.{smaller_bit, critical_turned}
 use Rattle.object_map.proofs.MakeLaws.{writes_other, slot_written, payload_written, apart_new}
-use Rattle.object_map.proofs.RelinkLaws.{hang, map_is, slot_set, slot_room, room_some, id_whole}
+use Rattle.object_map.proofs.RelinkLaws.{hang, slot_set, slot_room, room_some, id_whole}
+use Rattle.object_map.proofs.MapTreeLaws.{MapTree}
 use Rattle.object_map.proofs.WayLaws.{objects_within, critical_within, held_here, nonzero_some}
 
 -- ---- the first key
 
-pub empty_put : (key value id : ℕ) (v x y z : Seen) (pairs : List (ℕ × ℕ)) → key < 2 ^ 64 → held v 0 ≡ Some root → 13 < room_of (at v root) → IsMap 13 v.graph pairs → id ≡ slot_of (at v (held_id v 0)) 13 → id ≡ 0 → Loads 1 (nonzero id) v x → MakesLeaf key value x y → Writes (held_id y 0) (Slot 13) (held_id y 3) y z
-    → IsMap 13 z.graph (with_pair key value pairs)
+pub empty_put : (key value id : ℕ) (v x y z : Seen) (pairs : List (ℕ × ℕ)) → key < 2 ^ 64 → held v 0 ≡ Some root → 13 < room_of (at v root) → IsMap 13 v.graph pairs → id ≡ slot_of (at v (held_id v 0)) 13 → id ≡ 0 → Loads 1 (nonzero id) v x → (k : MakesLeaf key value x y) → Writes (held_id y 0) (Slot 13) (held_id y 3) y z
+    → MapTree 13 (at z) (with_pair key value pairs) (leaf k.leaf key k.cell value)
 empty_put key value id v x y z pairs bound r room m e n l k w =
     let empty : pairs ≡ [] = empty_map v 13 id pairs r m e n in
     let root0 : held y 0 ≡ Some root = k.others 0 (λ q. absurd (omega (arith, q))) (λ q. absurd (omega (arith, q))) ∙ l.others 0 (λ q. absurd (omega (arith, q))) ∙ r in
@@ -43,9 +44,12 @@ empty_put key value id v x y z pairs bound r room m e n l k w =
     let under : slot_of (at z root) 13 ≡ k.leaf = ap (λ o. slot_of o 13) (slot_written root 13 k.leaf y z w') ∙ slot_set (at y root) 13 k.leaf room_y in
     let at_leaf : at z k.leaf ≡ at y k.leaf = writes_other root k.leaf k.leaf (Slot 13) y z w' (λ q. apart_leaf (sym q)) in
     let at_cell : at z k.cell ≡ at y k.cell = writes_other root k.cell k.leaf (Slot 13) y z w' (λ q. apart_cell (sym q)) in
-    map_is 13 (at z) (with_pair key value pairs) (leaf k.leaf key k.cell value) under k.named
-    (record { objects = (subst (λ o. IsLeaf o key k.cell) (sym at_leaf) k.is_leaf, subst (λ o. IsCell o value) (sym at_cell) k.is_cell); critical = bound; own_cells = tt })
-    (ap (with_pair key value) empty)
+    record {
+      under = under;
+      named = k.named;
+      stands = record { objects = (subst (λ o. IsLeaf o key k.cell) (sym at_leaf) k.is_leaf, subst (λ o. IsCell o value) (sym at_cell) k.is_cell); critical = bound; own_cells = tt };
+      same = ap (with_pair key value) empty;
+    }
 
 -- ---- a key that is there
 
@@ -53,8 +57,8 @@ cell_set : (o : Option Object) (v w : ℕ) → IsCell o v → IsCell (option_map
 cell_set None v w h = absurd (cc)
 cell_set (Some x) v w h = record { there = refl; value_is = refl; null = h.null }
 
-pub set_put : (key found id id2 value : ℕ) (v w x y y2 z : Seen) (pairs : List (ℕ × ℕ)) → held v 0 ≡ Some root → IsMap 13 v.graph pairs → id ≡ slot_of (at v (held_id v 0)) 13 → id ≢ 0 → Loads 1 (nonzero id) v w → IsAtLeaf key found w x → found ≡ key
-    → id2 ≡ slot_of (at x (held_id x 1)) 2 → Loads 1 (nonzero id2) x y → y2 ≡ y → Writes (held_id y2 1) Payload value y2 z → IsMap 13 z.graph (with_pair key value pairs)
+pub set_put : (key found id id2 value : ℕ) (v w x y y2 z : Seen) (pairs : List (ℕ × ℕ)) → held v 0 ≡ Some root → IsMap 13 v.graph pairs → id ≡ slot_of (at v (held_id v 0)) 13 → id ≢ 0 → Loads 1 (nonzero id) v w → (a : IsAtLeaf key found w x) → found ≡ key
+    → id2 ≡ slot_of (at x (held_id x 1)) 2 → Loads 1 (nonzero id2) x y → y2 ≡ y → Writes (held_id y2 1) Payload value y2 z → MapTree 13 (at z) (with_pair key value pairs) (whole a.turns (leaf a.id key a.cell value))
 set_put key found id id2 value v w x y y2 z pairs r m e n l a f e2 l2 s k =
     let h : HoldsMap w pairs = holds_map v w 13 id pairs r m e n l in
     let here : held y2 1 ≡ Some a.cell = ap (λ q. held q 1) s ∙ cell_here key found id2 w x y a e2 l2 in
@@ -69,8 +73,12 @@ set_put key found id id2 value v w x y y2 z pairs r m e n l a f e2 l2 s k =
     let other : root ≢ a.cell = λ q. n (sym under ∙ ap (λ i. slot_of (at w i) 13) q ∙ cells.1.null 13) in
     let first : id ≡ id_of (whole a.turns (leaf a.id found a.cell a.value)) = some_same id (id_of (whole a.turns (leaf a.id found a.cell a.value))) (sym (l.here ∙ nonzero_some id n) ∙ a.start) in
     let top : id ≡ id_of (whole a.turns (leaf a.id key a.cell value)) = first ∙ id_whole a.turns (leaf a.id found a.cell a.value) (leaf a.id key a.cell value) refl in
-    map_is 13 (at z) (with_pair key value pairs) (whole a.turns (leaf a.id key a.cell value)) (ap (λ o. slot_of o 13) (stay root other) ∙ under ∙ top) (λ q. n (top ∙ q)) hung.stands
-    (ap (with_pair key value) (h.same ∙ ap pairs_of (same_tree key found w x pairs h a) ∙ ap (λ q. pairs_of (whole a.turns (leaf a.id q a.cell a.value))) f) ∙ sym hung.pairs)
+    record {
+      under = ap (λ o. slot_of o 13) (stay root other) ∙ under ∙ top;
+      named = λ q. n (top ∙ q);
+      stands = hung.stands;
+      same = ap (with_pair key value) (h.same ∙ ap pairs_of (same_tree key found w x pairs h a) ∙ ap (λ q. pairs_of (whole a.turns (leaf a.id q a.cell a.value))) f) ∙ sym hung.pairs;
+    }
 
 -- ---- a new key beside others
 
@@ -81,18 +89,18 @@ stay_all key value bit a b x y z q g k n i h =
     let hz : is_some (at z i) ≡ true = ap (λ o. is_some o) (k.stay i hy) ∙ hy in
     n.stay i hz ∙ k.stay i hy ∙ ap (λ g. object_at g i) g
 
-leaf_there : (o : Option Object) (k c : ℕ) → IsLeaf o k c → is_some o ≡ true
+pub leaf_there : (o : Option Object) (k c : ℕ) → IsLeaf o k c → is_some o ≡ true
 leaf_there o k c h = room_some o 2 (slot_room o 2 (λ e. h.named (sym h.names ∙ e)))
 
 -- a new inner object is none that was there before the new leaf was made
-inner_apart : (key value bit a b p : ℕ) (x y z q : Seen) → y.graph ≡ x.graph → (k : MakesLeaf key value y z) → (n : MakesInner bit a b z q) → is_some (at x p) ≡ true → (n.id ≢ p) × (k.leaf ≢ p) × (k.cell ≢ p)
+pub inner_apart : (key value bit a b p : ℕ) (x y z q : Seen) → y.graph ≡ x.graph → (k : MakesLeaf key value y z) → (n : MakesInner bit a b z q) → is_some (at x p) ≡ true → (n.id ≢ p) × (k.leaf ≢ p) × (k.cell ≢ p)
 inner_apart key value bit a b p x y z q g k n h =
     let hy : is_some (at y p) ≡ true = subst (λ g. is_some (object_at g p) ≡ true) (sym g) h in
     let hz : is_some (at z p) ≡ true = ap (λ o. is_some o) (k.stay p hy) ∙ hy in
     ((λ e. apart_new (at z) p n.id hz n.new_id (sym e)), (λ e. apart_new (at y) p k.leaf hy k.new_leaf (sym e)), (λ e. apart_new (at y) p k.cell hy k.new_cell (sym e)))
 
 pub low_put : (key found value bit r s : ℕ) (right : Bool) (x y z q e : Seen) (pairs : List (ℕ × ℕ)) → key < 2 ^ 64 → (p : IsOnPart key found bit bit r s right x y) → IsCritical bit key found → key < found → (k : MakesLeaf key value y z) → (n : MakesInner bit 3 1 z q) → Writes (held_id q r) (Slot s) (held_id q 5) q e
-    → slot_of (at x root) 13 ≢ 0 → pairs ≡ pairs_of (whole p.turns p.tree) → IsMap 13 e.graph (with_pair key value pairs)
+    → slot_of (at x root) 13 ≢ 0 → pairs ≡ pairs_of (whole p.turns p.tree) → MapTree 13 (at e) (with_pair key value pairs) (whole p.turns (inner n.id bit (leaf k.leaf key k.cell value) p.tree))
 low_put key found value bit r s right x y z q e pairs bound p c l k n w named same =
     let t = p.tree in
     let new : Tree = leaf k.leaf key k.cell value in
@@ -118,7 +126,7 @@ low_put key found value bit r s right x y z q e pairs bound p c l k n w named sa
     (λ i h o. (let d = inner_apart key value bit 3 1 i x y z q p.graph k n h in (d.0, (d.1, d.2), o))) same
 
 pub high_put : (key found value bit r s : ℕ) (right : Bool) (x y z q e : Seen) (pairs : List (ℕ × ℕ)) → key < 2 ^ 64 → (p : IsOnPart key found bit bit r s right x y) → IsCritical bit key found → found < key → (k : MakesLeaf key value y z) → (n : MakesInner bit 1 3 z q) → Writes (held_id q r) (Slot s) (held_id q 5) q e
-    → slot_of (at x root) 13 ≢ 0 → pairs ≡ pairs_of (whole p.turns p.tree) → IsMap 13 e.graph (with_pair key value pairs)
+    → slot_of (at x root) 13 ≢ 0 → pairs ≡ pairs_of (whole p.turns p.tree) → MapTree 13 (at e) (with_pair key value pairs) (whole p.turns (inner n.id bit p.tree (leaf k.leaf key k.cell value)))
 high_put key found value bit r s right x y z q e pairs bound p c l k n w named same =
     let t = p.tree in
     let new : Tree = leaf k.leaf key k.cell value in

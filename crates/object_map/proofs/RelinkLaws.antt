@@ -7,7 +7,7 @@ use Rattle.plain_model.specs.declared.write.Place.TheVariants.{Slot}
 use Rattle.plain_model.specs.Graphs.{root, set_place}
 use Rattle.object_map.specs.Trees.{Tree, id_of, IsCritBit}
 use Rattle.object_map.specs.Trees.Tree.{inner}
-use Rattle.object_map.specs.Maps.{AreObjects, IsInner, IsTree, IsMapOf, slot_of, payload_of, room_of}
+use Rattle.object_map.specs.Maps.{AreObjects, IsInner, IsTree, slot_of, payload_of, room_of}
 use Rattle.object_map.specs.Seen.{Seen, at, held, held_id, Writes}
 use Rattle.object_map.specs.Ways.{Turn, whole, AgreesOn}
 use Rattle.object_map.specs.Ways.Turn.{to_low, to_high}
@@ -18,6 +18,7 @@ use Rattle.plain_map.proofs.ChangeLaws.{IsLocal}
 use Rattle.object_map.proofs.ReplaceLaws.{Replaces, Replaced, replaced}
 use Rattle.object_map.proofs.HungLaws.{root_apart}
 use Rattle.object_map.proofs.MakeLaws.{writes_other, slot_written}
+use Rattle.object_map.proofs.MapTreeLaws.{MapTree}
 use Rattle.object_map.proofs.WayLaws.{objects_within, critical_within, held_here}
 
 -- a slot that isn't null is there
@@ -72,9 +73,6 @@ pub id_whole : (turns : List Turn) (t u : Tree) → id_of t ≡ id_of u → id_o
 id_whole [] t u e = e
 id_whole (to_low i b r ∷ turns) t u e = id_whole turns (inner i b t r) (inner i b u r) refl
 id_whole (to_high i b l ∷ turns) t u e = id_whole turns (inner i b l t) (inner i b l u) refl
-
-pub map_is : (slot : ℕ) (f : ℕ → Option Object) (ps : List (ℕ × ℕ)) (t : Tree) → slot_of (f root) slot ≡ id_of t → id_of t ≢ 0 → IsTree f t → ps ≡ pairs_of t → IsMapOf slot f ps
-map_is slot f ps t e n h s = record { tree = Some t; stands = ((λ z. n (sym e ∙ z)), sym e, h); same = s }
 
 -- an inner object isn't the root, whose slot names a tree
 inner_not_root : (f : ℕ → Option Object) (i b l h : ℕ) → IsInner (f i) b l h → slot_of (f root) 13 ≢ 0 → root ≢ i
@@ -149,11 +147,16 @@ relinked_part holder P q e (to_high i m y ∷ turns) t u r s value h d k w a c u
 pub hang : (holder : ℕ) (f : ℕ → Option Object) (q e : Seen) (P : ℕ → Type 0) (key other : ℕ) (change : List (ℕ × ℕ) → List (ℕ × ℕ)) → IsLocal key change → (turns : List Turn) (t u : Tree) (r s value : ℕ) (pairs : List (ℕ × ℕ))
     → IsTree f (whole turns t) → AgreesOn P key other turns → Replaces f P key other t u → pairs_of u ≡ change (pairs_of t) → ((i : ℕ) → is_some (f i) ≡ true → at q i ≡ f i) → slot_of (f root) 13 ≡ id_of (whole turns t) → slot_of (f root) 13 ≢ 0
     → HangsUnder holder q turns r s → held q 0 ≡ Some root → value ≡ id_of u → id_of u ≢ 0 → Writes (held_id q r) (Slot s) value q e → AreObjects (at q) u → ((p : ℕ) → is_some (f p) ≡ true → AllNodes (λ i. i ≢ p) t → AllNodes (λ i. i ≢ p) u)
-    → pairs ≡ pairs_of (whole turns t) → IsMapOf 13 (at e) (change pairs)
+    → pairs ≡ pairs_of (whole turns t) → MapTree 13 (at e) (change pairs) (whole turns u)
 hang holder f q e P key other change local turns t u r s value pairs a g x d stay under n h k w m v b apart same =
     let y : Replaced turns t u change = replaced f P key other change local turns t u a.objects a.critical a.own_cells g x d in
     let some : is_some (f root) ≡ true = room_some (f root) 13 (slot_room (f root) 13 n) in
     let now : slot_of (at q root) 13 ≡ id_of (whole turns t) = ap (λ o. slot_of o 13) (stay root some) ∙ under in
     let named : id_of (whole turns t) ≢ 0 = λ z. n (under ∙ z) in
     let z : Relinked (at e) turns u = relinked_part holder (λ i. is_some (f i) ≡ true) q e turns t u r s value h k w v (stays_there f (at q) (whole turns t) stay a.objects) a.critical now named m b some (nodes_there f (whole turns t) a.objects) apart in
-    map_is 13 (at e) (change pairs) (whole turns u) z.under (id_named turns t u named m) (record { objects = z.objects; critical = y.critical; own_cells = y.own }) (ap change same ∙ sym y.pairs)
+    record {
+      under = z.under;
+      named = id_named turns t u named m;
+      stands = record { objects = z.objects; critical = y.critical; own_cells = y.own };
+      same = ap change same ∙ sym y.pairs;
+    }

@@ -1,11 +1,12 @@
 -- What a change of the map leaves alone, and which calls make it.
-use Rattle.std.specs.Prelude.{◌≡◌, ◌≢◌, ℕ, List, [], ◌∷◌, ◌++◌, Option, Some, None, true, is_some, IsSome, ◌⊎◌}
+use Rattle.std.specs.Prelude.{◌≡◌, ◌≢◌, ℕ, List, [], ◌∷◌, ◌++◌, Option, Some, None, true, is_some, IsSome, ◌⊎◌, Contains, eqb}
+use Rattle.std.specs.List.{IsDistinct}
 use Rattle.std.specs.Option.{option_map_or}
 use Rattle.plain_model.specs.declared.object.Object.{Object}
 use Rattle.plain_model.specs.declared.calls.Call.{Call as TransactionCall}
 use Rattle.plain_model.specs.declared.calls.Call.TheVariants as call
 use Rattle.plain_model.specs.Graphs.{root}
-use Rattle.plain_map.specs.Pairs.{value_of}
+use Rattle.plain_map.specs.Pairs.{value_of, without_key}
 use Rattle.object_map.specs.Trees.{Tree}
 use Rattle.object_map.specs.Trees.Tree.{leaf, inner}
 use Rattle.object_map.specs.Maps.{IsTree, slot_of, payload_of}
@@ -32,6 +33,22 @@ pub record KeepsOthers (slot : ℕ) (old new : Seen) : Type 0 where
   pub root_payload : payload_of (at new root) ≡ payload_of (at old root)
   pub root_slots : (k : ℕ) → k ≢ slot → slot_of (at new root) k ≡ slot_of (at old root) k
 
+-- The new map has just the old map's objects and these, which weren't there before. No other object is new.
+pub record Gains (slot : ℕ) (ids : List ℕ) (old new : Seen) : Type 0 where
+  pub apart : IsDistinct eqb ids
+  pub kept : (x : ℕ) → IsOfMap slot (at old) x → IsOfMap slot (at new) x
+  pub gained : (x : ℕ) → Contains ids x → IsOfMap slot (at new) x
+  pub fresh : (x : ℕ) → Contains ids x → at old x ≡ None
+  pub only : (x : ℕ) → IsOfMap slot (at new) x → IsOfMap slot (at old) x ⊎ Contains ids x
+  pub made : (x : ℕ) → at old x ≡ None → is_some (at new x) ≡ true → Contains ids x
+
+-- The new map has just the old map's objects without these.
+pub record Loses (slot : ℕ) (ids : List ℕ) (old new : Seen) : Type 0 where
+  pub apart : IsDistinct eqb ids
+  pub kept : (x : ℕ) → IsOfMap slot (at new) x → IsOfMap slot (at old) x
+  pub lost : (x : ℕ) → Contains ids x → IsOfMap slot (at old) x × (IsOfMap slot (at new) x → ⊥)
+  pub only : (x : ℕ) → IsOfMap slot (at old) x → IsOfMap slot (at new) x ⊎ Contains ids x
+
 -- The calls that put the pair into a map of these pairs. They set the value of a key that is there, or hang a new leaf under the root's slot,
 -- or hang a new inner object over the new leaf and the tree at which its key parts from the others.
 pub data PutsBy (key value : ℕ) (pairs : List (ℕ × ℕ)) : List TransactionCall → Type 0 where
@@ -52,3 +69,7 @@ ids_beside (p ∷ ps) = 3
 -- how many ids a put needs: none for a key that is there
 abbrev pub ids_needed : ℕ → List (ℕ × ℕ) → ℕ
 ids_needed key pairs = option_map_or (λ _. 0) (value_of key pairs) (ids_beside pairs)
+
+-- how many ids the pair of a key holds: none where it isn't there, else as many as a put of it needs when it is gone
+abbrev pub ids_held : ℕ → List (ℕ × ℕ) → ℕ
+ids_held key pairs = option_map_or (λ _. ids_needed key (without_key key pairs)) (value_of key pairs) 0

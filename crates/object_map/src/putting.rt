@@ -1,8 +1,8 @@
 //! A key that gets a value.
-ghost use Rattle.std.specs.Prelude.{◌≡◌, ◌<◌, IfOk, IfErr, OnOk, List, ℕ, Some};
+ghost use Rattle.std.specs.Prelude.{◌≡◌, ◌<◌, IfOk, IfErr, OnOk, List, ℕ, Some, length};
 ghost use Rattle.plain_model.specs.Graphs.{root};
 ghost use Rattle.object_map.specs.Clients.{seen, state_of, no_id, free_ids, Asks, Fails};
-ghost use Rattle.object_map.specs.Changes.{KeepsOthers, PutsBy, ids_needed};
+ghost use Rattle.object_map.specs.Changes.{KeepsOthers, Gains, PutsBy, ids_needed};
 ghost use Rattle.plain_map.specs.Pairs.{value_of, with_pair};
 ghost use Rattle.object_map.specs.Maps.{IsMap};
 ghost use Rattle.object_map.specs.Seen.{held};
@@ -33,6 +33,7 @@ impl ObjectMap {
         ensures before { IfOk result (λ before. (pairs : List (ℕ × ℕ)) → IsMap 13 (seen client.old).graph pairs → before ≡ value_of key pairs) }
         ensures map { OnOk result ((pairs : List (ℕ × ℕ)) → IsMap 13 (seen client.old).graph pairs → IsMap 13 (seen client.new).graph (with_pair key value pairs)) }
         ensures outside { OnOk result (KeepsOthers 13 (seen client.old) (seen client.new)) }
+        ensures gains { OnOk result ((pairs : List (ℕ × ℕ)) → IsMap 13 (seen client.old).graph pairs → (ids : List ℕ) × ((length ids ≡ ids_needed key pairs) × Gains 13 ids (seen client.old) (seen client.new))) }
         ensures asks { OnOk result ((pairs : List (ℕ × ℕ)) → IsMap 13 (seen client.old).graph pairs → (changes : List Call) × (PutsBy key value pairs changes × Asks 528 changes client.old client.new)) }
         ensures rooted { held (seen client.new) 0 ≡ Some root }
         ensures full { IfErr result (λ why. why ≡ no_id → (pairs : List (ℕ × ℕ)) → IsMap 13 (seen client.old).graph pairs → free_ids (state_of client.old) < ids_needed key pairs) }

@@ -3,7 +3,9 @@ use Rattle.object_map.specs.Changes.{PutsBy, ids_needed}
 use Rattle.object_map.specs.Changes.PutsBy.{sets, begins, parts}
 use Rattle.object_map.proofs.AskLaws.{at_most, seen_same, asks_then, asks_within, out, falls_after, falls_within, never_full}
 use Rattle.object_map.proofs.OthersLaws.{first_keeps, set_keeps, part_keeps, keeps_from}
-use Rattle.object_map.proofs.CountLaws.{room_is, some_pairs, is_there, needs_three}
+use Rattle.object_map.proofs.CountLaws.{room_is, some_pairs, is_there, needs_none, needs_three}
+use Rattle.object_map.proofs.GainLaws.{first_gains, set_gains, low_gains, high_gains}
+use Rattle.object_map.proofs.MapTreeLaws.{map_of}
 use Rattle.std.proofs.Common.{◌+◌, ◌≡◌, ◌≢◌, ◌<◌, ◌≤◌, ◌++◌, ◌∷◌, [], Some, None, refl, sym, ap, ◌∙◌, subst, arith, IsSome}
 use Rattle.object_map.specs.Trees.{pairs_of}
 use Rattle.object_map.specs.Maps.{slot_of}
@@ -22,7 +24,7 @@ use Rattle.object_map.proofs.getting.ObjectMap.put.Goals.{then-key-found+in_ok-m
 
 pub returns-then-branch-eq0-clause-map : goal.returns-then-branch-eq0-clause-map
 returns-then-branch-eq0-clause-map g c = λ pairs m.
-    empty_put c.args.key c.args.value c.in_ok-read.field-0 (seen c.args.client.now) (seen c.read.new.self) (seen c.make_leaf.new.client) (seen c.store.new.self) pairs c.ranges.key.fits c.requires.rooted (room_is (seen c.args.client.now) c.know_slots.ensures.room) m c.in_ok-read.ensures.ok c.if-branch-eq0.true c.in_ok-read.ensures.loads c.in_ok-make_leaf.ensures.leaf c.in_ok-store.ensures.ok
+    map_of (empty_put c.args.key c.args.value c.in_ok-read.field-0 (seen c.args.client.now) (seen c.read.new.self) (seen c.make_leaf.new.client) (seen c.store.new.self) pairs c.ranges.key.fits c.requires.rooted (room_is (seen c.args.client.now) c.know_slots.ensures.room) m c.in_ok-read.ensures.ok c.if-branch-eq0.true c.in_ok-read.ensures.loads c.in_ok-make_leaf.ensures.leaf c.in_ok-store.ensures.ok)
 
 pub descend-requires-clause-tree : goal.descend-requires-clause-tree
 descend-requires-clause-tree g c κs within =
@@ -41,8 +43,8 @@ returns-then-found-key-clause-before g c = λ pairs m.
 
 pub returns-then-found-key-clause-map : goal.returns-then-found-key-clause-map
 returns-then-found-key-clause-map g c = λ pairs m.
-    set_put c.args.key c.in_ok-found.found c.in_ok-read.field-0 c.in_ok-read-2.field-0 c.args.value (seen c.args.client.now) (seen c.read.new.self) (seen c.descend.new.client) (seen c.read-then-found-key.new.self) (seen c.get_pay.new.self) (seen c.set_pay.new.self) pairs c.requires.rooted m c.in_ok-read.ensures.ok c.if-branch-eq0.false c.in_ok-read.ensures.loads c.in_ok-found.ensures.leaf c.if-found-key.true
-    c.in_ok-read-2.ensures.ok c.in_ok-read-2.ensures.loads c.in_ok-before.ensures.same c.in_ok-set_pay.ensures.ok
+    map_of (set_put c.args.key c.in_ok-found.found c.in_ok-read.field-0 c.in_ok-read-2.field-0 c.args.value (seen c.args.client.now) (seen c.read.new.self) (seen c.descend.new.client) (seen c.read-then-found-key.new.self) (seen c.get_pay.new.self) (seen c.set_pay.new.self) pairs c.requires.rooted m c.in_ok-read.ensures.ok c.if-branch-eq0.false c.in_ok-read.ensures.loads c.in_ok-found.ensures.leaf c.if-found-key.true
+    c.in_ok-read-2.ensures.ok c.in_ok-read-2.ensures.loads c.in_ok-before.ensures.same c.in_ok-set_pay.ensures.ok)
 
 pub part-requires-clause-tree : goal.part-requires-clause-tree
 part-requires-clause-tree g c κs within = leads_to 13 c.args.key c.in_ok-found.found c.in_ok-read.field-0 (seen c.args.client.now) (seen c.read.new.self) (seen c.descend.new.client) c.requires.rooted c.in_ok-read.ensures.ok c.if-branch-eq0.false c.in_ok-read.ensures.loads c.in_ok-found.ensures.leaf
@@ -71,10 +73,10 @@ returns-clause-map g c = λ pairs m.
     let named : slot_of (at (seen c.descend.new.client) root) 13 ≢ 0 = λ z. tree.named (sym tree.under ∙ z) in
     elim c.if-key-found.branch [
       | then-key-found+in_ok-make_inner w ↦ (let n : MakesInner c.in_ok-parting.parting.bit 3 1 (seen c.make_leaf-2.new.client) (seen c.if-key-found.client) = subst (λ v. MakesInner c.in_ok-parting.parting.bit 3 1 (seen c.make_leaf-2.new.client) v) (seen_same (sym w.client-is)) w.in_ok-make_inner.ensures.inner in
-          low_put c.args.key c.in_ok-found.found c.args.value c.in_ok-parting.parting.bit c.in_ok-parting.parting.register c.in_ok-parting.parting.slot c.in_ok-parting.parting.right (seen c.descend.new.client) (seen c.part.new.client) (seen c.make_leaf-2.new.client) (seen c.if-key-found.client) (seen c.store-2.new.self) pairs c.ranges.key.fits c.in_ok-parting.ensures.way c.in_ok-parting.ensures.critical w.if-key-found.true c.in_ok-make_leaf-2.ensures.leaf n c.in_ok-store-2.ensures.ok named p)
+          map_of (low_put c.args.key c.in_ok-found.found c.args.value c.in_ok-parting.parting.bit c.in_ok-parting.parting.register c.in_ok-parting.parting.slot c.in_ok-parting.parting.right (seen c.descend.new.client) (seen c.part.new.client) (seen c.make_leaf-2.new.client) (seen c.if-key-found.client) (seen c.store-2.new.self) pairs c.ranges.key.fits c.in_ok-parting.ensures.way c.in_ok-parting.ensures.critical w.if-key-found.true c.in_ok-make_leaf-2.ensures.leaf n c.in_ok-store-2.ensures.ok named p))
       | else-key-found+in_ok-make_inner-2 w ↦ (let n : MakesInner c.in_ok-parting.parting.bit 1 3 (seen c.make_leaf-2.new.client) (seen c.if-key-found.client) = subst (λ v. MakesInner c.in_ok-parting.parting.bit 1 3 (seen c.make_leaf-2.new.client) v) (seen_same (sym w.client-is)) w.in_ok-make_inner-2.ensures.inner in
           let l : c.in_ok-found.found < c.args.key = omega (arith, w.if-key-found.false, c.if-found-key.false) in
-          high_put c.args.key c.in_ok-found.found c.args.value c.in_ok-parting.parting.bit c.in_ok-parting.parting.register c.in_ok-parting.parting.slot c.in_ok-parting.parting.right (seen c.descend.new.client) (seen c.part.new.client) (seen c.make_leaf-2.new.client) (seen c.if-key-found.client) (seen c.store-2.new.self) pairs c.ranges.key.fits c.in_ok-parting.ensures.way c.in_ok-parting.ensures.critical l c.in_ok-make_leaf-2.ensures.leaf n c.in_ok-store-2.ensures.ok named p)
+          map_of (high_put c.args.key c.in_ok-found.found c.args.value c.in_ok-parting.parting.bit c.in_ok-parting.parting.register c.in_ok-parting.parting.slot c.in_ok-parting.parting.right (seen c.descend.new.client) (seen c.part.new.client) (seen c.make_leaf-2.new.client) (seen c.if-key-found.client) (seen c.store-2.new.self) pairs c.ranges.key.fits c.in_ok-parting.ensures.way c.in_ok-parting.ensures.critical l c.in_ok-make_leaf-2.ensures.leaf n c.in_ok-store-2.ensures.ok named p))
     ]
 
 -- ---- what else is as it was
@@ -98,6 +100,56 @@ returns-clause-outside g c =
       | else-key-found+in_ok-make_inner-2 w ↦ part_keeps c.args.key c.in_ok-found.found c.args.value c.in_ok-parting.parting.bit c.in_ok-parting.parting.register c.in_ok-parting.parting.slot 1 3 c.in_ok-parting.parting.right (seen c.descend.new.client) (seen c.part.new.client) (seen c.make_leaf-2.new.client) (seen c.if-key-found.client) (seen c.store-2.new.self) c.in_ok-parting.ensures.way c.in_ok-make_leaf-2.ensures.leaf
           (subst (λ v. MakesInner c.in_ok-parting.parting.bit 1 3 (seen c.make_leaf-2.new.client) v) (seen_same (sym w.client-is)) w.in_ok-make_inner-2.ensures.inner) c.in_ok-store-2.ensures.ok named
     ])
+
+-- ---- the objects that the map gets
+
+pub returns-then-branch-eq0-clause-gains : goal.returns-then-branch-eq0-clause-gains
+returns-then-branch-eq0-clause-gains g c = λ pairs m.
+    let empty = empty_map (seen c.args.client.now) 13 c.in_ok-read.field-0 pairs c.requires.rooted m c.in_ok-read.ensures.ok c.if-branch-eq0.true in (
+      c.in_ok-make_leaf.ensures.leaf.leaf ∷ c.in_ok-make_leaf.ensures.leaf.cell ∷ [],
+      (
+        sym (ap (ids_needed c.args.key) empty),
+        first_gains c.args.key c.args.value c.in_ok-read.field-0 (seen c.args.client.now) (seen c.read.new.self) (seen c.make_leaf.new.client) (seen c.store.new.self) pairs c.ranges.key.fits c.requires.rooted (room_is (seen c.args.client.now) c.know_slots.ensures.room) m c.in_ok-read.ensures.ok c.if-branch-eq0.true c.in_ok-read.ensures.loads c.in_ok-make_leaf.ensures.leaf c.in_ok-store.ensures.ok,
+      ),
+    )
+
+pub returns-then-found-key-clause-gains : goal.returns-then-found-key-clause-gains
+returns-then-found-key-clause-gains g c = λ pairs m.
+    let t : HoldsMap (seen c.read.new.self) pairs = holds_map (seen c.args.client.now) (seen c.read.new.self) 13 c.in_ok-read.field-0 pairs c.requires.rooted m c.in_ok-read.ensures.ok c.if-branch-eq0.false c.in_ok-read.ensures.loads in
+    let has = value_found c.args.key c.in_ok-found.found c.in_ok-read-2.field-0 c.in_ok-before.before (seen c.read.new.self) (seen c.descend.new.client) (seen c.read-then-found-key.new.self) pairs t c.in_ok-found.ensures.leaf c.if-found-key.true c.in_ok-read-2.ensures.ok c.in_ok-read-2.ensures.loads c.in_ok-before.ensures.ok in (
+      [],
+      (
+        needs_none c.args.key c.in_ok-before.before pairs has,
+        set_gains c.args.key c.in_ok-found.found c.in_ok-read.field-0 c.in_ok-read-2.field-0 c.args.value (seen c.args.client.now) (seen c.read.new.self) (seen c.descend.new.client) (seen c.read-then-found-key.new.self) (seen c.get_pay.new.self) (seen c.set_pay.new.self) pairs c.requires.rooted m c.in_ok-read.ensures.ok c.if-branch-eq0.false c.in_ok-read.ensures.loads c.in_ok-found.ensures.leaf c.if-found-key.true
+            c.in_ok-read-2.ensures.ok c.in_ok-read-2.ensures.loads c.in_ok-before.ensures.same c.in_ok-set_pay.ensures.ok,
+      ),
+    )
+
+pub returns-clause-gains : goal.returns-clause-gains
+returns-clause-gains g c = λ pairs m.
+    let p : pairs ≡ pairs_of (whole c.in_ok-parting.ensures.way.turns c.in_ok-parting.ensures.way.tree) = part_pairs 13 c.args.key c.in_ok-found.found c.in_ok-parting.parting.bit c.in_ok-parting.parting.register c.in_ok-parting.parting.slot c.in_ok-read.field-0 c.in_ok-parting.parting.right (seen c.args.client.now) (seen c.read.new.self) (seen c.descend.new.client) (seen c.part.new.client) pairs c.in_ok-parting.ensures.way c.requires.rooted m c.in_ok-read.ensures.ok c.if-branch-eq0.false (c.in_ok-found.ensures.leaf.graph ∙ c.in_ok-read.ensures.loads.graph) refl in
+    let tree : LeadsTo 13 c.args.key c.in_ok-found.found (seen c.descend.new.client) = leads_to 13 c.args.key c.in_ok-found.found c.in_ok-read.field-0 (seen c.args.client.now) (seen c.read.new.self) (seen c.descend.new.client) c.requires.rooted c.in_ok-read.ensures.ok c.if-branch-eq0.false c.in_ok-read.ensures.loads c.in_ok-found.ensures.leaf in
+    let named : slot_of (at (seen c.descend.new.client) root) 13 ≢ 0 = λ z. tree.named (sym tree.under ∙ z) in
+    let t : HoldsMap (seen c.read.new.self) pairs = holds_map (seen c.args.client.now) (seen c.read.new.self) 13 c.in_ok-read.field-0 pairs c.requires.rooted m c.in_ok-read.ensures.ok c.if-branch-eq0.false c.in_ok-read.ensures.loads in
+    let none = sym (value_missing c.args.key c.in_ok-found.found (seen c.read.new.self) (seen c.descend.new.client) pairs t c.in_ok-found.ensures.leaf c.if-found-key.false) in
+    let three : 3 ≡ ids_needed c.args.key pairs = sym (needs_three c.args.key pairs none (λ e. some_pairs t.tree (sym t.same ∙ e))) in
+    elim c.if-key-found.branch [
+      | then-key-found+in_ok-make_inner w ↦ (let n : MakesInner c.in_ok-parting.parting.bit 3 1 (seen c.make_leaf-2.new.client) (seen c.if-key-found.client) = subst (λ v. MakesInner c.in_ok-parting.parting.bit 3 1 (seen c.make_leaf-2.new.client) v) (seen_same (sym w.client-is)) w.in_ok-make_inner.ensures.inner in (
+        c.in_ok-make_leaf-2.ensures.leaf.leaf ∷ c.in_ok-make_leaf-2.ensures.leaf.cell ∷ n.id ∷ [],
+        (
+          three,
+          low_gains c.args.key c.in_ok-found.found c.args.value c.in_ok-parting.parting.bit c.in_ok-parting.parting.register c.in_ok-parting.parting.slot c.in_ok-parting.parting.right (seen c.args.client.now) (seen c.descend.new.client) (seen c.part.new.client) (seen c.make_leaf-2.new.client) (seen c.if-key-found.client) (seen c.store-2.new.self) pairs (c.in_ok-found.ensures.leaf.graph ∙ c.in_ok-read.ensures.loads.graph) c.ranges.key.fits c.in_ok-parting.ensures.way c.in_ok-parting.ensures.critical w.if-key-found.true c.in_ok-make_leaf-2.ensures.leaf n c.in_ok-store-2.ensures.ok named p,
+        ),
+      ))
+      | else-key-found+in_ok-make_inner-2 w ↦ (let n : MakesInner c.in_ok-parting.parting.bit 1 3 (seen c.make_leaf-2.new.client) (seen c.if-key-found.client) = subst (λ v. MakesInner c.in_ok-parting.parting.bit 1 3 (seen c.make_leaf-2.new.client) v) (seen_same (sym w.client-is)) w.in_ok-make_inner-2.ensures.inner in
+          let l : c.in_ok-found.found < c.args.key = omega (arith, w.if-key-found.false, c.if-found-key.false) in (
+            c.in_ok-make_leaf-2.ensures.leaf.leaf ∷ c.in_ok-make_leaf-2.ensures.leaf.cell ∷ n.id ∷ [],
+            (
+              three,
+              high_gains c.args.key c.in_ok-found.found c.args.value c.in_ok-parting.parting.bit c.in_ok-parting.parting.register c.in_ok-parting.parting.slot c.in_ok-parting.parting.right (seen c.args.client.now) (seen c.descend.new.client) (seen c.part.new.client) (seen c.make_leaf-2.new.client) (seen c.if-key-found.client) (seen c.store-2.new.self) pairs (c.in_ok-found.ensures.leaf.graph ∙ c.in_ok-read.ensures.loads.graph) c.ranges.key.fits c.in_ok-parting.ensures.way c.in_ok-parting.ensures.critical l c.in_ok-make_leaf-2.ensures.leaf n c.in_ok-store-2.ensures.ok named p,
+            ),
+          ))
+    ]
 
 -- ---- the calls
 

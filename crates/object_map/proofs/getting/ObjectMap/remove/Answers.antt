@@ -3,12 +3,13 @@ use Rattle.object_map.specs.Changes.RemovesBy.{nothing, unhangs}
 use Rattle.object_map.proofs.AskLaws.{asks_then, asks_within, out, falls_after, falls_within, never_full}
 use Rattle.object_map.proofs.OthersLaws.{keeps_same, keeps_from, only_keeps, twice_keeps}
 use Rattle.object_map.proofs.CountLaws.{is_there}
-use Rattle.std.proofs.Common.{Some, None, ◌≡◌, ◌≤◌, ◌+◌, sym, ap, ◌∙◌, arith}
+use Rattle.std.proofs.Common.{Some, None, [], ◌≡◌, ◌≤◌, ◌+◌, sym, ap, ◌∙◌, arith}
 use Rattle.object_map.specs.Seen.{Seen, held, held_id}
 use Rattle.plain_map.specs.Pairs.{value_of}
 use Rattle.object_map.proofs.WayLaws.{held_some}
 use Rattle.object_map.proofs.GetLaws.{holds_map, empty_map}
-use Rattle.object_map.proofs.RemoveLaws.{has_tree, sought_missing, missing_removed, sought_here, sought_value, only_removed, twice_removed, twice_full}
+use Rattle.object_map.proofs.RemoveLaws.{has_tree, sought_missing, missing_removed, sought_here, sought_value, only_removed, twice_removed, twice_full, emptied_map, unhung_map}
+use Rattle.object_map.proofs.LossLaws.{holds_none, loses_same, emptied_loses, unhung_loses}
 use Rattle.object_map.proofs.getting.ObjectMap.remove.Goals as goal
 
 pub seek-requires-clause-tree : goal.seek-requires-clause-tree
@@ -30,7 +31,7 @@ returns-then-sought-clause-before g c = λ pairs m. sought_value c.args.key c.in
 
 pub returns-then-sought-clause-map : goal.returns-then-sought-clause-map
 returns-then-sought-clause-map g c = λ pairs m.
-    only_removed c.args.key c.in_ok-sought.sought.found c.in_ok-sought.sought.side c.in_ok-sought.sought.register c.in_ok-sought.sought.slot c.in_ok-sought.sought.only (seen c.args.client.now) (seen c.read.new.self) (seen c.seek.new.client) (seen c.get_pay.new.self) (seen c.store.new.self) pairs c.in_ok-sought.ensures.leaf c.in_ok-read.ensures.loads.graph m c.if-sought-key.false c.if-sought.true (ap (λ (v : Seen). v.graph) c.in_ok-before.ensures.same ∙ c.in_ok-read-2.ensures.loads.graph) (ap (λ (v : Seen). held v 0) c.in_ok-before.ensures.same ∙ c.in_ok-read-2.ensures.loads.others 0 (λ z. absurd (omega (arith, z))) ∙ c.in_ok-sought.ensures.leaf.rooted) c.in_ok-store.ensures.ok
+    emptied_map (only_removed c.args.key c.in_ok-sought.sought.found c.in_ok-sought.sought.side c.in_ok-sought.sought.register c.in_ok-sought.sought.slot c.in_ok-sought.sought.only (seen c.args.client.now) (seen c.read.new.self) (seen c.seek.new.client) (seen c.get_pay.new.self) (seen c.store.new.self) pairs c.in_ok-sought.ensures.leaf c.in_ok-read.ensures.loads.graph m c.if-sought-key.false c.if-sought.true (ap (λ (v : Seen). v.graph) c.in_ok-before.ensures.same ∙ c.in_ok-read-2.ensures.loads.graph) (ap (λ (v : Seen). held v 0) c.in_ok-before.ensures.same ∙ c.in_ok-read-2.ensures.loads.others 0 (λ z. absurd (omega (arith, z))) ∙ c.in_ok-sought.ensures.leaf.rooted) c.in_ok-store.ensures.ok)
 
 pub store-requires-2-clause-source_full : goal.store-requires-2-clause-source_full
 store-requires-2-clause-source_full g c κs within = twice_full c.args.key c.in_ok-sought.sought.found c.in_ok-sought.sought.side c.in_ok-sought.sought.register c.in_ok-sought.sought.slot c.in_ok-read-3.field-0 c.in_ok-sought.sought.only (seen c.read.new.self) (seen c.seek.new.client) (seen c.get_pay.new.self) (seen c.read-3.new.self) c.in_ok-sought.ensures.leaf c.if-sought.false (ap (λ (v : Seen). v.graph) c.in_ok-before.ensures.same ∙ c.in_ok-read-2.ensures.loads.graph) (λ j n. ap (λ v. held v j) c.in_ok-before.ensures.same ∙ c.in_ok-read-2.ensures.loads.others j n) c.in_ok-read-3.ensures.ok c.in_ok-read-3.ensures.loads
@@ -40,7 +41,7 @@ returns-clause-before g c = λ pairs m. sought_value c.args.key c.in_ok-sought.s
 
 pub returns-clause-map : goal.returns-clause-map
 returns-clause-map g c = λ pairs m.
-    twice_removed c.args.key c.in_ok-sought.sought.found c.in_ok-sought.sought.side c.in_ok-sought.sought.register c.in_ok-sought.sought.slot c.in_ok-read-3.field-0 c.in_ok-sought.sought.only (seen c.args.client.now) (seen c.read.new.self) (seen c.seek.new.client) (seen c.get_pay.new.self) (seen c.read-3.new.self) (seen c.store-2.new.self) pairs c.in_ok-sought.ensures.leaf c.in_ok-read.ensures.loads.graph m c.if-sought-key.false c.if-sought.false (ap (λ (v : Seen). v.graph) c.in_ok-before.ensures.same ∙ c.in_ok-read-2.ensures.loads.graph) (λ j n. ap (λ v. held v j) c.in_ok-before.ensures.same ∙ c.in_ok-read-2.ensures.loads.others j n) c.in_ok-read-3.ensures.ok c.in_ok-read-3.ensures.loads c.in_ok-store-2.ensures.ok
+    unhung_map (twice_removed c.args.key c.in_ok-sought.sought.found c.in_ok-sought.sought.side c.in_ok-sought.sought.register c.in_ok-sought.sought.slot c.in_ok-read-3.field-0 c.in_ok-sought.sought.only (seen c.args.client.now) (seen c.read.new.self) (seen c.seek.new.client) (seen c.get_pay.new.self) (seen c.read-3.new.self) (seen c.store-2.new.self) pairs c.in_ok-sought.ensures.leaf c.in_ok-read.ensures.loads.graph m c.if-sought-key.false c.if-sought.false (ap (λ (v : Seen). v.graph) c.in_ok-before.ensures.same ∙ c.in_ok-read-2.ensures.loads.graph) (λ j n. ap (λ v. held v j) c.in_ok-before.ensures.same ∙ c.in_ok-read-2.ensures.loads.others j n) c.in_ok-read-3.ensures.ok c.in_ok-read-3.ensures.loads c.in_ok-store-2.ensures.ok)
 
 -- ---- what else is as it was
 
@@ -59,6 +60,31 @@ pub returns-clause-outside : goal.returns-clause-outside
 returns-clause-outside g c =
     keeps_from (seen c.args.client.now) (seen c.read.new.self) (seen c.store-2.new.self) c.in_ok-read.ensures.loads.graph
     (twice_keeps c.args.key c.in_ok-sought.sought.found c.in_ok-sought.sought.side c.in_ok-sought.sought.register c.in_ok-sought.sought.slot c.in_ok-read-3.field-0 (held_id (seen c.read-3.new.self) 1) c.in_ok-sought.sought.only (seen c.read.new.self) (seen c.seek.new.client) (seen c.get_pay.new.self) (seen c.read-3.new.self) (seen c.store-2.new.self) c.in_ok-sought.ensures.leaf c.if-sought.false (ap (λ (v : Seen). v.graph) c.in_ok-before.ensures.same ∙ c.in_ok-read-2.ensures.loads.graph) (λ j n. ap (λ v. held v j) c.in_ok-before.ensures.same ∙ c.in_ok-read-2.ensures.loads.others j n) c.in_ok-read-3.ensures.loads c.in_ok-store-2.ensures.ok)
+
+-- ---- the objects that the map loses
+
+pub returns-then-branch-eq0-clause-loses : goal.returns-then-branch-eq0-clause-loses
+returns-then-branch-eq0-clause-loses g c = λ pairs m.
+    let empty = empty_map (seen c.args.client.now) 13 c.in_ok-read.field-0 pairs c.requires.rooted m c.in_ok-read.ensures.ok c.if-branch-eq0.true in
+    ([], (holds_none c.args.key pairs (ap (value_of c.args.key) empty), loses_same (seen c.args.client.now) (seen c.read.new.self) c.in_ok-read.ensures.loads.graph))
+
+pub returns-then-sought-key-clause-loses : goal.returns-then-sought-key-clause-loses
+returns-then-sought-key-clause-loses g c = λ pairs m.
+    let none = sym (sought_missing c.args.key c.in_ok-sought.sought.found c.in_ok-sought.sought.side c.in_ok-sought.sought.register c.in_ok-sought.sought.slot c.in_ok-sought.sought.only (seen c.args.client.now) (seen c.read.new.self) (seen c.seek.new.client) pairs c.in_ok-sought.ensures.leaf c.in_ok-read.ensures.loads.graph m c.if-sought-key.true) in
+    ([], (holds_none c.args.key pairs none, loses_same (seen c.args.client.now) (seen c.seek.new.client) (c.in_ok-sought.ensures.leaf.graph ∙ c.in_ok-read.ensures.loads.graph)))
+
+pub returns-then-sought-clause-loses : goal.returns-then-sought-clause-loses
+returns-then-sought-clause-loses g c = λ pairs m.
+    let has = sought_value c.args.key c.in_ok-sought.sought.found c.in_ok-sought.sought.side c.in_ok-sought.sought.register c.in_ok-sought.sought.slot c.in_ok-read-2.field-0 c.in_ok-before.before c.in_ok-sought.sought.only (seen c.args.client.now) (seen c.read.new.self) (seen c.seek.new.client) (seen c.read-2.new.self) pairs c.in_ok-sought.ensures.leaf c.in_ok-read.ensures.loads.graph m c.if-sought-key.false c.in_ok-read-2.ensures.ok c.in_ok-read-2.ensures.loads c.in_ok-before.ensures.ok in
+    emptied_loses c.args.key c.in_ok-before.before (seen c.args.client.now) (seen c.read.new.self) (seen c.store.new.self) pairs c.in_ok-read.ensures.loads.graph has
+    (only_removed c.args.key c.in_ok-sought.sought.found c.in_ok-sought.sought.side c.in_ok-sought.sought.register c.in_ok-sought.sought.slot c.in_ok-sought.sought.only (seen c.args.client.now) (seen c.read.new.self) (seen c.seek.new.client) (seen c.get_pay.new.self) (seen c.store.new.self) pairs c.in_ok-sought.ensures.leaf c.in_ok-read.ensures.loads.graph m c.if-sought-key.false c.if-sought.true (ap (λ (v : Seen). v.graph) c.in_ok-before.ensures.same ∙ c.in_ok-read-2.ensures.loads.graph) (ap (λ (v : Seen). held v 0) c.in_ok-before.ensures.same ∙ c.in_ok-read-2.ensures.loads.others 0 (λ z. absurd (omega (arith, z))) ∙ c.in_ok-sought.ensures.leaf.rooted) c.in_ok-store.ensures.ok)
+
+pub returns-clause-loses : goal.returns-clause-loses
+returns-clause-loses g c = λ pairs m.
+    let has = sought_value c.args.key c.in_ok-sought.sought.found c.in_ok-sought.sought.side c.in_ok-sought.sought.register c.in_ok-sought.sought.slot c.in_ok-read-2.field-0 c.in_ok-before.before c.in_ok-sought.sought.only (seen c.args.client.now) (seen c.read.new.self) (seen c.seek.new.client) (seen c.read-2.new.self) pairs c.in_ok-sought.ensures.leaf c.in_ok-read.ensures.loads.graph m c.if-sought-key.false c.in_ok-read-2.ensures.ok c.in_ok-read-2.ensures.loads c.in_ok-before.ensures.ok in
+    unhung_loses c.args.key c.in_ok-before.before (seen c.args.client.now) (seen c.read-3.new.self) (seen c.store-2.new.self) pairs
+    (c.in_ok-read-3.ensures.loads.graph ∙ (ap (λ (v : Seen). v.graph) c.in_ok-before.ensures.same ∙ c.in_ok-read-2.ensures.loads.graph) ∙ c.in_ok-sought.ensures.leaf.graph ∙ c.in_ok-read.ensures.loads.graph) has
+    (twice_removed c.args.key c.in_ok-sought.sought.found c.in_ok-sought.sought.side c.in_ok-sought.sought.register c.in_ok-sought.sought.slot c.in_ok-read-3.field-0 c.in_ok-sought.sought.only (seen c.args.client.now) (seen c.read.new.self) (seen c.seek.new.client) (seen c.get_pay.new.self) (seen c.read-3.new.self) (seen c.store-2.new.self) pairs c.in_ok-sought.ensures.leaf c.in_ok-read.ensures.loads.graph m c.if-sought-key.false c.if-sought.false (ap (λ (v : Seen). v.graph) c.in_ok-before.ensures.same ∙ c.in_ok-read-2.ensures.loads.graph) (λ j n. ap (λ v. held v j) c.in_ok-before.ensures.same ∙ c.in_ok-read-2.ensures.loads.others j n) c.in_ok-read-3.ensures.ok c.in_ok-read-3.ensures.loads c.in_ok-store-2.ensures.ok)
 
 -- ---- the calls
 
