@@ -70,9 +70,10 @@ fn end<P: Eprint + Drop>(listener: &Listener<P>) {
 
 /// Counts bytes that were read, and tells an onlooker where their number gets a line.
 fn count_read<P: Eprint + Drop>(read: &mut u64, more: u64, listener: &Listener<P>) {
-    if let (Some(now), Listener::Onlooker(terminal)) =
-        (passed(read, more, READ_OF_A_LINE), listener)
-    {
+    if let (Some(now), Listener::Onlooker(terminal)) = (
+        passed(read, more, READ_OF_A_LINE),
+        listener,
+    ) {
         let mebibytes = now / MEBIBYTE;
         let _ = eprintln!(terminal; "brahma: {mebibytes} MiB of the stream read");
     }
