@@ -49,11 +49,11 @@ cell_apart : (c : ℕ) (t : Tree) → has_cell c t ≡ false → AllCells (λ d.
 cell_apart c (leaf i k d v) e = apart_from_test c d e
 cell_apart c (inner i b l r) e = (cell_apart c l (or_false_left (has_cell c l) (has_cell c r) e), cell_apart c r (or_false_right (has_cell c l) (has_cell c r) e))
 
-apart_cell : (c : ℕ) (t : Tree) → AllCells (λ d. c ≢ d) t → has_cell c t ≡ false
+pub apart_cell : (c : ℕ) (t : Tree) → AllCells (λ d. c ≢ d) t → has_cell c t ≡ false
 apart_cell c (leaf i k d v) n = test_from_apart c d n
 apart_cell c (inner i b l r) n = both_false (has_cell c l) (has_cell c r) (apart_cell c l n.0) (apart_cell c r n.1)
 
-both_cells : (P Q : ℕ → Type 0) (t : Tree) → AllCells P t → AllCells Q t → AllCells (λ c. P c × Q c) t
+pub both_cells : (P Q : ℕ → Type 0) (t : Tree) → AllCells P t → AllCells Q t → AllCells (λ c. P c × Q c) t
 both_cells P Q (leaf i k d v) p q = (p, q)
 both_cells P Q (inner i b l r) p q = (both_cells P Q l p.0 q.0, both_cells P Q r p.1 q.1)
 

@@ -31,3 +31,9 @@ pub mod ApartLaws
 pub mod IdListLaws
 pub mod GainLaws
 pub mod LossLaws
+pub mod BrokenLaws
+pub mod FirstLaws
+pub mod SpanLaws
+pub mod TellLaws
+pub mod BlameLaws
+pub mod LastLaws

@@ -49,8 +49,8 @@ pub record Loses (slot : ℕ) (ids : List ℕ) (old new : Seen) : Type 0 where
   pub lost : (x : ℕ) → Contains ids x → IsOfMap slot (at old) x × (IsOfMap slot (at new) x → ⊥)
   pub only : (x : ℕ) → IsOfMap slot (at old) x → IsOfMap slot (at new) x ⊎ Contains ids x
 
--- The calls that put the pair into a map of these pairs. They set the value of a key that is there, or hang a new leaf under the root's slot,
--- or hang a new inner object over the new leaf and the tree at which its key parts from the others.
+-- The calls that put the pair into a map of these pairs. They set the value of a key that is there, or hang a new leaf under the root's slot.
+-- Or they hang a new inner object over the new leaf and the tree at which its key parts from the others.
 pub data PutsBy (key value : ℕ) (pairs : List (ℕ × ℕ)) : List TransactionCall → Type 0 where
   sets : IsSome (value_of key pairs) → PutsBy key value pairs (call.SetPay 1 value ∷ [])
   begins : pairs ≡ [] → PutsBy key value pairs (leaf_calls key value ++ call.Store 0 13 (Some 3) ∷ [])

@@ -10,3 +10,6 @@ pub mod Clients
 pub mod Changes
 pub mod Ranges
 pub mod Walking
+pub mod Broken
+pub mod Telling
+pub mod Forks

@@ -59,8 +59,8 @@ pub record IsOnPart (key found bit last register slot : ℕ) (right : Bool) (old
   pub slots : new.slots ≡ old.slots
   pub graph : new.graph ≡ old.graph
 
--- The object that the slot of the object in the register names comes into register 2, what its own slot `side` names into register 1,
--- and where that is slot 0, what slot 1 names into register 3.
+-- The object that the slot of the object in the register names comes into register 2, and what its own slot `side` names into register 1.
+-- Where that is slot 0, what slot 1 names comes into register 3.
 pub record Turns (register slot side : ℕ) (right result : Bool) (old new : Seen) : Type 0 where
   pub slots : new.slots ≡ old.slots
   pub graph : new.graph ≡ old.graph

@@ -30,6 +30,14 @@ pub data Refuses {D : Type 0} (why : MapRefusal) (IsAbsent : Type 0) (old new : 
   starves : why ≡ refusal.Memory → Looks old new → Refuses why IsAbsent old new
   falls : Falls 0 why old new → Refuses why IsAbsent old new
 
+-- What comes of a refusal below an inner object: it stays, where it names no object, or where the inner object has no wrong key. Else it
+-- names the inner object, or another refusal stopped the search.
+pub data Blames {D : Type 0} (why : MapRefusal) (IsWrong : Type 0) (id : ℕ) (old new : ClientView D) (result : MapRefusal) : Type 0 where
+  passes : ((d : ℕ) → why ≡ refusal.NotMap d → ⊥) → result ≡ why → new ≡ old → Blames why IsWrong id old new result
+  keeps : (d : ℕ) → why ≡ refusal.NotMap d → result ≡ why → (IsWrong → ⊥) → Looks old new → Blames why IsWrong id old new result
+  turns : (d : ℕ) → why ≡ refusal.NotMap d → result ≡ refusal.NotMap id → IsWrong → Looks old new → Blames why IsWrong id old new result
+  stops : (d : ℕ) → why ≡ refusal.NotMap d → Refuses result ⊥ old new → Blames why IsWrong id old new result
+
 -- From the object x the guide's bits lead to y, by objects whose numbers descend from below the last one and aren't below the given one.
 abbrev pub Comes : (ℕ → Option Object) → ℕ → ℕ → ℕ → List ℕ → ℕ → ℕ → Type 0
 Comes at guide last below [] x y = (below ≤ last) × (x ≡ y)

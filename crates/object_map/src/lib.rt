@@ -5,9 +5,12 @@
 #![tactic(auto)]
 
 mod attaching;
+mod blaming;
 mod client;
 mod descending;
+mod fork;
 mod getting;
+mod last;
 mod laws;
 mod making;
 mod parting;
@@ -15,6 +18,7 @@ mod putting;
 mod range;
 mod refusal;
 mod removing;
+mod telling;
 mod walking;
 
 pub use client::Client;

@@ -5,6 +5,7 @@ ghost use Rattle.std.specs.Ordering.{nat_cmp};
 ghost use Rattle.std.specs.BTreeSet.{insert_key};
 ghost use Rattle.plain_model.specs.Graphs.{root};
 ghost use Rattle.plain_model.specs.Machine.{is_stored};
+ghost use Rattle.object_map.specs.Broken.{BreaksInner, IsFirst, IsMet};
 ghost use Rattle.object_map.specs.Clients.{object_slots, seen, Falls};
 ghost use Rattle.object_map.specs.Maps.{slot_of, payload_of, IsLeaf, IsCell, IsInner};
 ghost use Rattle.object_map.specs.Seen.{at, held, held_id};
@@ -65,7 +66,7 @@ fn has_only<D: Disk>(client: &mut Client<D>, r: u8, a: u8, b: u8) -> Result<bool
 }
 
 /// Adds a cell to those that were met, and answers whether it is a new one.
-fn meet(cells: &mut BTreeSet<u32>, cell: u32) -> Result<bool, MapRefusal>
+pub(crate) fn meet(cells: &mut BTreeSet<u32>, cell: u32) -> Result<bool, MapRefusal>
     ensures fresh { IfOk result (λ new. is_stored cells.old.keys cell ≡ not new) }
     ensures met { OnOk result (cells.new.keys ≡ insert_key nat_cmp cells.old.keys cell) }
     ensures starved { IfErr result (λ why. why ≡ MapRefusal.Memory) }
@@ -86,6 +87,7 @@ pub(crate) fn meet_leaf<D: Disk>(
     requires leaf { held (seen client.old) 1 ≡ Some id }
     requires cell { held (seen client.old) 2 ≡ Some cell }
     requires names { slot_of (at (seen client.old) id) 2 ≡ cell }
+    requires there { id ≢ 0 }
     requires named { cell ≢ 0 }
     ensures is_leaf { OnOk result (IsLeaf (at (seen client.old) id) (payload_of (at (seen client.old) id)) cell) }
     ensures is_cell { OnOk result (IsCell (at (seen client.old) cell) (payload_of (at (seen client.old) cell))) }
@@ -93,6 +95,7 @@ pub(crate) fn meet_leaf<D: Disk>(
     ensures met { OnOk result (cells.new.keys ≡ insert_key nat_cmp cells.old.keys cell) }
     ensures looks { OnOk result (Looks client.old client.new) }
     ensures refused { IfErr result (λ why. (below : ℕ) → Refuses why (NoTree (at (seen client.old)) id below cells.old.keys) client.old client.new) }
+    ensures first { IfErr result (λ why. (below d : ℕ) → why ≡ MapRefusal.NotMap d → IsFirst (at (seen client.old)) (IsMet cells.old.keys) below id d) }
 {
     client.know_held(2);
     if !has_only(client, 1, CELL_SLOT, CELL_SLOT)? {
@@ -111,6 +114,7 @@ pub(crate) fn meet_leaf<D: Disk>(
 pub(crate) fn sides<D: Disk>(client: &mut Client<D>) -> Result<Option<(u32, u32)>, MapRefusal>
     requires full { IsSome (held (seen client.old) 1) }
     ensures inner { IfOk result (λ found. IfSome found (λ s. IsInner (at (seen client.old) (held_id (seen client.old) 1)) (payload_of (at (seen client.old) (held_id (seen client.old) 1))) s.0 s.1)) }
+    ensures broken { IfOk result (λ found. found ≡ None → (bit : ℕ) → BreaksInner (at (seen client.old)) bit (held_id (seen client.old) 1)) }
     ensures none { IfOk result (λ found. found ≡ None → (bit low high : ℕ) → IsInner (at (seen client.old) (held_id (seen client.old) 1)) bit low high → ⊥) }
     ensures scans { OnOk result (Scans client.old client.new) }
     ensures refused { IfErr result (λ why. Falls 0 why client.old client.new) }

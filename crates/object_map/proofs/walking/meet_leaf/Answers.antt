@@ -2,7 +2,9 @@ use Rattle.std.proofs.Common.{◌≡◌, ◌≢◌, refl, sym, ap, ◌∙◌, su
 use Rattle.std.specs.Prelude.{not}
 use Rattle.plain_model.specs.Machine.{is_stored}
 use Rattle.object_map.specs.Clients.{seen}
-use Rattle.object_map.specs.Maps.{slot_of}
+use Rattle.object_map.specs.Maps.{IsLeaf, slot_of, payload_of}
+use Rattle.object_map.specs.Broken.{IsFirst, IsMet}
+use Rattle.object_map.specs.Broken.BreaksLeaf.{leaf_points, leaf_shares}
 use Rattle.object_map.specs.Seen.{at, held, held_id}
 use Rattle.object_map.specs.Walking.{Looks, Refuses}
 use Rattle.object_map.specs.Walking.Refuses.{denies, starves, falls}
@@ -11,6 +13,9 @@ use Rattle.object_map.proofs.LookLaws.{still_held, leaf_is, cell_is, here_slot, 
 use Rattle.object_map.proofs.GrowLaws.{no_leaf, no_cell, no_fresh}
 use Rattle.object_map.proofs.WalkLaws.{looks_then, falls_looked}
 use Rattle.object_map.proofs.WayLaws.{held_some}
+use Rattle.object_map.proofs.BrokenLaws.{leaf_first, value_first}
+use Rattle.object_map.proofs.FirstLaws.{leaf_keeps}
+use Rattle.object_map.proofs.BlameLaws.{same_name, memory_names, falls_names}
 use Rattle.object_map.proofs.walking.meet_leaf.Goals as goal
 
 pub know_held-requires-clause-full : goal.know_held-requires-clause-full
@@ -64,3 +69,38 @@ returns-in_err-meet-clause-refused g c = out c.from_residual-in_err-meet.result 
 
 pub returns-in_err-has_only-2-clause-refused : goal.returns-in_err-has_only-2-clause-refused
 returns-in_err-has_only-2-clause-refused g c = out c.from_residual-in_err-has_only-2.result _ c.from_residual-in_err-has_only-2.ensures.1 (λ below. falls (falls_looked c.in_ok-has_only.ensures.scans.look c.in_err-has_only-2.ensures.refused))
+
+-- ---- the first object that breaks its sentence
+
+-- another slot of the leaf isn't null
+pub returns-then-not-branch-clause-first : goal.returns-then-not-branch-clause-first
+returns-then-not-branch-clause-first g c = λ below d e.
+    let t = c.in_ok-has_only.ensures.other c.if-not-branch.true in
+    subst (IsFirst (at (seen c.args.client.now)) (IsMet c.args.cells.now.keys) below c.args.id) (same_name c.args.id d e)
+    (leaf_first (at (seen c.args.client.now)) (IsMet c.args.cells.now.keys) below c.args.id c.requires.there (λ z. c.requires.named (sym c.requires.names ∙ z))
+    (leaf_points t.0 t.1.0 (λ z. t.1.2 (here_slot (seen c.args.client.now) (seen c.args.client.now) 1 c.args.id t.0 refl c.requires.leaf ∙ z))))
+
+pub returns-then-not-branch-2-clause-first : goal.returns-then-not-branch-2-clause-first
+returns-then-not-branch-2-clause-first g c = λ below d e.
+    let met : IsMet c.args.cells.now.keys c.args.cell = was_met (is_stored c.args.cells.now.keys c.args.cell) c.in_ok-meet.field-0 c.in_ok-meet.ensures.fresh c.if-not-branch-2.true in
+    subst (IsFirst (at (seen c.args.client.now)) (IsMet c.args.cells.now.keys) below c.args.id) (same_name c.args.id d e)
+    (leaf_first (at (seen c.args.client.now)) (IsMet c.args.cells.now.keys) below c.args.id c.requires.there (λ z. c.requires.named (sym c.requires.names ∙ z)) (leaf_shares (subst (IsMet c.args.cells.now.keys) (sym c.requires.names) met)))
+
+pub returns-then-not-branch-3-clause-first : goal.returns-then-not-branch-3-clause-first
+returns-then-not-branch-3-clause-first g c = λ below d e.
+    let s = c.in_ok-has_only.ensures.scans in
+    let t = c.in_ok-has_only-2.ensures.other c.if-not-branch-3.true in
+    let l : IsLeaf (at (seen c.args.client.now) c.args.id) (payload_of (at (seen c.args.client.now) c.args.id)) c.args.cell = leaf_is (seen c.args.client.now) c.args.id c.args.cell c.requires.leaf c.requires.names c.requires.named (c.in_ok-has_only.ensures.null c.if-not-branch.false) in
+    let free : is_stored c.args.cells.now.keys c.args.cell ≡ false = c.in_ok-meet.ensures.fresh ∙ ap (λ x. not x) c.if-not-branch-2.false in
+    subst (IsFirst (at (seen c.args.client.now)) (IsMet c.args.cells.now.keys) below c.args.id) (same_name c.args.cell d e)
+    (value_first (at (seen c.args.client.now)) (IsMet c.args.cells.now.keys) below c.args.id c.args.cell t.0 c.requires.there c.requires.names c.requires.named (leaf_keeps (at (seen c.args.client.now)) c.args.id (payload_of (at (seen c.args.client.now) c.args.id)) c.args.cell c.args.cells.now.keys l free)
+    (λ z. t.1.2 (here_slot (seen c.args.client.now) (seen c.has_only.new.client) 2 c.args.cell t.0 s.look.graph (s.others 2 (λ y. absurd (omega (arith, y))) ∙ c.requires.cell) ∙ z)))
+
+pub returns-in_err-has_only-clause-first : goal.returns-in_err-has_only-clause-first
+returns-in_err-has_only-clause-first g c = out c.from_residual.result _ c.from_residual.ensures.1 (λ below d e. absurd (falls_names c.in_err-has_only.ensures.refused d e))
+
+pub returns-in_err-meet-clause-first : goal.returns-in_err-meet-clause-first
+returns-in_err-meet-clause-first g c = out c.from_residual-in_err-meet.result _ c.from_residual-in_err-meet.ensures.1 (λ below d e. absurd (memory_names d (sym c.in_err-meet.ensures.starved ∙ e)))
+
+pub returns-in_err-has_only-2-clause-first : goal.returns-in_err-has_only-2-clause-first
+returns-in_err-has_only-2-clause-first g c = out c.from_residual-in_err-has_only-2.result _ c.from_residual-in_err-has_only-2.ensures.1 (λ below d e. absurd (falls_names c.in_err-has_only-2.ensures.refused d e))

@@ -3,7 +3,8 @@ use Rattle.object_map.specs.Clients.{seen}
 use Rattle.object_map.specs.Maps.{slot_of}
 use Rattle.object_map.specs.Seen.{at, held_id, held}
 use Rattle.object_map.specs.Walking.{Scans}
-use Rattle.object_map.proofs.LookLaws.{still_held, inner_is, no_low_side, no_high_side, no_other_side}
+use Rattle.object_map.specs.Broken.BreaksInner.{lacks, points}
+use Rattle.object_map.proofs.LookLaws.{same_slot, still_held, inner_is, no_low_side, no_high_side, no_other_side}
 use Rattle.object_map.proofs.AskLaws.{out}
 use Rattle.object_map.proofs.WalkLaws.{scans_then, scans_once, falls_looked}
 use Rattle.object_map.proofs.walking.sides.Goals as goal
@@ -54,3 +55,18 @@ returns-in_err-high-clause-refused g c = out c.from_residual-in_err-high.result 
 
 pub returns-in_err-has_only-clause-refused : goal.returns-in_err-has_only-clause-refused
 returns-in_err-has_only-clause-refused g c = out c.from_residual-in_err-has_only.result _ c.from_residual-in_err-has_only.ensures.1 (falls_looked (scans_then (scans_once c.in_ok-low.ensures.asks c.in_ok-low.ensures.loads) (scans_once c.in_ok-high.ensures.asks c.in_ok-high.ensures.loads)).look c.in_err-has_only.ensures.refused)
+
+-- ---- what is wrong with an object that is no inner one
+
+pub returns-then-low-eq0-clause-broken : goal.returns-then-low-eq0-clause-broken
+returns-then-low-eq0-clause-broken g c = λ e bit. lacks 0 (omega arith) (sym c.in_ok-low.ensures.ok ∙ c.if-low-eq0.true)
+
+pub returns-then-high-eq0-clause-broken : goal.returns-then-high-eq0-clause-broken
+returns-then-high-eq0-clause-broken g c = λ e bit.
+    lacks 1 (omega arith) (sym (same_slot (seen c.args.client.now) (seen c.read.new.self) 1 1 c.in_ok-low.ensures.loads.graph (c.in_ok-low.ensures.loads.others 1 (λ z. absurd (omega (arith, z))))) ∙ sym c.in_ok-high.ensures.ok ∙ c.if-high-eq0.true)
+
+pub returns-then-not-branch-clause-broken : goal.returns-then-not-branch-clause-broken
+returns-then-not-branch-clause-broken g c = λ e bit.
+    let s : Scans c.args.client.now c.read-2.new.self = scans_then (scans_once c.in_ok-low.ensures.asks c.in_ok-low.ensures.loads) (scans_once c.in_ok-high.ensures.asks c.in_ok-high.ensures.loads) in
+    let t = c.in_ok-has_only.ensures.other c.if-not-branch.true in
+    points t.0 t.1.0 t.1.1 (λ z. t.1.2 (same_slot (seen c.args.client.now) (seen c.read-2.new.self) 1 t.0 s.look.graph (s.others 1 (λ z. absurd (omega (arith, z)))) ∙ z))
