@@ -152,6 +152,17 @@ falls_full {D} {v} {w} {why} f n = record { fails = f; short = λ e. (let g : fr
 left_more : (last number : ℕ) → number < last → number < 64 → (64 - last) + 1 ≤ 64 - number
 left_more last number h k = omega (arith, h, k)
 
+pub two_more : {D : Type 0} {last number : ℕ} {u v w x : ClientView D} → Asks (1 + 2 * (64 - last)) [] u v → Asks 1 [] v w → Asks 1 [] w x → number < last → number < 64 → Asks (1 + 2 * (64 - number)) [] u x
+two_more {D} {last} {number} a b c h k =
+    let e : (64 - last) + 1 ≤ 64 - number = left_more last number h k in
+    let f : (1 + 2 * (64 - last)) + (1 + 1) ≤ 1 + 2 * (64 - number) = omega (arith, e) in
+    asks_within f (asks_then a (asks_then b c))
+
+pub two_end : {D : Type 0} (last : ℕ) {u v : ClientView D} → Asks (1 + 2 * (64 - last)) [] u v → Asks 129 [] u v
+two_end {D} last a =
+    let f : 1 + 2 * (64 - last) ≤ 129 = omega arith in
+    asks_within f a
+
 pub three_more : {D : Type 0} {last number : ℕ} {u v w x y : ClientView D} → Asks (3 * (64 - last)) [] u v → Asks 1 [] v w → Asks 1 [] w x → Asks 1 [] x y → number < last → number < 64 → Asks (3 * (64 - number)) [] u y
 three_more {D} {last} {number} a b c d h k =
     let e : (64 - last) + 1 ≤ 64 - number = left_more last number h k in

@@ -1,9 +1,9 @@
 -- Objects that break their sentences, and the objects above them.
-use Rattle.std.proofs.Common.{◌≡◌, ◌≢◌, ℕ, ◌<◌, ◌≤◌, List, [], ◌∷◌, ◌++◌, Option, refl, sym, ap, ◌∙◌, subst, arith, ⊎_elim, ◌⊎◌, inl, inr}
+use Rattle.std.proofs.Common.{◌≡◌, ◌≢◌, ℕ, ◌<◌, List, [], ◌∷◌, ◌++◌, Option, refl, sym, ap, ◌∙◌, subst, arith, ⊎_elim, ◌⊎◌, inl, inr}
 use Rattle.std.proofs.lemmas.Bool.{cases_eq}
 use Rattle.plain_model.specs.declared.object.Object.{Object}
 use Rattle.object_map.specs.Maps.{IsInner, slot_of, payload_of}
-use Rattle.object_map.specs.Broken.{Goes, Names, CanTell, IsBefore, IsNamedBefore, HasWrongKey, BreaksLeaf, BreaksInner, Breaks, IsFirst}
+use Rattle.object_map.specs.Broken.{Goes, Names, IsBefore, IsNamedBefore, HasWrongKey, BreaksLeaf, BreaksInner, Breaks, IsFirst}
 use Rattle.object_map.specs.Broken.BreaksLeaf.{leaf_points, leaf_shares}
 use Rattle.object_map.specs.Broken.BreaksInner.{climbs, lacks, points, mixes}
 use Rattle.object_map.specs.Broken.Breaks.{leaf_breaks, inner_breaks, value_breaks}

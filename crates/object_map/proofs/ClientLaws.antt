@@ -1,5 +1,5 @@
 -- What one call at the store comes to.
-use Rattle.std.proofs.Common.{◌≡◌, ◌≢◌, ℕ, suc, ◌<◌, ◌≤◌, List, [], ◌∷◌, Option, Some, None, refl, sym, ap, ◌∙◌, subst, arith, ◌⊎◌, inl, inr, ⊎_elim, Bool, true, false}
+use Rattle.std.proofs.Common.{◌≡◌, ◌≢◌, ℕ, suc, ◌<◌, [], ◌∷◌, Option, Some, None, refl, sym, ap, ◌∙◌, subst, arith, ◌⊎◌, inl, inr, ⊎_elim, true, false}
 use Rattle.std.specs.Prelude.{IsSome, IfSome, Ok, Err, Result, OnOk, IfOk, IfErr}
 use Rattle.std.specs.Option.{option_map_or}
 use Rattle.plain_model.specs.declared.calls.Call.{Call as TransactionCall}
@@ -10,17 +10,17 @@ use Rattle.plain_model.specs.declared.calls.Entry.TheVariants.{Call}
 use Rattle.plain_model.specs.declared.write.Place.{Place}
 use Rattle.plain_model.specs.declared.write.Place.TheVariants.{Slot, Payload}
 use Rattle.plain_model.specs.Machine.{State, step, nonzero}
-use Rattle.plain_model.specs.History.{end_of, with_entry, next}
+use Rattle.plain_model.specs.History.{end_of}
 use Rattle.plain_model.proofs.HistoryLemmas.{end_of-with_entry}
 use Rattle.core_store.specs.Steppings.{IsEntered}
 use Rattle.core_store.specs.JournalView.{JournalView}
 use Rattle.logged_journal.specs.View.{LoggedView, KeepsLog}
-use Rattle.logged_journal.specs.Calls.{IsOfJournal, IsGranted as IsGrantedAt, IsPastLog, DoesCall, KeepsDisk, GoesOn, FailsCommit}
+use Rattle.logged_journal.specs.Calls.{IsOfJournal, IsGranted as IsGrantedAt, IsPastLog, DoesCall, KeepsDisk, GoesOn}
 use Rattle.object_map.specs.declared.refusal.MapRefusal.{MapRefusal}
 use Rattle.object_map.specs.declared.refusal.MapRefusal.TheVariants as refusal
 use Rattle.object_map.specs.Maps.{slot_of, payload_of}
-use Rattle.object_map.specs.Seen.{Seen, seen_of, IsAlone, HasOnly, at, held, held_id, Loads, Writes, Makes}
-use Rattle.object_map.specs.Clients.{object_slots, ClientView, client_at, state_of, seen, IsClient, IsInside, IsMake, is_look, makes_in, IsGranted, IsCause, IsOfAlone, IsWant, IsAsked, Asks, Fails, Falls, no_id, free_ids, refusal_for}
+use Rattle.object_map.specs.Seen.{seen_of, IsAlone, at, held, held_id, Loads, Writes, Makes}
+use Rattle.object_map.specs.Clients.{object_slots, client_at, state_of, seen, IsClient, IsInside, is_look, makes_in, IsGranted, IsCause, IsOfAlone, IsWant, IsAsked, Asks, Falls, no_id, free_ids, refusal_for}
 use Rattle.object_map.proofs.AloneLaws.{Reads, reads, Looks, looks, WritesOnce, sets, stores, MakesOne, MakesNone, made_or_full}
 use Rattle.object_map.proofs.AskLaws.{asked_look, asked_change, asked_fails, falls_other, falls_full}
 

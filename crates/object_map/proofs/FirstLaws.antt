@@ -1,5 +1,5 @@
 -- A tree that stands has no object that breaks its sentence, and what follows for the objects above and beside it.
-use Rattle.std.proofs.Common.{◌≡◌, ◌≢◌, ℕ, ◌<◌, ◌≤◌, List, [], ◌∷◌, Option, refl, sym, ap, ◌∙◌, subst, arith, ⊎_elim, ◌⊎◌, inl, inr, Bool, true, false}
+use Rattle.std.proofs.Common.{◌≡◌, ◌≢◌, ℕ, ◌<◌, List, [], ◌∷◌, Option, refl, sym, ap, ◌∙◌, subst, arith, ⊎_elim, ◌⊎◌, inl, inr, Bool, true, false}
 use Rattle.std.specs.Prelude.{◌||◌, ◌==◌}
 use Rattle.std.specs.Int.{bit_at}
 use Rattle.std.proofs.lemmas.Bool.{cases_eq, or_cases}
@@ -7,20 +7,19 @@ use Rattle.std.proofs.lemmas.Bool.Decides.{nat_tests}
 use Rattle.plain_model.specs.declared.object.Object.{Object}
 use Rattle.plain_model.specs.Graphs.{root}
 use Rattle.plain_model.specs.Machine.{is_stored}
-use Rattle.object_map.specs.Trees.{Tree, id_of, IsBelow, IsCritBit, Parts, AllCells, HaveOtherCells, HaveOwnCells, above}
+use Rattle.object_map.specs.Trees.{Tree, id_of, IsBelow, IsCritBit, Parts, AllCells, HaveOwnCells, above}
 use Rattle.object_map.specs.Trees.Tree.{leaf, inner}
-use Rattle.object_map.specs.Maps.{AreObjects, IsTree, IsLeaf, IsCell, IsInner, slot_of, payload_of}
+use Rattle.object_map.specs.Maps.{AreObjects, IsTree, IsLeaf, IsInner, slot_of, payload_of}
 use Rattle.object_map.specs.Ways.{HasKey}
 use Rattle.object_map.specs.Walking.{has_cell, Grown}
-use Rattle.object_map.specs.Broken.{Goes, Names, CanTell, IsNamedBefore, HasWrongKey, BreaksLeaf, BreaksInner, Breaks, IsFirst, IsFirstBroken, IsMet}
+use Rattle.object_map.specs.Broken.{Goes, Names, CanTell, IsNamedBefore, HasWrongKey, BreaksLeaf, Breaks, IsFirst, IsFirstBroken, IsMet}
 use Rattle.object_map.specs.Broken.HasWrongKey.{digit, prefix}
 use Rattle.object_map.specs.Broken.BreaksLeaf.{leaf_points, leaf_shares}
-use Rattle.object_map.specs.Broken.BreaksInner.{mixes}
 use Rattle.object_map.specs.Broken.Breaks.{leaf_breaks, inner_breaks, value_breaks}
 use Rattle.object_map.proofs.CellLaws.{cells_map, other_cells_sym}
 use Rattle.object_map.proofs.ReplaceLaws.{has_key}
 use Rattle.object_map.proofs.GrowLaws.{DoPart, apart_cell, both_cells}
-use Rattle.object_map.proofs.BrokenLaws.{two_sides, none_before, UnderSmaller, NamedUnder, breaks_map, first_map, down, inner_holds, inner_first, side_first}
+use Rattle.object_map.proofs.BrokenLaws.{two_sides, none_before, UnderSmaller, NamedUnder, breaks_map, first_map, down, inner_holds, side_first}
 
 -- ---- leaves of a tree, and the ways to them
 

@@ -1,12 +1,10 @@
 -- What a key has in the map, by the leaf to which its bits lead.
-use Rattle.std.proofs.Common.{◌≡◌, ◌≢◌, ℕ, List, [], ◌∷◌, ◌++◌, Option, Some, None, refl, sym, ap, ◌∙◌, subst, arith, ⊎_elim}
+use Rattle.std.proofs.Common.{◌≡◌, ◌≢◌, ℕ, List, [], ◌∷◌, Option, Some, None, refl, sym, ap, ◌∙◌, subst, arith}
 use Rattle.std.specs.Prelude.{unwrap_or}
 use Rattle.std.specs.List.{AllByRecursion}
 use Rattle.std.specs.Int.{bit_at}
-use Rattle.std.proofs.lemmas.Bool.Decides.{nat_tests}
 use Rattle.plain_model.specs.Graphs.{root, object_at}
 use Rattle.plain_model.specs.Machine.{nonzero}
-use Rattle.plain_laws.proofs.Entries.{same_or_apart}
 use Rattle.plain_map.specs.Pairs.{value_of}
 use Rattle.plain_map.proofs.ValueLaws.{value_here, value_next, value_front, value_back}
 use Rattle.object_map.specs.Trees.{Tree, id_of, pairs_of, AllKeys, IsCritBit, above}

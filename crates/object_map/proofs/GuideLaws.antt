@@ -1,5 +1,5 @@
 -- A walk goes on at the sides of an object.
-use Rattle.std.proofs.Common.{◌≡◌, ◌≢◌, ℕ, ◌<◌, ◌≤◌, ◌*◌, ◌%◌, ◌^◌, List, [], Option, Some, None, refl, sym, ap, ◌∙◌, subst, arith, Bool, true, false}
+use Rattle.std.proofs.Common.{◌≡◌, ◌≢◌, ℕ, ◌<◌, ◌≤◌, ◌*◌, ◌%◌, ◌^◌, List, [], Option, Some, None, refl, sym, ap, ◌∙◌, subst, arith, false}
 use Rattle.std.specs.Prelude.{IfSome}
 use Rattle.std.specs.Int.{bit_at}
 use Rattle.std.specs.Int.Bits.{bit_or}
@@ -8,8 +8,8 @@ use Rattle.std.specs.BTreeSet.{insert_key}
 use Rattle.plain_model.specs.declared.object.Object.{Object}
 use Rattle.plain_model.specs.Graphs.{root, object_at}
 use Rattle.plain_model.specs.Machine.{is_stored, nonzero}
-use Rattle.object_map.specs.Maps.{IsMap, IsMapOf, IsTree, StandsUnder, pairs_in, IsLeaf, IsCell, IsInner, slot_of, payload_of}
-use Rattle.object_map.specs.Trees.{Tree, id_of, pairs_of, IsBelow, IsCritBit, AllCells}
+use Rattle.object_map.specs.Maps.{IsMap, StandsUnder, IsLeaf, IsCell, IsInner, slot_of, payload_of}
+use Rattle.object_map.specs.Trees.{Tree, pairs_of, IsBelow, IsCritBit, AllCells}
 use Rattle.object_map.specs.Trees.Tree.{leaf, inner}
 use Rattle.object_map.specs.Seen.{Seen, at, held, held_id, Loads}
 use Rattle.object_map.specs.Walking.{IsReached, Grown, NoTree}

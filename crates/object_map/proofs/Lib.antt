@@ -37,3 +37,4 @@ pub mod SpanLaws
 pub mod TellLaws
 pub mod BlameLaws
 pub mod LastLaws
+pub mod BoundLaws

@@ -1,5 +1,5 @@
 -- What looks at an object's slots tell of it.
-use Rattle.std.proofs.Common.{◌≡◌, ◌≢◌, ℕ, ◌<◌, ◌≤◌, ◌+◌, ◌/◌, ◌^◌, List, [], ◌∷◌, Option, Some, None, refl, sym, ap, ◌∙◌, subst, arith, ⊎_elim, true, false}
+use Rattle.std.proofs.Common.{◌≡◌, ◌≢◌, ℕ, ◌<◌, ◌≤◌, ◌+◌, ◌/◌, ◌^◌, List, Option, Some, refl, sym, ap, ◌∙◌, subst, arith, ⊎_elim, true, false}
 use Rattle.std.specs.Prelude.{unwrap_or, IsSome, ◌==◌}
 use Rattle.std.specs.Int.{bit_at}
 use Rattle.std.specs.Int.Bits.{bit_and}
@@ -7,7 +7,7 @@ use Rattle.std.proofs.lemmas.Bool.{cases_eq, cases_lt}
 use Rattle.std.proofs.lemmas.Bool.Decides.{nat_tests}
 use Rattle.std.proofs.lemmas.Nat.Bits.{shr_and_one}
 use Rattle.plain_model.specs.declared.object.Object.{Object}
-use Rattle.plain_model.specs.Graphs.{object_at, root}
+use Rattle.plain_model.specs.Graphs.{object_at}
 use Rattle.plain_model.specs.Machine.{nonzero}
 use Rattle.object_map.specs.Clients.{object_slots}
 use Rattle.object_map.specs.Maps.{slot_of, payload_of, room_of, IsLeaf, IsCell, IsInner}

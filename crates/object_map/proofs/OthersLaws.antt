@@ -1,5 +1,5 @@
 -- What a change of the map leaves alone.
-use Rattle.std.proofs.Common.{◌≡◌, ◌≢◌, ℕ, ◌<◌, List, [], ◌∷◌, Option, Some, None, refl, sym, ap, ◌∙◌, subst, arith, true, false, Bool, ◌⊎◌, inl, inr, ⊎_elim}
+use Rattle.std.proofs.Common.{◌≡◌, ◌≢◌, ℕ, ◌<◌, List, [], ◌∷◌, Option, Some, refl, sym, ap, ◌∙◌, subst, arith, true, false, Bool, ◌⊎◌, inl, inr, ⊎_elim}
 use Rattle.std.specs.Prelude.{is_some, option_map}
 use Rattle.plain_model.specs.declared.object.Object.{Object}
 use Rattle.plain_model.specs.declared.write.Place.TheVariants.{Slot, Payload}
@@ -16,7 +16,7 @@ use Rattle.object_map.specs.Seeking.{HangsTwice, IsSought}
 use Rattle.object_map.specs.Making.{MakesLeaf, MakesInner}
 use Rattle.object_map.specs.Changes.{IsOf, IsOfMap, KeepsOthers}
 use Rattle.object_map.proofs.WayLaws.{held_here, nonzero_some}
-use Rattle.object_map.proofs.MakeLaws.{writes_other, slot_written, payload_written}
+use Rattle.object_map.proofs.MakeLaws.{writes_other, slot_written}
 use Rattle.object_map.proofs.RelinkLaws.{slot_room, room_some, slot_kept, payload_kept}
 use Rattle.object_map.proofs.PartLaws.{hangs_same}
 use Rattle.object_map.proofs.SeekLaws.{under_same}

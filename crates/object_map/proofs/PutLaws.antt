@@ -1,19 +1,23 @@
 -- A key that gets a value.
-use Rattle.std.proofs.Common.{◌≡◌, ◌≢◌, ℕ, ◌<◌, ◌^◌, List, [], Option, Some, None, refl, sym, ap, ◌∙◌, subst, arith, true, Bool}
+use Rattle.std.proofs.Common.{◌≡◌, ◌≢◌, ℕ, ◌<◌, ◌^◌, List, [], ◌∷◌, ◌++◌, Option, Some, None, refl, sym, ap, ◌∙◌, subst, arith, true, Bool}
 use Rattle.std.specs.Prelude.{is_some, option_map}
 use Rattle.std.specs.Int.{bit_at}
 use Rattle.plain_model.specs.declared.object.Object.{Object}
 use Rattle.plain_model.specs.declared.write.Place.TheVariants.{Slot, Payload}
+use Rattle.plain_model.specs.declared.calls.Call.TheVariants as call
 use Rattle.plain_model.specs.Graphs.{root, object_at, set_place}
 use Rattle.plain_model.specs.Machine.{nonzero}
-use Rattle.plain_map.specs.Pairs.{with_pair}
+use Rattle.plain_map.specs.Pairs.{value_of, with_pair}
 use Rattle.object_map.specs.Trees.{Tree, id_of, pairs_of, HaveBit, IsCritBit, above}
 use Rattle.object_map.specs.Trees.Tree.{leaf, inner}
 use Rattle.object_map.specs.Maps.{AreObjects, IsLeaf, IsInner, IsCell, IsTree, IsMap, slot_of, room_of}
 use Rattle.object_map.specs.Seen.{Seen, at, held, held_id, Loads, Writes}
 use Rattle.object_map.specs.Ways.{whole, HasKey, IsAtLeaf}
 use Rattle.object_map.specs.Parting.{IsCritical, IsOnPart}
-use Rattle.object_map.specs.Making.{MakesLeaf, MakesInner}
+use Rattle.object_map.specs.Making.{MakesLeaf, MakesInner, MakesFork}
+use Rattle.object_map.specs.Clients.{fork_calls}
+use Rattle.object_map.specs.Changes.{PutsBy}
+use Rattle.object_map.specs.Changes.PutsBy.{parts}
 use Rattle.object_map.proofs.TreeLaws.{keys_map}
 use Rattle.plain_map.proofs.ChangeLaws.{put_local}
 use Rattle.object_map.proofs.CellLaws.{own_within}
@@ -81,6 +85,14 @@ set_put key found id id2 value v w x y y2 z pairs r m e n l a f e2 l2 s k =
     }
 
 -- ---- a new key beside others
+
+-- the registers that a new leaf and a new inner object over it leave alone
+pub fork_others : (r : ℕ) {key value bit low high : ℕ} {v w : Seen} → MakesFork key value bit low high v w → r < 3 → held w r ≡ held v r
+fork_others r {key} {value} {bit} {low} {high} {v} {w} n l = n.inner.others r (λ z. absurd (omega (arith, z, l))) ∙ n.leaf.others r (λ z. absurd (omega (arith, z, l))) (λ z. absurd (omega (arith, z, l)))
+
+-- the calls of a put beside others, with the leaf on the side of its key's bit
+pub parts_on : (key value bit side register slot : ℕ) (pairs : List (ℕ × ℕ)) → value_of key pairs ≡ None → pairs ≢ [] → bit_at key bit ≡ side → PutsBy key value pairs (fork_calls key value bit side ++ call.Store register slot (Some 5) ∷ [])
+parts_on key value bit side register slot pairs none some e = subst (λ s. PutsBy key value pairs (fork_calls key value bit s ++ call.Store register slot (Some 5) ∷ [])) e (parts none some bit register slot)
 
 -- what is there after the way is there as it was, when the new objects are made
 pub stay_all : (key value bit a b : ℕ) (x y z q : Seen) → y.graph ≡ x.graph → MakesLeaf key value y z → MakesInner bit a b z q → (i : ℕ) → is_some (at x i) ≡ true → at q i ≡ at x i

@@ -1,12 +1,12 @@
 -- A range goes on, pair by pair.
-use Rattle.std.proofs.Common.{◌≡◌, ℕ, ◌+◌, ◌<◌, ◌≤◌, [], ◌∷◌, Option, Some, None, refl, sym, ap, ◌∙◌, subst, arith}
+use Rattle.std.proofs.Common.{◌≡◌, ℕ, ◌+◌, ◌<◌, ◌≤◌, [], ◌∷◌, Option, Some, None, refl, sym, ap, ◌∙◌}
 use Rattle.std.specs.Prelude.{IsSome, unwrap_or, Result, Ok, Err, IfOk}
 use Rattle.plain_map.specs.Pairs.{Pairs, AscendByKey, next_pair, first_of, between}
 use Rattle.plain_map.proofs.NextLaws.{next_of_least}
 use Rattle.plain_map.proofs.BetweenLaws.{between-next_proof, between-past_proof, between-none_proof}
 use Rattle.object_map.specs.declared.refusal.MapRefusal.{MapRefusal}
 use Rattle.object_map.specs.declared.range.Range.{Range}
-use Rattle.object_map.specs.Ranges.{left, Gives}
+use Rattle.object_map.specs.Ranges.{left}
 
 -- what a range has left that goes on from a key
 pub left_from : (r : Range) (ps : Pairs) → IsSome r.low → left r ps ≡ between (unwrap_or r.low 0) r.high ps

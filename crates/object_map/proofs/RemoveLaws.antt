@@ -4,7 +4,6 @@ use Rattle.plain_model.specs.declared.object.Object.{Object}
 use Rattle.plain_model.specs.declared.write.Place.TheVariants.{Slot}
 use Rattle.plain_model.specs.Graphs.{root, object_at}
 use Rattle.std.specs.Prelude.{IsSome}
-use Rattle.std.specs.List.{AllByRecursion}
 use Rattle.plain_model.specs.Machine.{nonzero}
 use Rattle.plain_map.specs.Pairs.{without_key, value_of}
 use Rattle.object_map.specs.Ways.Turn.{to_low, to_high}

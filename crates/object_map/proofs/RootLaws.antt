@@ -1,10 +1,8 @@
 -- The root, as a client alone sees it.
-use Rattle.std.proofs.Common.{◌≡◌, ◌≢◌, ℕ, ◌<◌, List, [], ◌∷◌, Option, Some, None, refl, sym, ap, ◌∙◌, subst, arith, ⊎_elim, length, map}
+use Rattle.std.proofs.Common.{◌≡◌, ℕ, ◌<◌, [], Some, None, refl, sym, ap, ◌∙◌, subst, arith, ⊎_elim, length}
 use Rattle.std.specs.Prelude.{Contains, IsSome, slice_index_or}
-use Rattle.std.specs.List.{AllByRecursion}
 use Rattle.std.proofs.lemmas.List.{length-map}
 use Rattle.std.proofs.lemmas.List.Elements.{Contains-get_or}
-use Rattle.plain_model.specs.declared.object.Object.{Object}
 use Rattle.plain_model.specs.Graphs.{root, object_at}
 use Rattle.plain_model.specs.ActiveTransaction.{ActiveTransaction}
 use Rattle.plain_model.specs.Machine.{State, own_graph}
@@ -12,7 +10,7 @@ use Rattle.plain_model.specs.History.{end_of}
 use Rattle.plain_model.proofs.StepLaws.{end_of-slots}
 use Rattle.plain_laws.specs.Sound.{IsSoundState}
 use Rattle.cell_model.specs.Cells.{Cell, cell_at, object_of}
-use Rattle.store_model.specs.Core.{Core, current}
+use Rattle.store_model.specs.Core.{Core}
 use Rattle.store_model.specs.Steps.{IsOnlyWriter}
 use Rattle.store_model.specs.Sound.{IsSound, IsCurrentCell, IsKept}
 use Rattle.store_model.specs.Sound.Kept.{start}
@@ -24,8 +22,7 @@ use Rattle.store_model.proofs.MomentLaws.{seen-current}
 use Rattle.core_store.specs.JournalView.{JournalView, core_of, cells_of}
 use Rattle.logged_journal.specs.View.{LoggedView}
 use Rattle.object_map.specs.Maps.{room_of}
-use Rattle.object_map.specs.Seen.{Seen, HasOnly, IsAlone, seen_of, seen_by, at, held, held_id}
-use Rattle.object_map.specs.Clients.{client_at, seen, state_of, IsClient}
+use Rattle.object_map.specs.Seen.{Seen, HasOnly, IsAlone, seen_of, at, held, held_id}
 use Rattle.object_map.proofs.AloneLaws.{its_transaction, its_register, eight, seen_is}
 
 -- no other client writes, where none is active

@@ -1,5 +1,5 @@
 -- Spans of keys, and the bits that all keys of a span have.
-use Rattle.std.proofs.Common.{◌≡◌, ◌≢◌, ℕ, ◌+◌, ◌*◌, ◌/◌, ◌%◌, ◌^◌, ◌<◌, ◌≤◌, Option, Some, None, refl, sym, ap, ◌∙◌, subst, arith, ⊎_elim, ◌⊎◌, inl, inr, true, false, Bool, not}
+use Rattle.std.proofs.Common.{◌≡◌, ◌≢◌, ℕ, ◌+◌, ◌*◌, ◌/◌, ◌%◌, ◌^◌, ◌≤◌, Option, Some, None, refl, sym, ap, ◌∙◌, subst, arith, ⊎_elim, inl, inr, true, false, Bool, not}
 use Rattle.std.specs.Prelude.{◌==◌, unwrap_or}
 use Rattle.std.specs.Int.{bit_at}
 use Rattle.std.specs.Int.Bits.{bit_and}
@@ -9,7 +9,7 @@ use Rattle.std.proofs.lemmas.Bool.{cases_eq}
 use Rattle.std.proofs.lemmas.Bool.Decides.{nat_tests}
 use Rattle.object_map.specs.declared.telling.Span.{Span}
 use Rattle.object_map.specs.Trees.{above}
-use Rattle.object_map.specs.Telling.{IsWithin, IsEnd, OfSide, AreStray, DoSpansPart, AreMixed}
+use Rattle.object_map.specs.Telling.{IsWithin, IsEnd, AreStray, DoSpansPart, AreMixed}
 use Rattle.object_map.specs.Telling.AreStray.{off, split}
 use Rattle.object_map.specs.Telling.AreMixed.{by_digit, by_prefix}
 use Rattle.object_map.proofs.BitLaws.{from_bit}

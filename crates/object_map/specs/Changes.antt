@@ -1,6 +1,7 @@
 -- What a change of the map leaves alone, and which calls make it.
 use Rattle.std.specs.Prelude.{◌≡◌, ◌≢◌, ℕ, List, [], ◌∷◌, ◌++◌, Option, Some, None, true, is_some, IsSome, ◌⊎◌, Contains, eqb}
 use Rattle.std.specs.List.{IsDistinct}
+use Rattle.std.specs.Int.{bit_at}
 use Rattle.std.specs.Option.{option_map_or}
 use Rattle.plain_model.specs.declared.object.Object.{Object}
 use Rattle.plain_model.specs.declared.calls.Call.{Call as TransactionCall}
@@ -12,7 +13,7 @@ use Rattle.object_map.specs.Trees.Tree.{leaf, inner}
 use Rattle.object_map.specs.Maps.{IsTree, slot_of, payload_of}
 use Rattle.object_map.specs.Trees.{id_of}
 use Rattle.object_map.specs.Seen.{Seen, at}
-use Rattle.object_map.specs.Clients.{leaf_calls, inner_calls}
+use Rattle.object_map.specs.Clients.{leaf_calls, fork_calls}
 
 -- the id is that of an object of the tree
 abbrev pub IsOf : ℕ → Tree → Type 0
@@ -49,12 +50,16 @@ pub record Loses (slot : ℕ) (ids : List ℕ) (old new : Seen) : Type 0 where
   pub lost : (x : ℕ) → Contains ids x → IsOfMap slot (at old) x × (IsOfMap slot (at new) x → ⊥)
   pub only : (x : ℕ) → IsOfMap slot (at old) x → IsOfMap slot (at new) x ⊎ Contains ids x
 
+-- No object but this one is another than before.
+abbrev pub ChangesOne : Seen → Seen → Type 0
+ChangesOne old new = (id : ℕ) × ((x : ℕ) → x ≢ id → at new x ≡ at old x)
+
 -- The calls that put the pair into a map of these pairs. They set the value of a key that is there, or hang a new leaf under the root's slot.
--- Or they hang a new inner object over the new leaf and the tree at which its key parts from the others.
+-- Or they hang a new inner object over the new leaf, on the side of its key's bit, and the tree at which its key parts from the others.
 pub data PutsBy (key value : ℕ) (pairs : List (ℕ × ℕ)) : List TransactionCall → Type 0 where
   sets : IsSome (value_of key pairs) → PutsBy key value pairs (call.SetPay 1 value ∷ [])
   begins : pairs ≡ [] → PutsBy key value pairs (leaf_calls key value ++ call.Store 0 13 (Some 3) ∷ [])
-  parts : value_of key pairs ≡ None → pairs ≢ [] → (bit low high register slot : ℕ) → PutsBy key value pairs (leaf_calls key value ++ (inner_calls bit low high ++ call.Store register slot (Some 5) ∷ []))
+  parts : value_of key pairs ≡ None → pairs ≢ [] → (bit register slot : ℕ) → PutsBy key value pairs (fork_calls key value bit (bit_at key bit) ++ call.Store register slot (Some 5) ∷ [])
 
 -- The calls that take the key out of a map of these pairs: none where it isn't there, else one that sets a slot.
 pub data RemovesBy (key : ℕ) (pairs : List (ℕ × ℕ)) : List TransactionCall → Type 0 where

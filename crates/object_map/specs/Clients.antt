@@ -1,5 +1,5 @@
 -- A client alone at a store, and what its calls there do.
-use Rattle.std.specs.Prelude.{◌≡◌, ◌≤◌, ◌<◌, ℕ, ◌+◌, zero, suc, Bool, true, false, if◌then◌else◌, List, [], ◌∷◌, ◌⊎◌, Some, None}
+use Rattle.std.specs.Prelude.{◌≡◌, ◌≤◌, ◌<◌, ℕ, ◌+◌, ◌-◌, ◌++◌, zero, suc, Bool, true, false, if◌then◌else◌, List, [], ◌∷◌, ◌⊎◌, Some, None}
 use Rattle.std.specs.List.{AllByRecursion}
 use Rattle.plain_model.specs.declared.calls.Call.{Call as TransactionCall}
 use Rattle.plain_model.specs.declared.calls.Call.TheVariants as call
@@ -182,10 +182,18 @@ pub record Falls {D : Type 0} (ids : ℕ) (why : MapRefusal) (old new : ClientVi
 
 -- ---- which calls change the map
 
--- the calls that make a leaf with its cell
-abbrev pub leaf_calls : ℕ → ℕ → List TransactionCall
-leaf_calls key value = call.Make 4 ∷ call.SetPay 4 value ∷ call.Make 3 ∷ call.SetPay 3 key ∷ call.Store 3 2 (Some 4) ∷ []
+-- the writes that make a leaf of the new object in register 3, with that in register 4 as its cell
+abbrev pub leaf_writes : ℕ → ℕ → List TransactionCall
+leaf_writes key value = call.SetPay 4 value ∷ call.SetPay 3 key ∷ call.Store 3 2 (Some 4) ∷ []
 
--- the calls that make an inner object over those in two registers
-abbrev pub inner_calls : ℕ → ℕ → ℕ → List TransactionCall
-inner_calls bit low high = call.Make 5 ∷ call.SetPay 5 bit ∷ call.Store 5 0 (Some low) ∷ call.Store 5 1 (Some high) ∷ []
+-- the calls that make a leaf with its cell: both objects are made before anything is written
+abbrev pub leaf_calls : ℕ → ℕ → List TransactionCall
+leaf_calls key value = call.Make 4 ∷ call.Make 3 ∷ leaf_writes key value
+
+-- the writes that make an inner object of the new object in register 5: over the leaf in register 3, on this side, and what register 1 holds
+abbrev pub inner_writes : ℕ → ℕ → List TransactionCall
+inner_writes bit side = call.SetPay 5 bit ∷ call.Store 5 side (Some 3) ∷ call.Store 5 (1 - side) (Some 1) ∷ []
+
+-- the calls that make a leaf and an inner object over it and what register 1 holds: all three objects are made before anything is written
+abbrev pub fork_calls : ℕ → ℕ → ℕ → ℕ → List TransactionCall
+fork_calls key value bit side = call.Make 4 ∷ call.Make 3 ∷ call.Make 5 ∷ (leaf_writes key value ++ inner_writes bit side)

@@ -1,11 +1,12 @@
 //! A map that a store keeps is found, by looks at all of its objects.
-ghost use Rattle.std.specs.Prelude.{◌≡◌, ◌≢◌, ◌<◌, ◌≤◌, [], List, ℕ, Some, IfOk, IfErr, OnOk};
+ghost use Rattle.std.specs.Prelude.{◌≡◌, ◌≢◌, ◌<◌, ◌≤◌, ◌+◌, ◌*◌, [], length, List, ℕ, Some, IfOk, IfErr, OnOk};
 ghost use Rattle.std.specs.Int.{bit_at};
 ghost use Rattle.plain_model.specs.Graphs.{root};
 ghost use Rattle.object_map.specs.Broken.{IsFirst, IsFirstBroken, IsMet};
-ghost use Rattle.object_map.specs.Clients.{seen, no_id};
-ghost use Rattle.object_map.specs.Maps.{IsMap, slot_of};
+ghost use Rattle.object_map.specs.Clients.{seen, no_id, Asks};
+ghost use Rattle.object_map.specs.Maps.{AreObjects, IsMap, slot_of};
 ghost use Rattle.object_map.specs.Seen.{at, held};
+ghost use Rattle.object_map.specs.Trees.{Tree, id_of, forks_in};
 ghost use Rattle.object_map.specs.Walking.{Looks, Refuses, IsReached, Grown, NoTree};
 
 use crate::blaming::blame;
@@ -37,6 +38,7 @@ fn grow<D: Disk>(
     requires way { IsReached (at (seen client.old)) guide below (slot_of (at (seen client.old) root) 13) id }
     ensures grown { IfOk result (λ key. Grown (at (seen client.old)) id below key cells.old.keys cells.new.keys) }
     ensures looks { OnOk result (Looks client.old client.new) }
+    ensures asks { OnOk result ((t : Tree) → id_of t ≡ id → AreObjects (at (seen client.old)) t → Asks (30 + 178 * forks_in t) [] client.old client.new) }
     ensures refused { IfErr result (λ why. Refuses why (NoTree (at (seen client.old)) id below cells.old.keys) client.old client.new) }
     ensures first { IfErr result (λ why. (d : ℕ) → why ≡ MapRefusal.NotMap d → IsFirst (at (seen client.old)) (IsMet cells.old.keys) below id d) }
 {
@@ -80,6 +82,7 @@ impl ObjectMap {
         requires rooted { held (seen client.old) 0 ≡ Some root }
         ensures map { OnOk result ((pairs : List (ℕ × ℕ)) × IsMap 13 (seen client.old).graph pairs) }
         ensures looks { OnOk result (Looks client.old client.new) }
+        ensures asks { OnOk result ((pairs : List (ℕ × ℕ)) → IsMap 13 (seen client.old).graph pairs → Asks (1 + 178 * length pairs) [] client.old client.new) }
         ensures rooted { held (seen client.new) 0 ≡ Some root }
         ensures never_full { IfErr result (λ why. why ≡ no_id → ⊥) }
         ensures first { IfErr result (λ why. (id : ℕ) → why ≡ MapRefusal.NotMap id → IsFirstBroken 13 (at (seen client.old)) id) }

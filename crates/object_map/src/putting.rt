@@ -11,7 +11,7 @@ ghost use Rattle.plain_model.specs.declared.calls.Call.{Call};
 use crate::client::Client;
 use crate::descending::descend;
 use crate::getting::ObjectMap;
-use crate::making::{make_inner, make_leaf};
+use crate::making::{make_fork, make_leaf};
 use crate::parting::part;
 use crate::refusal::MapRefusal;
 use crate::{CELL_SLOT, MAP_SLOT};
@@ -53,11 +53,10 @@ impl ObjectMap {
             return Ok(Some(before));
         }
         let parting = part(client, key, found)?;
-        make_leaf(client, key, value)?;
         if key < found {
-            make_inner(client, parting.bit, 3, 1)?;
+            make_fork(client, key, value, parting.bit, 0)?;
         } else {
-            make_inner(client, parting.bit, 1, 3)?;
+            make_fork(client, key, value, parting.bit, 1)?;
         }
         client.store(parting.register, parting.slot, Some(5))?;
         Ok(None)

@@ -2,7 +2,7 @@
 ghost use Rattle.std.specs.Prelude.{◌≡◌, [], IfOk, IfErr, OnOk, List, ℕ, Some, length};
 ghost use Rattle.plain_model.specs.Graphs.{root};
 ghost use Rattle.object_map.specs.Clients.{seen, no_id, Asks, Fails, Falls};
-ghost use Rattle.object_map.specs.Changes.{KeepsOthers, Loses, RemovesBy, ids_held};
+ghost use Rattle.object_map.specs.Changes.{KeepsOthers, Loses, ChangesOne, RemovesBy, ids_held};
 ghost use Rattle.plain_map.specs.Pairs.{value_of, without_key};
 ghost use Rattle.object_map.specs.Maps.{IsMap};
 ghost use Rattle.object_map.specs.Seen.{held};
@@ -84,6 +84,7 @@ impl ObjectMap {
         ensures map { OnOk result ((pairs : List (ℕ × ℕ)) → IsMap 13 (seen client.old).graph pairs → IsMap 13 (seen client.new).graph (without_key key pairs)) }
         ensures outside { OnOk result (KeepsOthers 13 (seen client.old) (seen client.new)) }
         ensures loses { OnOk result ((pairs : List (ℕ × ℕ)) → IsMap 13 (seen client.old).graph pairs → (ids : List ℕ) × ((length ids ≡ ids_held key pairs) × Loses 13 ids (seen client.old) (seen client.new))) }
+        ensures once { OnOk result (ChangesOne (seen client.old) (seen client.new)) }
         ensures asks { OnOk result ((pairs : List (ℕ × ℕ)) → IsMap 13 (seen client.old).graph pairs → (changes : List Call) × (RemovesBy key pairs changes × Asks 330 changes client.old client.new)) }
         ensures rooted { held (seen client.new) 0 ≡ Some root }
         ensures never_full { IfErr result (λ why. why ≡ no_id → ⊥) }

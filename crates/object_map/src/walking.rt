@@ -1,12 +1,12 @@
 //! Looks at objects that may be those of a tree or not.
-ghost use Rattle.std.specs.Prelude.{◌≡◌, ◌≢◌, ◌<◌, ◌↔◌, ◌+◌, not, ℕ, Some, None, true, false, IfOk, IfErr, OnOk, IsSome, IfSome};
+ghost use Rattle.std.specs.Prelude.{◌≡◌, ◌≢◌, ◌<◌, ◌↔◌, ◌+◌, [], not, ℕ, Some, None, true, false, IfOk, IfErr, OnOk, IsSome, IfSome};
 ghost use Rattle.std.specs.Int.{bit_at};
 ghost use Rattle.std.specs.Ordering.{nat_cmp};
 ghost use Rattle.std.specs.BTreeSet.{insert_key};
 ghost use Rattle.plain_model.specs.Graphs.{root};
 ghost use Rattle.plain_model.specs.Machine.{is_stored};
 ghost use Rattle.object_map.specs.Broken.{BreaksInner, IsFirst, IsMet};
-ghost use Rattle.object_map.specs.Clients.{object_slots, seen, Falls};
+ghost use Rattle.object_map.specs.Clients.{object_slots, seen, Asks, Falls};
 ghost use Rattle.object_map.specs.Maps.{slot_of, payload_of, IsLeaf, IsCell, IsInner};
 ghost use Rattle.object_map.specs.Seen.{at, held, held_id};
 ghost use Rattle.object_map.specs.Trees.{above};
@@ -35,6 +35,7 @@ fn is_spare<D: Disk>(
     ensures null { IfOk result (λ yes. yes ≡ true → slot ≢ a → slot ≢ b → slot_of (at (seen client.old) (held_id (seen client.old) r)) slot ≡ 0) }
     ensures other { IfOk result (λ yes. yes ≡ false → (slot ≢ a) × (slot ≢ b) × (slot_of (at (seen client.old) (held_id (seen client.old) r)) slot ≢ 0)) }
     ensures scans { OnOk result (Scans client.old client.new) }
+    ensures asks { OnOk result (Asks 1 [] client.old client.new) }
     ensures refused { IfErr result (λ why. Falls 0 why client.old client.new) }
 {
     if slot == a {
@@ -54,6 +55,7 @@ fn has_only<D: Disk>(client: &mut Client<D>, r: u8, a: u8, b: u8) -> Result<bool
     ensures null { IfOk result (λ yes. yes ≡ true → (k : ℕ) → k ≢ a → k ≢ b → slot_of (at (seen client.old) (held_id (seen client.old) r)) k ≡ 0) }
     ensures other { IfOk result (λ yes. yes ≡ false → (k : ℕ) × ((k ≢ a) × (k ≢ b) × (slot_of (at (seen client.old) (held_id (seen client.old) r)) k ≢ 0))) }
     ensures scans { OnOk result (Scans client.old client.new) }
+    ensures asks { OnOk result (Asks 14 [] client.old client.new) }
     ensures refused { IfErr result (λ why. Falls 0 why client.old client.new) }
 {
     client.know_held(r);
@@ -94,6 +96,7 @@ pub(crate) fn meet_leaf<D: Disk>(
     ensures fresh { OnOk result (is_stored cells.old.keys cell ≡ false) }
     ensures met { OnOk result (cells.new.keys ≡ insert_key nat_cmp cells.old.keys cell) }
     ensures looks { OnOk result (Looks client.old client.new) }
+    ensures asks { OnOk result (Asks 28 [] client.old client.new) }
     ensures refused { IfErr result (λ why. (below : ℕ) → Refuses why (NoTree (at (seen client.old)) id below cells.old.keys) client.old client.new) }
     ensures first { IfErr result (λ why. (below d : ℕ) → why ≡ MapRefusal.NotMap d → IsFirst (at (seen client.old)) (IsMet cells.old.keys) below id d) }
 {
@@ -117,6 +120,7 @@ pub(crate) fn sides<D: Disk>(client: &mut Client<D>) -> Result<Option<(u32, u32)
     ensures broken { IfOk result (λ found. found ≡ None → (bit : ℕ) → BreaksInner (at (seen client.old)) bit (held_id (seen client.old) 1)) }
     ensures none { IfOk result (λ found. found ≡ None → (bit low high : ℕ) → IsInner (at (seen client.old) (held_id (seen client.old) 1)) bit low high → ⊥) }
     ensures scans { OnOk result (Scans client.old client.new) }
+    ensures asks { OnOk result (Asks 16 [] client.old client.new) }
     ensures refused { IfErr result (λ why. Falls 0 why client.old client.new) }
 {
     let low = client.read(1, 0, 4)?;
@@ -162,6 +166,7 @@ pub(crate) fn reach<D: Disk>(
     requires way { (below : ℕ) × IsReached (at (seen client.old)) guide below (slot_of (at (seen client.old) root) 13) target }
     ensures here { OnOk result (held (seen client.new) 1 ≡ Some target) }
     ensures looks { OnOk result (Looks client.old client.new) }
+    ensures asks { OnOk result (Asks 129 [] client.old client.new) }
     ensures refused { IfErr result (λ why. Falls 0 why client.old client.new) }
 {
     let mut id = client.read(0, MAP_SLOT, 1)?;

@@ -1,20 +1,21 @@
-use Rattle.std.proofs.Common.{rules, ◌≡◌, ◌≢◌, ◌≤◌, ◌<◌, ◌*◌, ◌%◌, ◌^◌, ℕ, Some, refl, sym, ap, ◌∙◌, subst, arith, true, false}
+use Rattle.std.proofs.Common.{rules, ◌≡◌, ◌≤◌, ◌<◌, ◌*◌, ◌%◌, ◌^◌, ℕ, Some, refl, sym, ap, ◌∙◌, subst, arith, true, false}
 use Rattle.std.specs.Int.{bit_at}
 use Rattle.std.specs.Int.Bits.{bit_or}
 use Rattle.plain_model.specs.Graphs.{root, object_at}
-use Rattle.plain_model.specs.Machine.{nonzero}
-use Rattle.object_map.specs.Clients.{ClientView, seen}
+use Rattle.object_map.specs.Clients.{seen}
 use Rattle.object_map.specs.declared.fork.Fork.{Fork}
 use Rattle.object_map.specs.declared.refusal.MapRefusal.TheVariants as MapRefusal
 use Rattle.object_map.specs.Broken.{HasWrongKey, BreaksInner, IsFirst, IsMet}
 use Rattle.object_map.specs.Broken.BreaksInner.{climbs, mixes}
 use Rattle.object_map.specs.Forks.{IsFork}
-use Rattle.object_map.specs.Maps.{IsInner, slot_of, payload_of}
+use Rattle.object_map.specs.Maps.{AreObjects, IsInner, slot_of}
+use Rattle.object_map.specs.Trees.{forks_in}
 use Rattle.object_map.specs.Seen.{Seen, at, held, held_id}
-use Rattle.object_map.specs.Walking.{Looks, Refuses, IsReached, Grown, NoTree}
-use Rattle.object_map.specs.Walking.Refuses.{denies, starves, falls}
+use Rattle.object_map.specs.Walking.{Looks, IsReached, Grown, NoTree}
+use Rattle.object_map.specs.Walking.Refuses.{denies, falls}
 use Rattle.object_map.proofs.AskLaws.{out}
 use Rattle.object_map.proofs.BlameLaws.{same_name, falls_names, Denied, denied, blamed, blamed_first, reached_named, fork_is, ready_later}
+use Rattle.object_map.proofs.BoundLaws.{TwoSides, two_sides_of, looks_inner, looks_leaf}
 use Rattle.object_map.proofs.BrokenLaws.{inner_first}
 use Rattle.object_map.proofs.FirstLaws.{low_first, high_first, parts_wrong}
 use Rattle.core_store.proofs.MapLaws.{none_from}
@@ -443,3 +444,22 @@ returns-in_err-read-clause-first g t c = out c.from_residual-in_err-read.result 
 
 pub returns-in_err-reach-clause-first : goal.returns-in_err-reach-clause-first
 returns-in_err-reach-clause-first g t c = out c.from_residual-in_err-reach.result _ c.from_residual-in_err-reach.ensures.1 (λ d e. absurd (falls_names c.in_err-reach.ensures.refused d e))
+
+-- ---- how many calls
+
+pub returns-then-cell-ne0-clause-asks : goal.returns-then-cell-ne0-clause-asks
+returns-then-cell-ne0-clause-asks g t c = λ x e h. looks_leaf (forks_in x) c.in_ok-payload.ensures.asks c.in_ok-cell.ensures.asks c.in_ok-meet_leaf.ensures.asks
+
+pub returns-clause-asks : goal.returns-clause-asks
+returns-clause-asks g t c = λ x e h.
+    let o : AtObject (seen c.args.client.now) (seen c.read.new.self) c.args.id c.in_ok-payload.payload c.in_ok-cell.cell = at_object (seen c.args.client.now) (seen c.get_pay.new.self) (seen c.read.new.self) c.args.id c.in_ok-payload.payload c.in_ok-cell.cell c.requires.here c.requires.rooted c.in_ok-payload.ensures.same c.in_ok-payload.ensures.ok c.in_ok-cell.ensures.ok c.in_ok-cell.ensures.loads in
+    let l : Looks c.args.client.now c.read.new.self = (looks_then (looks_payload c.in_ok-payload.ensures.asks c.in_ok-payload.ensures.same) (looks_once c.in_ok-cell.ensures.asks c.in_ok-cell.ensures.loads.graph)) in
+    let l2 : Looks c.args.client.now c.sides.new.client = looks_then l c.in_ok-looked.ensures.scans.look in
+    let l3 : Looks c.args.client.now c.read-2.new.self = looks_then l2 (looks_once c.in_ok-read.ensures.asks c.in_ok-read.ensures.loads.graph) in
+    let l4 : Looks c.args.client.now c.grow.new.client = looks_then l3 c.in-Ok.ensures.looks in
+    let l5 : Looks c.args.client.now c.reach.new.client = looks_then l4 c.in_ok-reach.ensures.looks in
+    let i : IsInner (at (seen c.args.client.now) c.args.id) c.in_ok-payload.payload c.in-Some.found.0 c.in-Some.found.1 = inner_found (seen c.args.client.now) (seen c.read.new.self) 1 c.args.id c.in_ok-payload.payload c.in-Some.found.0 c.in-Some.found.1 o.graph o.here o.number (inner_given (seen c.read.new.self) c.in_ok-looked.looked c.in-Some.found c.in_ok-looked.ensures.inner c.in-Some.is) in
+    let two : TwoSides (at (seen c.args.client.now)) c.in-Some.found.0 c.in-Some.found.1 (forks_in x) = two_sides_of (at (seen c.args.client.now)) c.args.id c.in_ok-payload.payload c.in-Some.found.0 c.in-Some.found.1 x i e h in
+    looks_inner (forks_in two.left) (forks_in two.right) (forks_in x) c.in_ok-payload.ensures.asks c.in_ok-cell.ensures.asks c.in_ok-looked.ensures.asks c.in_ok-read.ensures.asks
+    (c.in-Ok.ensures.asks two.left two.left_id (moved_on (seen c.args.client.now) (seen c.read-2.new.self) (λ f. AreObjects f two.left) l3.graph two.left_objects)) c.in_ok-reach.ensures.asks
+    (c.in-Ok-grow.ensures.asks two.right two.right_id (moved_on (seen c.args.client.now) (seen c.reach.new.client) (λ f. AreObjects f two.right) l5.graph two.right_objects)) two.count

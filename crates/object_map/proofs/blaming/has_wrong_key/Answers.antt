@@ -1,10 +1,10 @@
-use Rattle.std.proofs.Common.{◌≡◌, List, [], None, true, false, Bool, subst, sym, ap}
+use Rattle.std.proofs.Common.{[], None, subst}
 use Rattle.plain_model.specs.Graphs.{root}
 use Rattle.object_map.specs.Clients.{seen}
 use Rattle.object_map.specs.Maps.{slot_of}
 use Rattle.object_map.specs.Seen.{at}
 use Rattle.object_map.specs.Telling.{Tells}
-use Rattle.object_map.specs.Walking.{Looks, IsReached}
+use Rattle.object_map.specs.Walking.{IsReached}
 use Rattle.object_map.proofs.AskLaws.{out}
 use Rattle.object_map.proofs.GrowLaws.{moved, moved_on}
 use Rattle.object_map.proofs.WalkLaws.{looks_then, refuses_after}

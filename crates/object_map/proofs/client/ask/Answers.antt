@@ -1,11 +1,9 @@
-use Rattle.std.proofs.Common.{◌≡◌, ◌≢◌, sym, ap, ◌∙◌, subst, refl, Some, None, Option}
-use Rattle.std.specs.Prelude.{IsSome}
+use Rattle.std.proofs.Common.{◌≡◌}
 use Rattle.plain_model.specs.declared.calls.Reply.{Reply}
-use Rattle.plain_model.specs.declared.calls.Reply.TheVariants as reply
 use Rattle.plain_model.specs.Machine.{step}
 use Rattle.object_map.specs.declared.refusal.MapRefusal.{MapRefusal}
-use Rattle.object_map.specs.Clients.{client_at, state_of, IsAsked, IsOfAlone, Falls}
-use Rattle.object_map.proofs.ClientLaws.{of_alone, not_commit, not_abort, none_failed, stepped, want_same, want_falls, still_running, asked_by, if_heard, if_want}
+use Rattle.object_map.specs.Clients.{client_at, state_of, IsAsked, Falls}
+use Rattle.object_map.proofs.ClientLaws.{of_alone, not_commit, none_failed, stepped, want_same, want_falls, still_running, asked_by, if_heard, if_want}
 use Rattle.object_map.proofs.client.ask.Goals as goal
 
 pub heard-requires : goal.heard-requires

@@ -1,5 +1,5 @@
-use Rattle.object_map.specs.Clients.{seen, Asks}
-use Rattle.object_map.proofs.AskLaws.{asks_none, asks_then, asks_within, three_more, three_end, out, falls_after, falls_within}
+use Rattle.object_map.specs.Clients.{seen}
+use Rattle.object_map.proofs.AskLaws.{asks_none, three_more, three_end, out, falls_after}
 use Rattle.std.proofs.Common.{◌≡◌, ℕ, ◌<◌, ◌/◌, ◌^◌, refl, ap, ◌∙◌, sym, subst}
 use Rattle.std.specs.Int.Bits.{bit_and}
 use Rattle.plain_model.specs.Machine.{nonzero}

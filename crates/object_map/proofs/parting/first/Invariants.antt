@@ -1,4 +1,4 @@
-use Rattle.std.specs.Prelude.{◌≤◌, ◌+◌, ◌-◌, ◌*◌, []}
+use Rattle.std.specs.Prelude.{◌≤◌, ◌-◌, ◌*◌, []}
 use Rattle.object_map.specs.Clients.{seen, Asks}
 use Rattle.object_map.specs.Parting.{IsOnFirst}
 use Rattle.object_map.proofs.parting.first.Given as goal

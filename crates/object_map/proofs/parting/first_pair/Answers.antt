@@ -1,5 +1,4 @@
-use Rattle.object_map.specs.Clients.{seen}
-use Rattle.object_map.proofs.AskLaws.{asks_then, asks_within, out, falls_after, falls_within}
+use Rattle.object_map.proofs.AskLaws.{asks_then, out, falls_after}
 use Rattle.object_map.proofs.parting.first_pair.Goals as goal
 
 -- ---- refusals

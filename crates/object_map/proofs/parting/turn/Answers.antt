@@ -1,6 +1,5 @@
 use Rattle.std.proofs.Common.{arith}
-use Rattle.object_map.specs.Clients.{seen}
-use Rattle.object_map.proofs.AskLaws.{at_most, asks_then, asks_within, out, falls_after, falls_within}
+use Rattle.object_map.proofs.AskLaws.{at_most, asks_then, asks_within, out, falls_after}
 use Rattle.object_map.proofs.parting.turn.Goals as goal
 
 -- ---- refusals

@@ -1,4 +1,4 @@
-use Rattle.std.proofs.Common.{◌≡◌, ◌≤◌, ◌<◌, ◌+◌, sym, arith}
+use Rattle.std.proofs.Common.{◌≤◌, ◌<◌, ◌+◌, sym, arith}
 use Rattle.plain_map.proofs.BetweenLaws.{between_nothing}
 use Rattle.object_map.proofs.range.after.Goals as goal
 

@@ -1,5 +1,5 @@
 use Rattle.object_map.specs.Clients.{seen, Asks}
-use Rattle.object_map.proofs.AskLaws.{seen_same, asks_none, asks_then, asks_within, five_more, five_end, out, falls_after, falls_within}
+use Rattle.object_map.proofs.AskLaws.{seen_same, asks_then, asks_within, five_more, five_end, out, falls_after}
 use Rattle.std.proofs.Common.{◌≡◌, ◌≤◌, arith, [], ℕ, ◌/◌, ◌^◌, ◌<◌, refl, sym, ◌∙◌, subst, false}
 use Rattle.std.specs.Int.Bits.{bit_and}
 use Rattle.plain_model.specs.Machine.{nonzero}

@@ -1,7 +1,7 @@
-use Rattle.std.proofs.Common.{◌≡◌, ◌≢◌, ℕ, sym, ap, ◌∙◌, not}
+use Rattle.std.proofs.Common.{◌≡◌, sym, ap, ◌∙◌, not}
 use Rattle.object_map.specs.Clients.{seen}
 use Rattle.object_map.specs.Maps.{slot_of}
-use Rattle.object_map.specs.Seen.{Seen, at}
+use Rattle.object_map.specs.Seen.{at}
 use Rattle.object_map.specs.Telling.{AreTold, Tells}
 use Rattle.object_map.specs.Walking.{Looks}
 use Rattle.object_map.specs.Walking.Refuses.{starves, falls}

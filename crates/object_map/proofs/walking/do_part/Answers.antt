@@ -1,4 +1,4 @@
-use Rattle.std.proofs.Common.{◌≡◌, ◌≢◌, true, false, refl, sym, ◌∙◌, arith}
+use Rattle.std.proofs.Common.{◌≡◌, true, false}
 use Rattle.object_map.proofs.GrowLaws.{digits_part, part_digits}
 use Rattle.object_map.proofs.LookLaws.{one_test, no_one_test}
 use Rattle.object_map.proofs.walking.do_part.Goals as goal

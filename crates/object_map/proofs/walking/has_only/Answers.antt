@@ -1,14 +1,13 @@
-use Rattle.std.proofs.Common.{◌≡◌, ◌≢◌, ◌<◌, ◌≤◌, refl, sym, ◌∙◌, arith}
+use Rattle.std.proofs.Common.{◌<◌, ◌≤◌, ◌+◌, sym, ◌∙◌, arith}
 use Rattle.object_map.specs.Clients.{seen}
-use Rattle.object_map.specs.Maps.{slot_of}
 use Rattle.object_map.specs.Seen.{at, held_id}
 use Rattle.object_map.proofs.LookLaws.{still_held, null_more, all_null, same_slot}
-use Rattle.object_map.proofs.AskLaws.{out}
+use Rattle.object_map.proofs.AskLaws.{asks_none, asks_then, asks_within, out}
 use Rattle.object_map.proofs.WalkLaws.{scans_none, scans_then, falls_looked}
 use Rattle.object_map.proofs.walking.has_only.Goals as goal
 
 pub loop-slot-init : goal.loop-slot-init
-loop-slot-init g c = record { null = λ k l m n. absurd (omega (arith, l)); scans = scans_none c.args.client.now }
+loop-slot-init g c = record { null = λ k l m n. absurd (omega (arith, l)); scans = scans_none c.args.client.now; asks = asks_none c.args.client.now; few = omega arith }
 
 pub is_spare-requires-clause-full : goal.is_spare-requires-clause-full
 is_spare-requires-clause-full g c κs within = still_held (seen c.args.client.now) (seen c.loop-slot.client) c.args.r (c.loop-slot.invariant.scans.others c.args.r (λ z. absurd (omega (arith, z, c.requires.register)))) c.requires.full
@@ -29,12 +28,23 @@ loop-slot-preserved g c =
       null = null_more (at (seen c.args.client.now) (held_id (seen c.args.client.now) c.args.r)) c.args.a c.args.b c.loop-slot.slot c.loop-slot.invariant.null
           (λ m n. sym (same_slot (seen c.args.client.now) (seen c.loop-slot.client) c.args.r c.loop-slot.slot s.look.graph (s.others c.args.r (λ y. absurd (omega (arith, y, c.requires.register))))) ∙ c.in_ok-is_spare.ensures.null c.if-not-branch.false m n);
       scans = scans_then s c.in_ok-is_spare.ensures.scans;
+      asks = asks_then c.loop-slot.invariant.asks c.in_ok-is_spare.ensures.asks;
+      few = (let l : c.loop-slot.slot < 14 = c.loop-slot-test.true in omega (arith, l));
     }
 
 pub returns-clause-null : goal.returns-clause-null
 returns-clause-null g c = λ e.
     let past : 14 ≤ c.loop-slot.slot = c.loop-slot-test.false in
     all_null (at (seen c.args.client.now) (held_id (seen c.args.client.now) c.args.r)) c.args.a c.args.b c.know_held.ensures (λ k l m n. c.loop-slot.invariant.null k (omega (arith, l, past)) m n)
+
+pub returns-then-not-branch-clause-asks : goal.returns-then-not-branch-clause-asks
+returns-then-not-branch-clause-asks g c =
+    let l : c.loop-slot.slot < 14 = c.loop-slot-test.true in
+    let few : c.loop-slot.slot + 1 ≤ 14 = omega (arith, l) in
+    asks_within few (asks_then c.loop-slot.invariant.asks c.in_ok-is_spare.ensures.asks)
+
+pub returns-clause-asks : goal.returns-clause-asks
+returns-clause-asks g c = asks_within c.loop-slot.invariant.few c.loop-slot.invariant.asks
 
 pub returns-clause-scans : goal.returns-clause-scans
 returns-clause-scans g c = c.loop-slot.invariant.scans

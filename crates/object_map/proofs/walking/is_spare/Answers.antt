@@ -1,6 +1,6 @@
-use Rattle.std.proofs.Common.{◌≡◌, sym, ◌∙◌}
+use Rattle.std.proofs.Common.{◌≤◌, sym, ◌∙◌, arith}
 use Rattle.object_map.proofs.LookLaws.{zero_test, some_test}
-use Rattle.object_map.proofs.AskLaws.{out}
+use Rattle.object_map.proofs.AskLaws.{asks_none, asks_within, out}
 use Rattle.object_map.proofs.WalkLaws.{scans_none, scans_once}
 use Rattle.object_map.proofs.walking.is_spare.Goals as goal
 
@@ -21,3 +21,9 @@ returns-clause-scans g c = scans_once c.in_ok-id.ensures.asks c.in_ok-id.ensures
 
 pub returns-in_err-id-clause-refused : goal.returns-in_err-id-clause-refused
 returns-in_err-id-clause-refused g c = out c.from_residual.result _ c.from_residual.ensures.1 c.in_err-id.ensures.refused
+
+pub returns-then-slot-a-clause-asks : goal.returns-then-slot-a-clause-asks
+returns-then-slot-a-clause-asks g c = (let few : 0 ≤ 1 = omega arith in asks_within few (asks_none c.args.client.now))
+
+pub returns-then-slot-b-clause-asks : goal.returns-then-slot-b-clause-asks
+returns-then-slot-b-clause-asks g c = (let few : 0 ≤ 1 = omega arith in asks_within few (asks_none c.args.client.now))

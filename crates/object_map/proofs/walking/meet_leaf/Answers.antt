@@ -1,15 +1,14 @@
-use Rattle.std.proofs.Common.{◌≡◌, ◌≢◌, refl, sym, ap, ◌∙◌, subst, arith, Bool, true, false}
+use Rattle.std.proofs.Common.{◌≡◌, refl, sym, ap, ◌∙◌, subst, arith, Bool, true, false}
 use Rattle.std.specs.Prelude.{not}
 use Rattle.plain_model.specs.Machine.{is_stored}
 use Rattle.object_map.specs.Clients.{seen}
-use Rattle.object_map.specs.Maps.{IsLeaf, slot_of, payload_of}
+use Rattle.object_map.specs.Maps.{IsLeaf, payload_of}
 use Rattle.object_map.specs.Broken.{IsFirst, IsMet}
 use Rattle.object_map.specs.Broken.BreaksLeaf.{leaf_points, leaf_shares}
-use Rattle.object_map.specs.Seen.{at, held, held_id}
-use Rattle.object_map.specs.Walking.{Looks, Refuses}
+use Rattle.object_map.specs.Seen.{at}
 use Rattle.object_map.specs.Walking.Refuses.{denies, starves, falls}
-use Rattle.object_map.proofs.AskLaws.{out}
-use Rattle.object_map.proofs.LookLaws.{still_held, leaf_is, cell_is, here_slot, same_slot}
+use Rattle.object_map.proofs.AskLaws.{asks_then, out}
+use Rattle.object_map.proofs.LookLaws.{still_held, leaf_is, cell_is, here_slot}
 use Rattle.object_map.proofs.GrowLaws.{no_leaf, no_cell, no_fresh}
 use Rattle.object_map.proofs.WalkLaws.{looks_then, falls_looked}
 use Rattle.object_map.proofs.WayLaws.{held_some}
@@ -104,3 +103,6 @@ returns-in_err-meet-clause-first g c = out c.from_residual-in_err-meet.result _ 
 
 pub returns-in_err-has_only-2-clause-first : goal.returns-in_err-has_only-2-clause-first
 returns-in_err-has_only-2-clause-first g c = out c.from_residual-in_err-has_only-2.result _ c.from_residual-in_err-has_only-2.ensures.1 (λ below d e. absurd (falls_names c.in_err-has_only-2.ensures.refused d e))
+
+pub returns-clause-asks : goal.returns-clause-asks
+returns-clause-asks g c = asks_then c.in_ok-has_only.ensures.asks c.in_ok-has_only-2.ensures.asks

@@ -3,9 +3,9 @@ use Rattle.std.specs.Int.Bits.{bit_and}
 use Rattle.plain_model.specs.Graphs.{root}
 use Rattle.object_map.specs.Clients.{seen}
 use Rattle.object_map.specs.Maps.{slot_of}
-use Rattle.object_map.specs.Seen.{Seen, at, held}
+use Rattle.object_map.specs.Seen.{at, held}
 use Rattle.object_map.specs.Walking.{Comes}
-use Rattle.object_map.proofs.AskLaws.{out}
+use Rattle.object_map.proofs.AskLaws.{two_more, two_end, out}
 use Rattle.object_map.proofs.LookLaws.{LedOn, led_number, led_on}
 use Rattle.object_map.proofs.WayLaws.{held_here, held_some, nonzero_some}
 use Rattle.object_map.proofs.WalkLaws.{looks_then, looks_once, looks_payload, falls_looked}
@@ -20,10 +20,14 @@ down-init g c =
       here = c.in_ok-id.ensures.loads.here ∙ nonzero_some c.in_ok-id.id (λ z. c.requires.start (sym told ∙ z));
       looks = looks_once c.in_ok-id.ensures.asks c.in_ok-id.ensures.loads.graph;
       few = few;
+      asks = c.in_ok-id.ensures.asks;
     }
 
 pub returns-then-id-target-clause-here : goal.returns-then-id-target-clause-here
 returns-then-id-target-clause-here g c = subst (λ i. held (seen c.down.client) 1 ≡ Some i) c.if-id-target.true c.down.invariant.here
+
+pub returns-then-id-target-clause-asks : goal.returns-then-id-target-clause-asks
+returns-then-id-target-clause-asks g c = two_end c.down.last c.down.invariant.asks
 
 pub returns-then-id-target-clause-looks : goal.returns-then-id-target-clause-looks
 returns-then-id-target-clause-looks g c = c.down.invariant.looks
@@ -51,6 +55,7 @@ down-preserved g c =
       here = s.here;
       looks = looks_then c.down.invariant.looks (looks_then (looks_payload c.in_ok-payload.ensures.asks c.in_ok-payload.ensures.same) (looks_once c.in_ok-id-2.ensures.asks c.in_ok-id-2.ensures.loads.graph));
       few = omega (arith, less, few);
+      asks = (let fits : c.in_ok-payload.payload < 64 = omega (arith, less, few) in two_more c.down.invariant.asks c.in_ok-payload.ensures.asks c.in_ok-id-2.ensures.asks less fits);
     }
 
 pub returns-in_err-id-clause-refused : goal.returns-in_err-id-clause-refused

@@ -1,11 +1,10 @@
-use Rattle.std.proofs.Common.{◌≡◌, refl, sym, ◌∙◌, arith}
+use Rattle.std.proofs.Common.{◌≤◌, ◌+◌, sym, ◌∙◌, arith}
 use Rattle.object_map.specs.Clients.{seen}
-use Rattle.object_map.specs.Maps.{slot_of}
-use Rattle.object_map.specs.Seen.{at, held_id, held}
+use Rattle.object_map.specs.Seen.{at, held_id}
 use Rattle.object_map.specs.Walking.{Scans}
 use Rattle.object_map.specs.Broken.BreaksInner.{lacks, points}
 use Rattle.object_map.proofs.LookLaws.{same_slot, still_held, inner_is, no_low_side, no_high_side, no_other_side}
-use Rattle.object_map.proofs.AskLaws.{out}
+use Rattle.object_map.proofs.AskLaws.{asks_then, asks_within, out}
 use Rattle.object_map.proofs.WalkLaws.{scans_then, scans_once, falls_looked}
 use Rattle.object_map.proofs.walking.sides.Goals as goal
 
@@ -70,3 +69,17 @@ returns-then-not-branch-clause-broken g c = λ e bit.
     let s : Scans c.args.client.now c.read-2.new.self = scans_then (scans_once c.in_ok-low.ensures.asks c.in_ok-low.ensures.loads) (scans_once c.in_ok-high.ensures.asks c.in_ok-high.ensures.loads) in
     let t = c.in_ok-has_only.ensures.other c.if-not-branch.true in
     points t.0 t.1.0 t.1.1 (λ z. t.1.2 (same_slot (seen c.args.client.now) (seen c.read-2.new.self) 1 t.0 s.look.graph (s.others 1 (λ z. absurd (omega (arith, z)))) ∙ z))
+
+-- ---- how many calls
+
+pub returns-then-low-eq0-clause-asks : goal.returns-then-low-eq0-clause-asks
+returns-then-low-eq0-clause-asks g c = (let few : 1 ≤ 16 = omega arith in asks_within few c.in_ok-low.ensures.asks)
+
+pub returns-then-high-eq0-clause-asks : goal.returns-then-high-eq0-clause-asks
+returns-then-high-eq0-clause-asks g c = (let few : 1 + 1 ≤ 16 = omega arith in asks_within few (asks_then c.in_ok-low.ensures.asks c.in_ok-high.ensures.asks))
+
+pub returns-then-not-branch-clause-asks : goal.returns-then-not-branch-clause-asks
+returns-then-not-branch-clause-asks g c = asks_then c.in_ok-low.ensures.asks (asks_then c.in_ok-high.ensures.asks c.in_ok-has_only.ensures.asks)
+
+pub returns-clause-asks : goal.returns-clause-asks
+returns-clause-asks g c = asks_then c.in_ok-low.ensures.asks (asks_then c.in_ok-high.ensures.asks c.in_ok-has_only.ensures.asks)

@@ -1,11 +1,6 @@
-use Rattle.std.proofs.Common.{◌≡◌, sym, ap, ◌∙◌, subst, Ok, Err, IfOk, IfErr, OnOk, IsSome, ⊎_elim, []}
-use Rattle.std.specs.Prelude.{IfSome, ◌∷◌}
-use Rattle.std.specs.Option.{option_map_or}
-use Rattle.plain_model.specs.Machine.{nonzero}
-use Rattle.plain_model.specs.declared.calls.Call.TheVariants as call
-use Rattle.plain_model.specs.declared.write.Place.TheVariants.{Slot, Payload}
-use Rattle.object_map.specs.Maps.{slot_of, payload_of}
-use Rattle.object_map.specs.Seen.{at, held, held_id, Loads, Writes, Makes}
+use Rattle.std.proofs.Common.{◌≡◌, sym, ap, ◌∙◌, subst, IfOk, IfErr, OnOk, IsSome, []}
+use Rattle.object_map.specs.Maps.{payload_of}
+use Rattle.object_map.specs.Seen.{at, held, held_id}
 use Rattle.object_map.specs.Clients.{ClientView, client_at, seen, Asks, Falls}
 use Rattle.object_map.proofs.AskLaws.{out}
 use Rattle.object_map.proofs.ClientLaws.{PayDone, pay_done, client_same}

@@ -1,4 +1,4 @@
-use Rattle.std.proofs.Common.{◌≡◌, sym, ap, ◌∙◌, subst}
+use Rattle.std.proofs.Common.{◌≡◌, ap, ◌∙◌, subst}
 use Rattle.plain_model.specs.Graphs.{root}
 use Rattle.core_store.specs.JournalView.{JournalView, core_of}
 use Rattle.store_model.specs.Sound.{IsSound}

@@ -1,4 +1,4 @@
-use Rattle.std.proofs.Common.{◌≡◌, ap, ◌∙◌, subst}
+use Rattle.std.proofs.Common.{ap, ◌∙◌, subst}
 use Rattle.plain_model.specs.History.{end_of}
 use Rattle.plain_laws.specs.Sound.{IsSoundState}
 use Rattle.core_store.specs.JournalView.{JournalView}

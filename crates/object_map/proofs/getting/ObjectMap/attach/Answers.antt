@@ -1,20 +1,18 @@
-use Rattle.std.proofs.Common.{◌≡◌, ◌≢◌, ◌≤◌, ℕ, [], List, Some, refl, sym, ap, ◌∙◌, subst, arith}
-use Rattle.std.specs.Int.{bit_at}
-use Rattle.std.proofs.lemmas.Nat.Bits.{bit_at-zero}
-use Rattle.plain_model.specs.Graphs.{root, object_at}
+use Rattle.std.proofs.Common.{◌≡◌, ◌≤◌, ◌+◌, ◌*◌, [], length, ap, ◌∙◌, subst, arith}
+use Rattle.plain_model.specs.Graphs.{root}
 use Rattle.object_map.specs.Broken.{IsFirst, IsMet}
 use Rattle.object_map.specs.Clients.{seen}
-use Rattle.object_map.specs.Maps.{IsMap, slot_of}
-use Rattle.object_map.specs.Seen.{at, held}
-use Rattle.object_map.specs.Walking.{Looks, Refuses, Grown, NoTree}
-use Rattle.object_map.specs.Walking.Refuses.{denies, starves, falls}
-use Rattle.object_map.proofs.AskLaws.{out, never_full}
+use Rattle.object_map.specs.Maps.{AreObjects, slot_of}
+use Rattle.object_map.specs.Seen.{at}
+use Rattle.object_map.specs.Walking.{Grown, NoTree}
+use Rattle.object_map.proofs.AskLaws.{asks_within, out}
+use Rattle.object_map.proofs.BoundLaws.{looks_map}
 use Rattle.object_map.proofs.BlameLaws.{falls_names}
 use Rattle.object_map.proofs.FirstLaws.{first_broken}
-use Rattle.object_map.proofs.WayLaws.{held_here, nonzero_some}
-use Rattle.object_map.proofs.GrowLaws.{moved}
-use Rattle.object_map.proofs.GuideLaws.{map_found, map_empty, map_missed}
-use Rattle.object_map.proofs.WalkLaws.{looks_then, looks_once, falls_looked, refuses_after, refuses_full, refuses_rooted}
+use Rattle.object_map.proofs.WayLaws.{held_here}
+use Rattle.object_map.proofs.GrowLaws.{moved, moved_on}
+use Rattle.object_map.proofs.GuideLaws.{map_found, map_missed}
+use Rattle.object_map.proofs.WalkLaws.{looks_then, looks_once, refuses_after}
 use Rattle.object_map.proofs.getting.ObjectMap.attach.Goals as goal
 
 pub returns-clause-map : goal.returns-clause-map
@@ -47,3 +45,14 @@ returns-in_err-grow-clause-first g c =
     out c.from_residual-in_err-grow.result _ c.from_residual-in_err-grow.ensures.1
     (λ d e. first_broken (at (seen c.args.client.now)) c.in_ok-id.id d told
     (subst (λ ks. IsFirst (at (seen c.args.client.now)) (IsMet ks) 64 c.in_ok-id.id d) c.new-cells.ensures.empty (moved (seen c.args.client.now) (seen c.read.new.self) (λ f. IsFirst f (IsMet c.new-cells.result.keys) 64 c.in_ok-id.id d) c.in_ok-id.ensures.loads.graph (c.in_err-grow.ensures.first d e))))
+
+-- ---- how many calls
+
+pub returns-then-id-eq0-clause-asks : goal.returns-then-id-eq0-clause-asks
+returns-then-id-eq0-clause-asks g c = λ pairs m. (let few : 1 ≤ 1 + 178 * length pairs = omega arith in asks_within few c.in_ok-id.ensures.asks)
+
+pub returns-clause-asks : goal.returns-clause-asks
+returns-clause-asks g c = λ pairs m.
+    let told : c.in_ok-id.id ≡ slot_of (at (seen c.args.client.now) root) 13 = c.in_ok-id.ensures.ok ∙ ap (λ i. slot_of (at (seen c.args.client.now) i) 13) (held_here (seen c.args.client.now) 0 root c.requires.rooted) in
+    looks_map (at (seen c.args.client.now)) c.in_ok-id.id pairs m told c.if-id-eq0.false c.in_ok-id.ensures.asks
+    (λ x e h. c.in_ok-grow.ensures.asks x e (moved_on (seen c.args.client.now) (seen c.read.new.self) (λ f. AreObjects f x) c.in_ok-id.ensures.loads.graph h))

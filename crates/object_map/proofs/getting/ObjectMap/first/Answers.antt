@@ -1,8 +1,3 @@
-use Rattle.std.proofs.Common.{◌≡◌, ℕ, List, Option, ◌∙◌, Ok, Err}
-use Rattle.std.specs.Prelude.{Result, IfOk}
-use Rattle.plain_map.specs.Pairs.{Pairs, next_pair, first_of}
-use Rattle.plain_map.proofs.NextLaws.{next_of_least}
-use Rattle.object_map.specs.declared.refusal.MapRefusal.{MapRefusal}
 use Rattle.object_map.specs.Maps.{IsMap}
 use Rattle.object_map.specs.Clients.{seen}
 use Rattle.object_map.proofs.RangeLaws.{first_given}

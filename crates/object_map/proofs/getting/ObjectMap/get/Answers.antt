@@ -1,6 +1,6 @@
-use Rattle.std.proofs.Common.{◌≡◌, ◌≤◌, ◌+◌, ◌∙◌, arith}
+use Rattle.std.proofs.Common.{◌≤◌, ◌+◌, ◌∙◌, arith}
 use Rattle.object_map.specs.Clients.{seen}
-use Rattle.object_map.proofs.AskLaws.{asks_then, asks_within, out, falls_after, falls_within, never_full}
+use Rattle.object_map.proofs.AskLaws.{asks_then, asks_within, out, falls_after, never_full}
 use Rattle.object_map.proofs.WayLaws.{held_some}
 use Rattle.object_map.proofs.GetLaws.{HoldsMap, holds_map, holds_tree, cell_here, value_missing, value_found}
 use Rattle.object_map.proofs.getting.ObjectMap.get.Goals as goal

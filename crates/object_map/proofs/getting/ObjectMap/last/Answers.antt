@@ -1,7 +1,7 @@
-use Rattle.std.proofs.Common.{◌≡◌, ◌≤◌, ◌+◌, ◌-◌, ◌^◌, ◌∙◌, None, ap, sym, arith}
+use Rattle.std.proofs.Common.{◌≤◌, ◌+◌, ◌-◌, ◌^◌, ◌∙◌, None, ap, sym, arith}
 use Rattle.std.specs.List.{last_or}
 use Rattle.object_map.specs.Clients.{seen}
-use Rattle.object_map.proofs.AskLaws.{asks_then, asks_within, out, falls_after, falls_within, never_full}
+use Rattle.object_map.proofs.AskLaws.{asks_then, asks_within, out, falls_after, never_full}
 use Rattle.object_map.proofs.WayLaws.{held_some}
 use Rattle.object_map.proofs.GetLaws.{HoldsMap, holds_map, holds_tree, cell_here, empty_map}
 use Rattle.object_map.proofs.LastLaws.{last_found}

@@ -1,5 +1,5 @@
 use Rattle.object_map.specs.Clients.{seen}
-use Rattle.object_map.proofs.AskLaws.{asks_then, asks_within, out, falls_after, falls_within, never_full}
+use Rattle.object_map.proofs.AskLaws.{asks_then, asks_within, out, falls_after, never_full}
 use Rattle.std.proofs.Common.{◌≡◌, ◌≤◌, ◌+◌, ◌<◌, refl, sym, ap, ◌∙◌, arith}
 use Rattle.object_map.specs.Trees.{pairs_of}
 use Rattle.object_map.specs.Ways.{whole}

@@ -1,9 +1,12 @@
+use Rattle.plain_model.specs.declared.write.Place.TheVariants.{Slot}
+use Rattle.plain_model.specs.Graphs.{object_at}
 use Rattle.object_map.specs.Clients.{seen}
 use Rattle.object_map.specs.Changes.RemovesBy.{nothing, unhangs}
-use Rattle.object_map.proofs.AskLaws.{asks_then, asks_within, out, falls_after, falls_within, never_full}
+use Rattle.object_map.proofs.AskLaws.{asks_then, asks_within, out, falls_after, never_full}
 use Rattle.object_map.proofs.OthersLaws.{keeps_same, keeps_from, only_keeps, twice_keeps}
 use Rattle.object_map.proofs.CountLaws.{is_there}
-use Rattle.std.proofs.Common.{Some, None, [], ◌≡◌, ◌≤◌, ◌+◌, sym, ap, ◌∙◌, arith}
+use Rattle.object_map.proofs.MakeLaws.{writes_other}
+use Rattle.std.proofs.Common.{Some, None, [], ◌≤◌, ◌+◌, sym, ap, ◌∙◌, arith}
 use Rattle.object_map.specs.Seen.{Seen, held, held_id}
 use Rattle.plain_map.specs.Pairs.{value_of}
 use Rattle.object_map.proofs.WayLaws.{held_some}
@@ -85,6 +88,30 @@ returns-clause-loses g c = λ pairs m.
     unhung_loses c.args.key c.in_ok-before.before (seen c.args.client.now) (seen c.read-3.new.self) (seen c.store-2.new.self) pairs
     (c.in_ok-read-3.ensures.loads.graph ∙ (ap (λ (v : Seen). v.graph) c.in_ok-before.ensures.same ∙ c.in_ok-read-2.ensures.loads.graph) ∙ c.in_ok-sought.ensures.leaf.graph ∙ c.in_ok-read.ensures.loads.graph) has
     (twice_removed c.args.key c.in_ok-sought.sought.found c.in_ok-sought.sought.side c.in_ok-sought.sought.register c.in_ok-sought.sought.slot c.in_ok-read-3.field-0 c.in_ok-sought.sought.only (seen c.args.client.now) (seen c.read.new.self) (seen c.seek.new.client) (seen c.get_pay.new.self) (seen c.read-3.new.self) (seen c.store-2.new.self) pairs c.in_ok-sought.ensures.leaf c.in_ok-read.ensures.loads.graph m c.if-sought-key.false c.if-sought.false (ap (λ (v : Seen). v.graph) c.in_ok-before.ensures.same ∙ c.in_ok-read-2.ensures.loads.graph) (λ j n. ap (λ v. held v j) c.in_ok-before.ensures.same ∙ c.in_ok-read-2.ensures.loads.others j n) c.in_ok-read-3.ensures.ok c.in_ok-read-3.ensures.loads c.in_ok-store-2.ensures.ok)
+
+-- ---- one object changes at most
+
+pub returns-then-branch-eq0-clause-once : goal.returns-then-branch-eq0-clause-once
+returns-then-branch-eq0-clause-once g c = (0, λ x n. ap (λ q. object_at q x) c.in_ok-read.ensures.loads.graph)
+
+pub returns-then-sought-key-clause-once : goal.returns-then-sought-key-clause-once
+returns-then-sought-key-clause-once g c = (0, λ x n. ap (λ q. object_at q x) (c.in_ok-sought.ensures.leaf.graph ∙ c.in_ok-read.ensures.loads.graph))
+
+pub returns-then-sought-clause-once : goal.returns-then-sought-clause-once
+returns-then-sought-clause-once g c = (
+  held_id (seen c.get_pay.new.self) 0,
+  λ x n.
+      writes_other (held_id (seen c.get_pay.new.self) 0) x 0 (Slot 13) (seen c.get_pay.new.self) (seen c.store.new.self) c.in_ok-store.ensures.ok n
+      ∙ ap (λ q. object_at q x) ((ap (λ (v : Seen). v.graph) c.in_ok-before.ensures.same ∙ c.in_ok-read-2.ensures.loads.graph) ∙ c.in_ok-sought.ensures.leaf.graph ∙ c.in_ok-read.ensures.loads.graph),
+)
+
+pub returns-clause-once : goal.returns-clause-once
+returns-clause-once g c = (
+  held_id (seen c.read-3.new.self) c.in_ok-sought.sought.register,
+  λ x n.
+      writes_other (held_id (seen c.read-3.new.self) c.in_ok-sought.sought.register) x (held_id (seen c.read-3.new.self) 1) (Slot c.in_ok-sought.sought.slot) (seen c.read-3.new.self) (seen c.store-2.new.self) c.in_ok-store-2.ensures.ok n
+      ∙ ap (λ q. object_at q x) (c.in_ok-read-3.ensures.loads.graph ∙ (ap (λ (v : Seen). v.graph) c.in_ok-before.ensures.same ∙ c.in_ok-read-2.ensures.loads.graph) ∙ c.in_ok-sought.ensures.leaf.graph ∙ c.in_ok-read.ensures.loads.graph),
+)
 
 -- ---- the calls
 

@@ -1,5 +1,4 @@
-use Rattle.std.proofs.Common.{◌≡◌, refl, sym, ap, ◌∙◌, subst, Some, IsSome}
-use Rattle.std.specs.Prelude.{unwrap_or}
+use Rattle.std.proofs.Common.{ap, ◌∙◌}
 use Rattle.plain_map.specs.Pairs.{next_pair}
 use Rattle.object_map.specs.Clients.{seen}
 use Rattle.object_map.proofs.OneLaws.{map-ascends_proof}

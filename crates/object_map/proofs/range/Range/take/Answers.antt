@@ -1,4 +1,4 @@
-use Rattle.std.proofs.Common.{◌≡◌, ◌≤◌, ◌<◌, ◌∷◌, refl, sym, ap, ◌∙◌}
+use Rattle.std.proofs.Common.{◌∷◌, refl, sym, ap, ◌∙◌}
 use Rattle.core_store.proofs.MapLaws.{none_from}
 use Rattle.object_map.proofs.RangeLaws.{gives_none, gives_past, gives_pair}
 use Rattle.object_map.proofs.range.Range.take.Goals as goal
