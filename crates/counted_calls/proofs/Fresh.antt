@@ -19,7 +19,7 @@ unnoted-same {D} w v same unnoted = ap (λ (x : LoggedView D). x.journal.notes) 
 pub frames-same : {D : Type 0} (w v : LoggedView D) (frames : List (Frame object_slots)) → w ≡ v → AreFramesOf v.journal frames → AreFramesOf w.journal frames
 frames-same {D} w v frames same are = subst (λ (x : LoggedView D). AreFramesOf x.journal frames) (sym same) are
 
-pub none-given : (store : TableView) (pass : PassView object_slots) → pass.table ≡ store.table → pass.view.station ≡ first_station → HasGiven store pass 1
+pub none-given : {J : Type 0} (store : TableView J) (pass : PassView object_slots) → pass.table ≡ store.table → pass.view.station ≡ first_station → HasGiven store pass 1
 none-given store pass same first = record {
   of_store = same;
   first = (ap (λ (s : Station). s.main) first, ap (λ (s : Station). s.name) first);

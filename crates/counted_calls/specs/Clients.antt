@@ -13,11 +13,11 @@ abbrev pub IsToCall : Call → Type 0
 IsToCall call = IsInRange object_slots call × (call ≢ Abort)
 
 -- the pass is a client's, of this store
-abbrev pub IsClientOf : TableView → PassView object_slots → Type 0
+abbrev pub IsClientOf : {J : Type 0} → TableView J → PassView object_slots → Type 0
 IsClientOf store pass = (pass.table ≡ store.table) × IsClient pass.view.station.name
 
 -- the first pass of the store, of which passes were made for the clients below this one
-pub record HasGiven (store : TableView) (pass : PassView object_slots) (next : ℕ) : Type 0 where
+pub record HasGiven {J : Type 0} (store : TableView J) (pass : PassView object_slots) (next : ℕ) : Type 0 where
   pub of_store : pass.table ≡ store.table
   pub first : (pass.view.station.main ≡ true) × (pass.view.station.name ≡ 0)
   pub made : pass.view.station.last ≡ next

@@ -1,5 +1,5 @@
 -- What a chronicle shows of a journal with its log.
-use Rattle.std.specs.Prelude.{ℕ, Bool, List, [], ◌∷◌, ◌++◌, map, Option, option_map, None}
+use Rattle.std.specs.Prelude.{ℕ, Bool, List, [], ◌∷◌, ◌++◌, length, map, Option, option_map, None}
 use Rattle.std.specs.Option.{option_map_or}
 use Rattle.plain_model.specs.declared.calls.Call.TheVariants.{Commit}
 use Rattle.plain_model.specs.declared.calls.Reply.TheVariants.{DiskFault}
@@ -7,13 +7,15 @@ use Rattle.plain_model.specs.declared.calls.Entry.TheVariants.{Call}
 use Rattle.plain_model.specs.History.{History}
 use Rattle.cell_model.specs.Cells.{Cell}
 use Rattle.cell_model.specs.Graph.{graph_of}
+use Rattle.gate_log.specs.State.{used}
 use Rattle.core_store.specs.declared.act.Act.TheVariants.{Other}
 use Rattle.core_store.specs.declared.frame.Frame.{Frame}
 use Rattle.core_store.specs.declared.limits.Limits.{Limits}
 use Rattle.core_store.specs.declared.note.Note.{Note}
 use Rattle.core_store.specs.JournalView.{cells_after_notes, last_left}
+use Rattle.logged_journal.specs.Checkpoints.{wanted_below}
 use Rattle.logged_journal.specs.View.{LoggedView, failed_commit}
-use Rattle.latch_table.specs.Account.{Account, Marks}
+use Rattle.latch_table.specs.Account.{Account, Marks, Sizes}
 use Rattle.journal_chronicle.specs.Pages.{frame_in}
 use Rattle.journal_chronicle.specs.Clients.{speaker_of, has_by}
 
@@ -45,6 +47,10 @@ count_failed v = option_map (λ f. f.faults) v.failed
 abbrev pub marks_of : {D : Type 0} → LoggedView D → Marks
 marks_of v = (count_failed v, v.journal.marks.trace, v.log_full)
 
+-- how many bytes of the log are in use, and how many pages want an image in it
+abbrev pub sizes_of : {D : Type 0} → LoggedView D → Sizes
+sizes_of v = (used v.log, length (wanted_below v.marks (length v.marks)))
+
 -- ---- what the origin and the notes determine
 
 -- the history of these notes
@@ -68,6 +74,7 @@ account D slots =
       entries = notes_of;
       fixed = origin_of;
       marks = marks_of;
+      sizes = sizes_of;
       frame = frame_after slots;
       speaks = λ n. speaker_of n.entry;
       truth = has_transaction;

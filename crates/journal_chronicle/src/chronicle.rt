@@ -53,6 +53,7 @@ impl<const SLOTS: usize, D: Disk> Model for JournalChronicle<SLOTS, D> {
 
 impl<const SLOTS: usize, D: Disk> Chronicle<Frame<SLOTS>> for JournalChronicle<SLOTS, D> {
     ghost use Rattle.journal_chronicle.specs.View.{account};
+    ghost use Rattle.journal_chronicle.specs.Since.{OpensSince};
     ghost use Rattle.journal_chronicle.specs.Laws.{none-begun, others-kept};
 
     type Entry = Note;
@@ -60,6 +61,8 @@ impl<const SLOTS: usize, D: Disk> Chronicle<Frame<SLOTS>> for JournalChronicle<S
     type Fixed = JournalOrigin<SLOTS>;
 
     ghost account = { account D SLOTS };
+
+    ghost goes_on = { OpensSince D.moment D.left_since SLOTS };
 
     fn len(&self) -> u64 {
         self.count

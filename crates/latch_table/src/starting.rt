@@ -47,8 +47,9 @@ impl<F: Drop, J: Chronicle<F> + Drop> Latches<J, F> {
         requires few { length frames.now.items < 2 ^ 16 }
         requires empty { J.account.entries chronicle.now ≡ [] }
         requires agree { (k : ℕ) (f : F) → slice_get frames.now.items k ≡ Some f → f ≡ J.account.frame (J.account.fixed chronicle.now) [] k }
-        ensures ok { IfOk result (λ r. (r.0.pages ≡ length frames.now.items) × (r.1.table ≡ r.0.table) × (r.1.view ≡ all_claimed (first_view (J.account.fixed chronicle.now)) frames.now.items (J.account.entries chronicle.now) (J.account.marks chronicle.now))) }
+        ensures ok { IfOk result (λ r. (r.0.pages ≡ length frames.now.items) × (r.1.table ≡ r.0.table) × (r.1.view ≡ all_claimed (first_view (J.account.fixed chronicle.now)) frames.now.items (J.account.entries chronicle.now) (J.account.marks chronicle.now) (J.account.sizes chronicle.now))) }
         ensures sized { IfOk result (λ r. r.0.table.slots ≡ r.0.pages + 1) }
+        ensures began { IfOk result (λ r. r.0.began ≡ chronicle.now) }
     {
         let start = Start {
             chronicle: Snapshot::of(chronicle),

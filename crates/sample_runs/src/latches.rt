@@ -20,7 +20,9 @@ impl Chronicle<u64> for Pairs {
 
     type Fixed = ();
 
-    ghost account = { record { entries = λ c. c.pairs.items; fixed = λ _. tt; marks = λ _. no_marks; frame = λ _ es p. fold (λ old e. if e.0 == p then e.1 else old) 0 es; speaks = λ _. None; truth = λ _ _. false } };
+    ghost account = { record { entries = λ c. c.pairs.items; fixed = λ _. tt; marks = λ _. no_marks; sizes = λ _. (0, 0); frame = λ _ es p. fold (λ old e. if e.0 == p then e.1 else old) 0 es; speaks = λ _. None; truth = λ _ _. false } };
+
+    ghost goes_on = { λ _ _. Unit {0} };
 
     fn len(&self) -> u64 {
         self.pairs.len() as u64
@@ -54,7 +56,7 @@ fn add(
     value: u64,
 ) -> Result<(), AllocError>
     requires of { (hold.old.table ≡ latches.now.table) × (hold.old.view.knowledge.fixed ≡ Some tt) }
-    requires log { hold.old.view.hands.log ≡ Some (story pairs.pairs.items no_marks) }
+    requires log { hold.old.view.hands.log ≡ Some (story pairs.pairs.items no_marks (0, 0)) }
     requires page { (old : ℕ) × (hold.old.view.hands.pages ≡ (page, old) ∷ []) }
     ensures of { IfOk result (λ _. (hold.new.table ≡ latches.now.table) × (hold.new.view.hands.log ≡ None) × (hold.new.view.station ≡ hold.old.view.station)) }
     ensures written { IfOk result (λ _. hold.new.view.hands.pages ≡ (page, value) ∷ []) }

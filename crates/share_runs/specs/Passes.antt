@@ -8,11 +8,11 @@ use Rattle.shared_store.specs.Passes.{PassView, IsClient}
 use Rattle.script_lines.specs.Numbers.{object_slots}
 
 -- the pass is a client's, of this store
-abbrev pub IsClientOf : TableView → PassView object_slots → Type 0
+abbrev pub IsClientOf : {J : Type 0} → TableView J → PassView object_slots → Type 0
 IsClientOf store pass = (pass.table ≡ store.table) × IsClient pass.view.station.name
 
 -- it is still that pass of this store
-abbrev pub StaysOf : TableView → PassView object_slots → PassView object_slots → Type 0
+abbrev pub StaysOf : {J : Type 0} → TableView J → PassView object_slots → PassView object_slots → Type 0
 StaysOf store old new = (new.table ≡ store.table) × (new.view.station ≡ old.view.station)
 
 -- a call with registers and slots that there are, and not an abort, which is made in steps

@@ -20,7 +20,7 @@ use Rattle.core_store.specs.declared.note.Note.{Note}
 use Rattle.journal_chronicle.specs.Clients.{speaker_of}
 use Rattle.journal_chronicle.specs.Steps.{Flags, GoesOnWith, no_mark, disk_mark}
 use Rattle.logged_journal.specs.declared.failed.FailedCall.{FailedCall}
-use Rattle.journal_chronicle.specs.View.{Origin, account, origin_of, notes_of, marks_of}
+use Rattle.journal_chronicle.specs.View.{Origin, account, origin_of, notes_of, marks_of, sizes_of}
 use Rattle.journal_chronicle.proofs.Goings.{marks-same, marks-disk, stays-goes_on, stays-same}
 use Rattle.journal_chronicle.proofs.Tables.{in-hand, is-next}
 use Rattle.shared_store.specs.declared.refused.Refused.{Refused}
@@ -158,7 +158,7 @@ acts-on slots v w j k held new entered marked found is none once frames keeps go
 -- ---- the journal that is claimed
 
 pub has-journal : {D : Type 0} {slots : ℕ} (h : HoldView Note Origin (Frame slots)) (main : Bool) (number : ℕ) (txn : Bool) (seen : ℕ) (refused : Refused) (left : List Bool) (pages : ℕ) (v : Known slots) (j : LoggedView D)
-    → IsPass h main number txn seen refused left → h.table.slots ≡ pages + 1 → IsLater (account D slots) h.view j → v ≡ log_claimed h.view (notes_of j) (marks_of j) → HasJournal slots pages v j
+    → IsPass h main number txn seen refused left → h.table.slots ≡ pages + 1 → IsLater (account D slots) h.view j → v ≡ log_claimed h.view (notes_of j) (marks_of j) (sizes_of j) → HasJournal slots pages v j
 has-journal {D} {slots} h main number txn seen refused left pages v j p sized later claim =
     let of = p.of_store in
     let x : of.0 ≡ origin_of j = some_is of.0 (origin_of j) (sym of.1 ∙ later.fixed) in
@@ -166,6 +166,6 @@ has-journal {D} {slots} h main number txn seen refused left pages v j p sized la
     let many = of.2 in
     subst (λ (z : Known slots). HasJournal slots pages z j) (sym claim) (record {
       ids = omega (arith, ids, many, sized);
-      in_hand = record { fixed = later.fixed; log = (story (notes_of j) (marks_of j), refl, refl, (λ n e. e, λ e. e, λ e. e)) };
+      in_hand = record { fixed = later.fixed; log = (story (notes_of j) (marks_of j) (sizes_of j), refl, refl, (λ n e. e, λ e. e, λ e. e)) };
       idle = refl;
     })

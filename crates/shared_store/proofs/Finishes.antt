@@ -9,7 +9,7 @@ use Rattle.latch_table.specs.Views.{log_of, reframed, story}
 use Rattle.latch_table.specs.Rule.{IsInHand}
 use Rattle.latch_table.specs.Steps.{told_of}
 use Rattle.journal_chronicle.specs.Pages.{AreShownBy}
-use Rattle.journal_chronicle.specs.View.{account, origin_of, notes_of, marks_of, frame_after}
+use Rattle.journal_chronicle.specs.View.{account, origin_of, notes_of, marks_of, sizes_of, frame_after}
 use Rattle.shared_store.specs.Passes.{Known}
 use Rattle.shared_store.specs.Acts.{IsToDrop}
 use Rattle.shared_store.specs.Holding.{pairs_onto, pairs_of, with_pages}
@@ -43,7 +43,7 @@ is-told {D} slots pages w w' k held true d told same are =
     subst (λ (v : Known slots). IsTold slots v k held) (sym t.2) (record {
       pages = ap (reframed g) d.hands ∙ onto-told g [] [] d.first held d.same are refl;
       idle = d.idle;
-      in_hand = record { fixed = next.fixed; log = (story (log_of w ++ t.0 ∷ []) (marks_of k), refl, sym t.1, (λ n e. e, λ e. e, λ e. e)) };
+      in_hand = record { fixed = next.fixed; log = (story (log_of w ++ t.0 ∷ []) (marks_of k) (sizes_of k), refl, sym t.1, (λ n e. e, λ e. e, λ e. e)) };
     })
 is-told {D} slots pages w w' k held false d told same are =
     let r = d.rest refl in

@@ -11,14 +11,14 @@ use Rattle.core_store.specs.declared.note.Note.{Note}
 use Rattle.core_store.specs.declared.three.HeldFrame.{HeldFrame}
 use Rattle.logged_journal.specs.View.{LoggedView}
 use Rattle.latch_table.specs.declared.view.Station.{Station}
-use Rattle.latch_table.specs.Account.{Marks}
+use Rattle.latch_table.specs.Account.{Marks, Sizes}
 use Rattle.latch_table.specs.Views.{KeepMarks, joined_marks, log_of, log_claimed, log_dropped, met, story, truth_of, with_claims}
 use Rattle.latch_table.specs.Holds.{HoldView, HasNone, IsAnother}
 use Rattle.latch_table.specs.Rule.{IsLater}
 use Rattle.latch_table.specs.Steps.{told_of}
 use Rattle.journal_chronicle.specs.Clients.{has_after}
 use Rattle.journal_chronicle.specs.Steps.{Flags}
-use Rattle.journal_chronicle.specs.View.{Origin, account, notes_of, marks_of, has_transaction}
+use Rattle.journal_chronicle.specs.View.{Origin, account, notes_of, marks_of, sizes_of, has_transaction}
 use Rattle.shared_store.specs.declared.refused.Refused.{Refused}
 use Rattle.shared_store.specs.Passes.{Known, IsPass, AreMarked}
 use Rattle.shared_store.specs.Acts.{met_if, Acts}
@@ -58,12 +58,12 @@ pub record Comes {D : Type 0} {slots : ℕ} (v z : Known slots) (j k : LoggedVie
   pub goes : GoesOnAs v z entered found
   pub marks : z.knowledge.marks ≡ joined_marks v.knowledge.marks (marks_of k)
   -- the journal as it was found
-  pub stories : z.knowledge.stories ≡ v.knowledge.stories ++ story (notes_of j) (marks_of j) ∷ []
+  pub stories : z.knowledge.stories ≡ v.knowledge.stories ++ story (notes_of j) (marks_of j) (sizes_of j) ∷ []
   -- and what it noted
   pub noted : KeepsNoted v z j k entered
 
 module _ {D : Type 0} (slots : ℕ) (v z : Known slots) (j k : LoggedView D) (cs : List (Option ℕ × ℕ)) (ps : List (ℕ × Frame slots)) where
-  none-entered : (found : Option (ℕ × ℕ)) → notes_of k ≡ notes_of j → z ≡ log_dropped (with_pages (met_if (with_pages (with_claims (log_claimed v (notes_of j) (marks_of j)) cs) ps) found) []) (marks_of k) → IfSome found (λ f. IsAnother v f.1) → Comes v z j k None found
+  none-entered : (found : Option (ℕ × ℕ)) → notes_of k ≡ notes_of j → z ≡ log_dropped (with_pages (met_if (with_pages (with_claims (log_claimed v (notes_of j) (marks_of j) (sizes_of j)) cs) ps) found) []) (marks_of k) → IfSome found (λ f. IsAnother v f.1) → Comes v z j k None found
   none-entered None still e other = subst (λ (u : Known slots). Comes v u j k None None) (sym e) (record {
     goes = record { station = refl; none = (refl, refl); fixed = refl; peeks = refl; marks = within-joined v.knowledge.marks (marks_of k); entries = record { kept = refl; seen = refl; has = refl }; meets = refl };
     marks = refl;
@@ -78,7 +78,7 @@ module _ {D : Type 0} (slots : ℕ) (v z : Known slots) (j k : LoggedView D) (cs
   })
 
   some-entered : (found : Option (ℕ × ℕ)) (note : Note) (entry : Entry) → note.entry ≡ entry → notes_of k ≡ notes_of j ++ note ∷ [] → IsLater (account D slots) v j
-      → z ≡ log_dropped (with_pages (told_of (account D slots) (met_if (with_pages (with_claims (log_claimed v (notes_of j) (marks_of j)) cs) ps) found) k note) []) (marks_of k) → IfSome found (λ f. IsAnother v f.1) → Comes v z j k (Some entry) found
+      → z ≡ log_dropped (with_pages (told_of (account D slots) (met_if (with_pages (with_claims (log_claimed v (notes_of j) (marks_of j) (sizes_of j)) cs) ps) found) k note) []) (marks_of k) → IfSome found (λ f. IsAnother v f.1) → Comes v z j k (Some entry) found
   some-entered None note entry of more later e other = subst (λ (u : Known slots). Comes v u j k (Some entry) None) (sym e) (record {
     goes = record {
       station = refl;
@@ -108,9 +108,9 @@ module _ {D : Type 0} (slots : ℕ) (v z : Known slots) (j k : LoggedView D) (cs
     noted = (note, more, refl);
   })
 
-log-met : {slots : ℕ} (v : Known slots) (ns : List Note) (m : Marks) (cs : List (Option ℕ × ℕ)) (ps : List (ℕ × Frame slots)) (found : Option (ℕ × ℕ)) → log_of (met_if (with_pages (with_claims (log_claimed v ns m) cs) ps) found) ≡ ns
-log-met v ns m cs ps None = refl
-log-met v ns m cs ps (Some f) = refl
+log-met : {slots : ℕ} (v : Known slots) (ns : List Note) (m : Marks) (s : Sizes) (cs : List (Option ℕ × ℕ)) (ps : List (ℕ × Frame slots)) (found : Option (ℕ × ℕ)) → log_of (met_if (with_pages (with_claims (log_claimed v ns m s) cs) ps) found) ≡ ns
+log-met v ns m s cs ps None = refl
+log-met v ns m s cs ps (Some f) = refl
 
 is-false : (b : Bool) → (b ≡ true → ⊥) → b ≡ false
 is-false true n = absurd (n refl)
@@ -118,23 +118,23 @@ is-false false n = refl
 
 -- the pass knows what the journal and its answer tell
 pub comes : {D : Type 0} (slots : ℕ) (v v1 w z : Known slots) (j k : LoggedView D) (held : List (HeldFrame slots)) (entered : Option Entry) (marked : Flags) (found : Option (ℕ × ℕ)) (b : Bool)
-    → v1 ≡ log_claimed v (notes_of j) (marks_of j) → IsLater (account D slots) v j → Acts slots v1 w j k held entered marked found → ((b ≡ true) ↔ IsSome entered)
+    → v1 ≡ log_claimed v (notes_of j) (marks_of j) (sizes_of j) → IsLater (account D slots) v j → Acts slots v1 w j k held entered marked found → ((b ≡ true) ↔ IsSome entered)
     → (b ≡ true → (note : Note) × (notes_of k ≡ log_of w ++ note ∷ []) × (z ≡ log_dropped (with_pages (told_of (account D slots) w k note) []) (marks_of k)))
     → (b ≡ false → z ≡ log_dropped (with_pages w []) (marks_of k)) → Comes v z j k entered found
 comes {D} slots v v1 w z j k held None marked found b claim later a iff told same =
     let cs : List (Option ℕ × ℕ) = a.view.0 in
     let ps = pairs_of a.first in
-    let is : w ≡ met_if (with_pages (with_claims (log_claimed v (notes_of j) (marks_of j)) cs) ps) found = a.view.1 ∙ ap (λ (u : Known slots). met_if (with_pages (with_claims u cs) ps) found) claim in
+    let is : w ≡ met_if (with_pages (with_claims (log_claimed v (notes_of j) (marks_of j) (sizes_of j)) cs) ps) found = a.view.1 ∙ ap (λ (u : Known slots). met_if (with_pages (with_claims u cs) ps) found) claim in
     none-entered slots v z j k cs ps found a.goes_on.notes
     (same (is-false b (λ t. absurd (let s = iff.0 t in cc))) ∙ ap (λ (u : Known slots). log_dropped (with_pages u []) (marks_of k)) is)
     (subst (λ (u : Known slots). IfSome found (λ f. IsAnother u f.1)) claim a.another)
 comes {D} slots v v1 w z j k held (Some entry) marked found b claim later a iff told same =
     let cs : List (Option ℕ × ℕ) = a.view.0 in
     let ps = pairs_of a.first in
-    let is : w ≡ met_if (with_pages (with_claims (log_claimed v (notes_of j) (marks_of j)) cs) ps) found = a.view.1 ∙ ap (λ (u : Known slots). met_if (with_pages (with_claims u cs) ps) found) claim in
+    let is : w ≡ met_if (with_pages (with_claims (log_claimed v (notes_of j) (marks_of j) (sizes_of j)) cs) ps) found = a.view.1 ∙ ap (λ (u : Known slots). met_if (with_pages (with_claims u cs) ps) found) claim in
     let t = told (iff.1 refl) in
     let n = a.goes_on.notes in
-    let log : log_of w ≡ notes_of j = ap (λ (u : Known slots). log_of u) is ∙ log-met v (notes_of j) (marks_of j) cs ps found in
+    let log : log_of w ≡ notes_of j = ap (λ (u : Known slots). log_of u) is ∙ log-met v (notes_of j) (marks_of j) (sizes_of j) cs ps found in
     let more : notes_of k ≡ notes_of j ++ t.0 ∷ [] = t.1 ∙ ap (λ (ns : List Note). ns ++ t.0 ∷ []) log in
     let same_note : n.note ≡ t.0 = same-last (notes_of j) n.note t.0 (sym n.notes ∙ more) in
     some-entered slots v z j k cs ps found t.0 entry (ap (λ (x : Note). x.entry) (sym same_note) ∙ n.of_entry) more later

@@ -11,6 +11,7 @@ mod Wanted
 mod Steps
 mod Collects
 mod Upkeeps
+mod Since
 mod Moments
 mod Rows
 mod Kept

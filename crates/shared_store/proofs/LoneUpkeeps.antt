@@ -38,7 +38,7 @@ use Rattle.shared_store.proofs.Lones.{entered-more, lone-none, more-entered, non
 -- ---- upkeep, where more than three pages are held
 
 -- they are all frames of the journal
-pub lone-frames : {D : Type 0} (slots : ℕ) (store : TableView) (h : HoldView Note Origin (Frame slots)) (j : LoggedView D) (held : List (HeldFrame slots)) (fs : List (Frame slots))
+pub lone-frames : {D : Type 0} (slots : ℕ) (store : TableView (LoggedView D)) (h : HoldView Note Origin (Frame slots)) (j : LoggedView D) (held : List (HeldFrame slots)) (fs : List (Frame slots))
     → j.journal.history.slots ≡ slots → IsLone slots store h j held → held ≡ numbered 0 fs → AreFramesOf j.journal fs
 lone-frames {D} slots store h j held fs own lone are =
     let few = lone.few in
@@ -87,7 +87,7 @@ pub record HasLog {D : Type 0} (slots pages : ℕ) (v : Known slots) (j : Logged
   pub none : v.hands.pages ≡ []
   pub alone : IsAlone v
 
-pub few-dropped : {D : Type 0} (slots : ℕ) (store : TableView) (h : HoldView Note Origin (Frame slots)) (v : Known slots) (j : LoggedView D) (held : List (HeldFrame slots)) → IsLone slots store h j held → v ≡ with_pages h.view [] → HasLog slots store.pages v j
+pub few-dropped : {D : Type 0} (slots : ℕ) (store : TableView (LoggedView D)) (h : HoldView Note Origin (Frame slots)) (v : Known slots) (j : LoggedView D) (held : List (HeldFrame slots)) → IsLone slots store h j held → v ≡ with_pages h.view [] → HasLog slots store.pages v j
 few-dropped slots store h v j held lone is = record {
   journal = has-with store.pages h.view v [] j lone.journal ([], is);
   none = ap (λ (z : Known slots). z.hands.pages) is;
@@ -159,6 +159,6 @@ pub found-none : (r : Result Upkeep Held) → ((u : Upkeep) → r ≡ Ok u → �
 found-none (Ok u) other none = other u refl
 found-none (Err h) other none = absurd (cc)
 
-pub few-lone : {D : Type 0} (slots : ℕ) (store : TableView) (v : Known slots) (g : HoldView Note Origin (Frame slots)) (j : LoggedView D) (held : List (HeldFrame slots))
+pub few-lone : {D : Type 0} (slots : ℕ) (store : TableView (LoggedView D)) (v : Known slots) (g : HoldView Note Origin (Frame slots)) (j : LoggedView D) (held : List (HeldFrame slots))
     → g.table ≡ store.table → 1 ≤ store.pages → store.pages ≤ 1024 → IsSlotCount slots → HasLog slots store.pages v j → TakesAll slots store.pages v g.view j held → IsLone slots store g j held
 few-lone slots store v g j held of some few size has takes = taken-lone slots store (record { table = store.table; view = v }) g j held of has.alone some few size has.journal takes

@@ -33,7 +33,7 @@ use Rattle.latch_table.specs.Steps.{IsNext, told_of}
 use Rattle.journal_chronicle.specs.Clients.{speaker_of}
 use Rattle.journal_chronicle.specs.Pages.{AreShownBy}
 use Rattle.journal_chronicle.specs.Steps.{Flags, EntersIf, GoesOnWith, entered_by_abort_step, entered_by_collect_step, entered_by_upkeep}
-use Rattle.journal_chronicle.specs.View.{Origin, account, failed_note, origin_of, marks_of, notes_of, frame_after}
+use Rattle.journal_chronicle.specs.View.{Origin, account, failed_note, origin_of, marks_of, notes_of, sizes_of, frame_after}
 use Rattle.shared_store.specs.Passes.{Known}
 use Rattle.shared_store.specs.Acts.{Acts, IsToDrop, Takes}
 use Rattle.shared_store.specs.Holding.{pairs_onto, pairs_of, with_pages, HasJournal}
@@ -72,7 +72,7 @@ none-entered slots test j k (Some e) n enters at none = absurd (cc)
 
 -- ---- a change of the name, and looks
 
-pub lone-renamed : {D : Type 0} (slots : ℕ) (store : TableView) (h g : HoldView Note Origin (Frame slots)) (j : LoggedView D) (held : List (HeldFrame slots)) (name : ℕ)
+pub lone-renamed : {D : Type 0} (slots : ℕ) (store : TableView (LoggedView D)) (h g : HoldView Note Origin (Frame slots)) (j : LoggedView D) (held : List (HeldFrame slots)) (name : ℕ)
     → g.table ≡ store.table → g.view ≡ renamed h.view name → IsLone slots store h j held → IsLone slots store g j held
 lone-renamed slots store h g j held name of is lone = record {
   of = of;
@@ -93,7 +93,7 @@ each-looked slots pages j k held looks each = record {
   count = each.count;
 }
 
-pub lone-looked : {D : Type 0} (slots : ℕ) (store : TableView) (h : HoldView Note Origin (Frame slots)) (j k : LoggedView D) (held : List (HeldFrame slots))
+pub lone-looked : {D : Type 0} (slots : ℕ) (store : TableView (LoggedView D)) (h : HoldView Note Origin (Frame slots)) (j k : LoggedView D) (held : List (HeldFrame slots))
     → OnlyLooks slots j.journal k.journal → k ≡ record j { journal = k.journal } → IsLone slots store h j held → IsLone slots store h k held
 lone-looked slots store h j k held looks same lone = record {
   of = lone.of;
@@ -125,7 +125,7 @@ pub record WentOn {D : Type 0} (slots : ℕ) (v : Known slots) (j k : LoggedView
   pub speaks : IfSome entered (λ e. (speaker_of e ≡ None) ⊎ (speaker_of e ≡ Some v.station.name))
   pub counted : n ≡ length (notes_of j)
 
-module _ {D : Type 0} (slots : ℕ) (store : TableView) (h : HoldView Note Origin (Frame slots)) (j k : LoggedView D) (held new : List (HeldFrame slots)) (entered : Option Entry) (marked : Flags) (n : ℕ)
+module _ {D : Type 0} (slots : ℕ) (store : TableView (LoggedView D)) (h : HoldView Note Origin (Frame slots)) (j k : LoggedView D) (held new : List (HeldFrame slots)) (entered : Option Entry) (marked : Flags) (n : ℕ)
     (lone : IsLone slots store h j held) (on : WentOn slots h.view j k held new entered marked n) where
   lone-acts : Acts slots h.view h.view j k new entered marked None
   lone-acts = record {
@@ -179,7 +179,7 @@ module _ {D : Type 0} (slots : ℕ) (store : TableView) (h : HoldView Note Origi
 
 -- ---- all pages are claimed
 
-pub taken-lone : {D : Type 0} (slots : ℕ) (store : TableView) (h g : HoldView Note Origin (Frame slots)) (j : LoggedView D) (held : List (HeldFrame slots))
+pub taken-lone : {D : Type 0} (slots : ℕ) (store : TableView (LoggedView D)) (h g : HoldView Note Origin (Frame slots)) (j : LoggedView D) (held : List (HeldFrame slots))
     → g.table ≡ store.table → IsAlone h.view → 1 ≤ store.pages → store.pages ≤ 1024 → IsSlotCount slots → HasJournal slots store.pages h.view j → TakesAll slots store.pages h.view g.view j held → IsLone slots store g j held
 taken-lone slots store h g j held of lone some few size has takes = record {
   of = of;
@@ -220,9 +220,9 @@ none-noted v running none =
     ∙ none
 
 -- the hold has all words from the start
-pub first-lone : {D : Type 0} (slots : ℕ) (store : TableView) (h : HoldView Note Origin (Frame slots)) (j : LoggedView D) (fs : List (Frame slots)) (held : List (HeldFrame slots))
+pub first-lone : {D : Type 0} (slots : ℕ) (store : TableView (LoggedView D)) (h : HoldView Note Origin (Frame slots)) (j : LoggedView D) (fs : List (Frame slots)) (held : List (HeldFrame slots))
     → h.table ≡ store.table → 1 ≤ store.pages → store.pages ≤ 1024 → IsSlotCount slots → 8 * store.pages ≡ j.journal.history.ids → AllAgree (cells_of j.journal) fs → length fs ≡ store.pages → held ≡ numbered 0 fs
-    → h.view ≡ all_claimed (first_view (origin_of j)) fs (notes_of j) (marks_of j) → IsLone slots store h j held
+    → h.view ≡ all_claimed (first_view (origin_of j)) fs (notes_of j) (marks_of j) (sizes_of j) → IsLone slots store h j held
 first-lone slots store h j fs held of some few size ids agree count are is = record {
   of = of;
   alone = (ap (λ (z : Known slots). z.station.main) is, ap (λ (z : Known slots). z.station.others) is);
@@ -231,7 +231,7 @@ first-lone slots store h j fs held of some few size ids agree count are is = rec
   size = size;
   journal = record {
     ids = ids;
-    in_hand = record { fixed = ap (λ (z : Known slots). z.knowledge.fixed) is; log = (story (notes_of j) (marks_of j), ap (λ (z : Known slots). z.hands.log) is, refl, (λ n e. e, λ e. e, λ e. e)) };
+    in_hand = record { fixed = ap (λ (z : Known slots). z.knowledge.fixed) is; log = (story (notes_of j) (marks_of j) (sizes_of j), ap (λ (z : Known slots). z.hands.log) is, refl, (λ n e. e, λ e. e, λ e. e)) };
     idle = ap (λ (z : Known slots). z.hands.moving) is;
   };
   pages = ap (λ (z : Known slots). z.hands.pages) is ∙ (onto-numbered [] 0 fs ∙ ap (λ (hs : List (HeldFrame slots)). pairs_of hs) (sym are));

@@ -12,7 +12,7 @@ use Rattle.latch_table.specs.Holds.{HoldView, IsAnother}
 use Rattle.latch_table.specs.Rule.{IsLater}
 use Rattle.latch_table.specs.Steps.{told_of}
 use Rattle.journal_chronicle.specs.Steps.{Flags, marks_with, count_kept}
-use Rattle.journal_chronicle.specs.View.{Origin, account, notes_of, marks_of}
+use Rattle.journal_chronicle.specs.View.{Origin, account, notes_of, marks_of, sizes_of}
 use Rattle.shared_store.specs.declared.refused.Refused.{Refused}
 use Rattle.shared_store.specs.Passes.{Known, IsPass, AreMarked}
 use Rattle.shared_store.specs.Acts.{Acts}
@@ -26,7 +26,7 @@ pub record IsDone {D : Type 0} (slots : ℕ) (v z : Known slots) (j k : LoggedVi
   pub worked : Known slots
   pub held : List (HeldFrame slots)
   pub tells : Bool
-  pub claim : claimed ≡ log_claimed v (notes_of j) (marks_of j)
+  pub claim : claimed ≡ log_claimed v (notes_of j) (marks_of j) (sizes_of j)
   pub later : IsLater (account D slots) v j
   pub acts : Acts slots claimed worked j k held entered marked found
   pub iff : (tells ≡ true) ↔ IsSome entered

@@ -21,7 +21,7 @@ use Rattle.latch_table.specs.Holds.{IsAlone}
 use Rattle.latch_table.specs.Rule.{IsLater, KeepsEachOnce}
 use Rattle.journal_chronicle.specs.Steps.{entered_by_upkeep}
 use Rattle.journal_chronicle.specs.View.{account, notes_of}
-use Rattle.shared_store.specs.Calls.{Finds, KeepsNoted}
+use Rattle.shared_store.specs.Calls.{Finds, KeepsNoted, WasNoted}
 use Rattle.shared_store.specs.Passes.{Known}
 use Rattle.plain_model.specs.declared.calls.Entry.{Entry}
 use Rattle.shared_store.specs.Upkeep.{DoesCleanOn, DoesTurnOn, MakesClean, MakesTurn, entered_by_upkeep_of}
@@ -285,14 +285,14 @@ pub record KnewOf {D : Type 0} (slots : ℕ) (v z : Known slots) (j k : LoggedVi
   pub found : Finds v z j
   pub kept : KeepsNoted v z j k entered
 
-pub makes-clean : {D : Type 0} (slots : ℕ) (faults : D → ℕ) (may_leave : D → Area → List ℕ → Type 0) (moment : D → ℕ) (left_since : D → ℕ → Bytes → Type 0) (v w z : Known slots) (j k : LoggedView D) (page : ℕ) (r : Result Upkeep Held) → v ≡ w → KnewOf slots v z j k (entered_by_upkeep_of r)
+pub makes-clean : {D : Type 0} (slots : ℕ) (faults : D → ℕ) (may_leave : D → Area → List ℕ → Type 0) (moment : D → ℕ) (left_since : D → ℕ → Bytes → Type 0) (v w z : Known slots) (j k : LoggedView D) (page : ℕ) (r : Result Upkeep Held) → v ≡ w → KnewOf slots v z j k (entered_by_upkeep_of r) → WasNoted slots j
     → IfOk r (λ u. DoesCleanOn slots faults may_leave j k page u) → IfOk r (λ _. LeavesOnlyImages moment left_since j.disk k.disk (OpensAfter slots (history_of j))) → IfOk r (λ u. MakesClean D slots faults may_leave moment left_since w z page u)
-makes-clean {D} slots faults may_leave moment left_since v w z j k page (Ok u) same knew made opens =
-    let n = subst (λ (x : Known slots). KnewOf slots x z j k (entered_by_upkeep u)) same knew in record { before = j; after = k; later = n.later; covered = n.covered; found = n.found; kept = n.kept; made = made; opens = opens }
-makes-clean slots faults may_leave moment left_since v w z j k page (Err h) same knew made opens = tt
+makes-clean {D} slots faults may_leave moment left_since v w z j k page (Ok u) same knew noted made opens =
+    let n = subst (λ (x : Known slots). KnewOf slots x z j k (entered_by_upkeep u)) same knew in record { before = j; after = k; later = n.later; covered = n.covered; found = n.found; noted = noted; kept = n.kept; made = made; opens = opens }
+makes-clean slots faults may_leave moment left_since v w z j k page (Err h) same knew noted made opens = tt
 
-pub makes-turn : {D : Type 0} (slots : ℕ) (faults : D → ℕ) (content : D → Area → Option (List ℕ)) (may_leave : D → Area → List ℕ → Type 0) (moment : D → ℕ) (left_since : D → ℕ → Bytes → Type 0) (v w z : Known slots) (j k : LoggedView D) (r : Result Upkeep Held) → v ≡ w → KnewOf slots v z j k (entered_by_upkeep_of r)
+pub makes-turn : {D : Type 0} (slots : ℕ) (faults : D → ℕ) (content : D → Area → Option (List ℕ)) (may_leave : D → Area → List ℕ → Type 0) (moment : D → ℕ) (left_since : D → ℕ → Bytes → Type 0) (v w z : Known slots) (j k : LoggedView D) (r : Result Upkeep Held) → v ≡ w → KnewOf slots v z j k (entered_by_upkeep_of r) → WasNoted slots j
     → IfOk r (λ u. DoesTurnOn slots faults content may_leave j k u) → IfOk r (λ _. LeavesOnlyImages moment left_since j.disk k.disk (OpensAfter slots (history_of j))) → IfOk r (λ u. MakesTurn D slots faults content may_leave moment left_since w z u)
-makes-turn {D} slots faults content may_leave moment left_since v w z j k (Ok u) same knew made opens =
-    let n = subst (λ (x : Known slots). KnewOf slots x z j k (entered_by_upkeep u)) same knew in record { before = j; after = k; later = n.later; covered = n.covered; found = n.found; kept = n.kept; made = made; opens = opens }
-makes-turn slots faults content may_leave moment left_since v w z j k (Err h) same knew made opens = tt
+makes-turn {D} slots faults content may_leave moment left_since v w z j k (Ok u) same knew noted made opens =
+    let n = subst (λ (x : Known slots). KnewOf slots x z j k (entered_by_upkeep u)) same knew in record { before = j; after = k; later = n.later; covered = n.covered; found = n.found; noted = noted; kept = n.kept; made = made; opens = opens }
+makes-turn slots faults content may_leave moment left_since v w z j k (Err h) same knew noted made opens = tt

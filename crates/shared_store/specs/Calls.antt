@@ -31,7 +31,7 @@ use Rattle.latch_table.specs.Views.{KeepMarks, story}
 use Rattle.latch_table.specs.Holds.{HasNone, IsAlone, IsAnother}
 use Rattle.latch_table.specs.Rule.{IsLater, KeepsEachOnce}
 use Rattle.journal_chronicle.specs.Steps.{Flags, entered_by_abort_step, entered_by_call, entered_by_collect_step, marked_by_collect_step, no_mark, disk_mark, log_mark}
-use Rattle.journal_chronicle.specs.View.{account, has_transaction, history_after, marks_of, notes_of, origin_of}
+use Rattle.journal_chronicle.specs.View.{account, has_transaction, history_after, marks_of, notes_of, origin_of, sizes_of}
 use Rattle.shared_store.specs.declared.answers.StepRefusal.{StepRefusal}
 use Rattle.shared_store.specs.declared.answers.StepRefusal.TheVariants as step
 use Rattle.shared_store.specs.declared.answers.CollectRefusal.{CollectRefusal}
@@ -117,10 +117,10 @@ pub record WasNoted {D : Type 0} (slots : ℕ) (v : LoggedView D) : Type 0 where
   pub led : AreLed slots (opening_of v.journal) v.journal.notes (core_of v.journal)
   pub history : history_after slots (origin_of v) (notes_of v) ≡ history_of v
 
--- the pass keeps the notes and the marks of this journal besides, and by the table's rule those are the store's: where the disk
--- failed a call before, so is the count of faults that is kept
+-- The pass keeps the notes and the marks of this journal besides, how long its log is and how many pages want an image in it; by
+-- the table's rule those are the store's. Where the disk failed a call before, so is the count of faults that is kept
 abbrev pub Finds : {D : Type 0} {slots : ℕ} → Known slots → Known slots → LoggedView D → Type 0
-Finds old new before = new.knowledge.stories ≡ old.knowledge.stories ++ story (notes_of before) (marks_of before) ∷ []
+Finds old new before = new.knowledge.stories ≡ old.knowledge.stories ++ story (notes_of before) (marks_of before) (sizes_of before) ∷ []
 
 -- what the pass keeps besides is what the journal noted meanwhile: one note after those that were found, at its place, where an
 -- entry was entered, and none else

@@ -27,7 +27,7 @@ pub record TakesAll {D : Type 0} (slots pages : ℕ) (old new : Known slots) (j 
 
 -- The hold is that of the store, which has a page, and no other is out. It has all words: the journal and the frames of all pages
 -- are in its hand
-pub record IsLone {D : Type 0} (slots : ℕ) (store : TableView) (hold : HoldView Note Origin (Frame slots)) (j : LoggedView D) (held : List (HeldFrame slots)) : Type 0 where
+pub record IsLone {D : Type 0} (slots : ℕ) (store : TableView (LoggedView D)) (hold : HoldView Note Origin (Frame slots)) (j : LoggedView D) (held : List (HeldFrame slots)) : Type 0 where
   pub of : hold.table ≡ store.table
   pub alone : IsAlone hold.view
   pub some : 1 ≤ store.pages

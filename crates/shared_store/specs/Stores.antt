@@ -10,7 +10,7 @@ use Rattle.shared_store.specs.declared.answers.Peek.TheVariants.{Cell, Again}
 use Rattle.shared_store.specs.Passes.{Known}
 
 -- what a store keeps
-pub record IsStore (slots : ℕ) (t : TableView) : Type 0 where
+pub record IsStore {J : Type 0} (slots : ℕ) (t : TableView J) : Type 0 where
   pub sized : t.table.slots ≡ t.pages + 1
   pub few : t.pages ≤ 1024
   pub size : IsSlotCount slots

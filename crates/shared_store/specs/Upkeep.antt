@@ -23,7 +23,7 @@ use Rattle.latch_table.specs.Rule.{IsLater, KeepsEachOnce}
 use Rattle.journal_chronicle.specs.Steps.{Flags, no_mark, entered_by_upkeep, marked_by_upkeep}
 use Rattle.journal_chronicle.specs.View.{account, notes_of}
 use Rattle.shared_store.specs.declared.refused.Refused.{Refused}
-use Rattle.shared_store.specs.Calls.{Finds, KeepsNoted, refused_by_upkeep}
+use Rattle.shared_store.specs.Calls.{Finds, KeepsNoted, WasNoted, refused_by_upkeep}
 use Rattle.shared_store.specs.Passes.{Known}
 
 -- ---- answers
@@ -74,6 +74,7 @@ pub record MakesClean (D : Type 0) (slots : ℕ) (faults : D → ℕ) (may_leave
   pub later : IsLater (account D slots) old before
   pub covered : IsAlone old → KeepsEachOnce (notes_of before) old.knowledge.entries
   pub found : Finds old new before
+  pub noted : WasNoted slots before
   pub kept : KeepsNoted old new before after (entered_by_upkeep result)
   pub made : DoesCleanOn slots faults may_leave before after page result
   pub opens : LeavesOnlyImages moment left_since before.disk after.disk (OpensAfter slots (history_of before))
@@ -110,6 +111,7 @@ pub record MakesTurn (D : Type 0) (slots : ℕ) (faults : D → ℕ) (content : 
   pub later : IsLater (account D slots) old before
   pub covered : IsAlone old → KeepsEachOnce (notes_of before) old.knowledge.entries
   pub found : Finds old new before
+  pub noted : WasNoted slots before
   pub kept : KeepsNoted old new before after (entered_by_upkeep result)
   pub made : DoesTurnOn slots faults content may_leave before after result
   pub opens : LeavesOnlyImages moment left_since before.disk after.disk (OpensAfter slots (history_of before))

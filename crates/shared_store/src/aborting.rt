@@ -1,5 +1,7 @@
 //! Steps of an abort.
 ghost use Rattle.std.specs.Prelude.{◌≡◌, ◌↔◌, ℕ, [], true, None, IsSome};
+ghost use Rattle.logged_journal.specs.View.{LoggedView};
+ghost use Rattle.journal_chronicle.specs.Since.{OpensSince};
 ghost use Rattle.journal_chronicle.specs.View.{has_transaction, notes_of};
 ghost use Rattle.shared_store.specs.Acts.{Acts};
 ghost use Rattle.shared_store.specs.Calls.{GoesOnAs, DoesStepOn, MakesStep, entered_by_step, marked_by_step, found_by_step, refused_by_step, has_after_step};
@@ -74,6 +76,7 @@ impl<const SLOTS: usize, D: Disk> Store<SLOTS, D> {
         ensures of { hold.new.table ≡ self.now.table }
         ensures acts { Acts SLOTS hold.old.view hold.new.view journal.old journal.new held.new (entered_by_step client result) (marked_by_step result) (found_by_step result) }
         ensures made { found_by_step result ≡ None → DoesStepOn SLOTS journal.old journal.new client result }
+        ensures since { (began : LoggedView D) → OpensSince D.moment D.left_since SLOTS began journal.old → OpensSince D.moment D.left_since SLOTS began journal.new }
     {
         let _ = &self.latches;
         journal.know_history();

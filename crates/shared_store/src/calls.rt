@@ -5,8 +5,10 @@ ghost use Rattle.disk_model.specs.Time.{LeavesOnlyImages};
 ghost use Rattle.plain_model.specs.Machine.{IsInRange};
 ghost use Rattle.core_store.specs.Limited.{pages_for_call};
 ghost use Rattle.logged_journal.specs.Opens.{OpensDuring};
+ghost use Rattle.logged_journal.specs.View.{LoggedView};
 ghost use Rattle.logged_journal.specs.Calls.{OnlyForces};
 ghost use Rattle.journal_chronicle.specs.Clients.{begins_or_ends};
+ghost use Rattle.journal_chronicle.specs.Since.{OpensSince};
 ghost use Rattle.journal_chronicle.specs.Steps.{entered_by_call, marked_by_call};
 ghost use Rattle.journal_chronicle.specs.View.{has_transaction, notes_of};
 ghost use Rattle.shared_store.specs.Passes.{IsClient};
@@ -95,6 +97,7 @@ impl<const SLOTS: usize, D: Disk> Store<SLOTS, D> {
         ensures made { found_by_call result ≡ None → DoesCallOn SLOTS D.faults journal.old journal.new client call.now result }
         ensures areas { found_by_call result ≡ None → OnlyForces D.content D.may_leave journal.old journal.new call.now result }
         ensures opens { journal.old.failed ≡ None → found_by_call result ≡ None → LeavesOnlyImages D.moment D.left_since journal.old.disk journal.new.disk (OpensDuring SLOTS journal.old client call.now) }
+        ensures since { (began : LoggedView D) → OpensSince D.moment D.left_since SLOTS began journal.old → OpensSince D.moment D.left_since SLOTS began journal.new }
         ensures again { (word seat : ℕ) → result ≡ Reply.Again word seat → (journal.old.failed ≡ None) × Contains (pages_for_call journal.old.journal client call.now) word }
     {
         let _ = &self.latches;

@@ -1,5 +1,7 @@
 //! Steps of the collector.
 ghost use Rattle.std.specs.Prelude.{◌≡◌, ◌≢◌, ◌↔◌, ℕ, [], ◌∷◌, ◌++◌, true, None, IsSome};
+ghost use Rattle.logged_journal.specs.View.{LoggedView};
+ghost use Rattle.journal_chronicle.specs.Since.{OpensSince};
 ghost use Rattle.shared_store.specs.Acts.{Acts};
 ghost use Rattle.shared_store.specs.Calls.{GoesOnAs, DoesCollectOn, MakesCollect, entered_by_collecting, marked_by_collecting, found_by_collecting, refused_by_collecting};
 ghost use Rattle.shared_store.specs.Holding.{HasJournal};
@@ -61,6 +63,7 @@ impl<const SLOTS: usize, D: Disk> Store<SLOTS, D> {
         ensures of { hold.new.table ≡ self.now.table }
         ensures acts { Acts SLOTS hold.old.view hold.new.view journal.old journal.new held.new (entered_by_collecting result) (marked_by_collecting result) (found_by_collecting result) }
         ensures made { found_by_collecting result ≡ None → DoesCollectOn SLOTS journal.old journal.new result }
+        ensures since { (began : LoggedView D) → OpensSince D.moment D.left_since SLOTS began journal.old → OpensSince D.moment D.left_since SLOTS began journal.new }
     {
         journal.know_history();
         let _ = journal.logged().journal().history();

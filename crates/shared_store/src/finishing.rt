@@ -2,6 +2,7 @@
 ghost use Rattle.std.specs.Prelude.{◌≡◌, ◌<◌, ◌≤◌, [], ◌∷◌, ◌++◌, length, true, false};
 ghost use Rattle.latch_table.specs.Views.{log_dropped, log_of};
 ghost use Rattle.latch_table.specs.Steps.{IsNext, told_of};
+ghost use Rattle.journal_chronicle.specs.Since.{OpensSince};
 ghost use Rattle.journal_chronicle.specs.View.{account, marks_of, notes_of};
 ghost use Rattle.shared_store.specs.Acts.{IsToDrop};
 ghost use Rattle.shared_store.specs.Holding.{with_pages};
@@ -66,6 +67,7 @@ impl<const SLOTS: usize, D: Disk> Store<SLOTS, D> {
     ) -> u64
         requires of { hold.old.table ≡ self.now.table }
         requires drop { IsToDrop SLOTS self.now.pages hold.old.view journal held.old entered }
+        requires since { OpensSince D.moment D.left_since SLOTS self.now.began journal }
         requires seen { seen ≡ hold.old.view.knowledge.seen }
         ensures of { hold.new.table ≡ self.now.table }
         ensures told { entered ≡ true → (note : Note) × (notes_of journal ≡ log_of hold.old.view ++ note ∷ []) × (hold.new.view ≡ log_dropped (with_pages (told_of (account D SLOTS) hold.old.view journal note) []) (marks_of journal)) }

@@ -17,6 +17,7 @@ mod holding;
 mod lone;
 mod lone_calls;
 mod lone_upkeep;
+mod noting;
 mod pass;
 mod refused;
 mod store;

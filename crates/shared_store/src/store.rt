@@ -10,6 +10,7 @@ ghost use Rattle.logged_journal.specs.View.{history_of};
 ghost use Rattle.latch_table.specs.Views.{first_view, split_left, split_right, joined};
 ghost use Rattle.latch_table.specs.Holds.{IsAlone, MaySplit};
 ghost use Rattle.latch_table.specs.Rule.{IsWhole};
+ghost use Rattle.journal_chronicle.specs.Since.{OpensSince};
 ghost use Rattle.journal_chronicle.specs.View.{account, origin_of, notes_of, marks_of, history_after, frame_after, has_transaction};
 ghost use Rattle.shared_store.specs.Passes.{AreMarked, no_refusals, joined_refusals};
 ghost use Rattle.shared_store.specs.Stores.{Peeks};
@@ -32,12 +33,13 @@ pub struct Store<const SLOTS: usize, D: Disk> {
     pub(crate) latches: Latches<JournalChronicle<SLOTS, D>, Frame<SLOTS>>,
 }
 
-/// Contracts see which table it is, and how many pages it has.
+/// Contracts see which table it is, how many pages it has, and the journal with which it began.
 impl<const SLOTS: usize, D: Disk> Model for Store<SLOTS, D> {
+    ghost use Rattle.logged_journal.specs.View.{LoggedView};
     ghost use Rattle.latch_table.specs.Holds.{TableView};
     ghost use Rattle.shared_store.specs.Stores.{IsStore};
 
-    ghost Value = { TableView };
+    ghost Value = { TableView (LoggedView D) };
 
     ghost view = { λ s. s.latches };
 
@@ -59,6 +61,7 @@ impl<const SLOTS: usize, D: Disk> Store<SLOTS, D> {
         requires pages { 8 * length frames.items ≡ logged.journal.history.ids }
         requires agree { AllAgree (cells_of logged.journal) frames.items }
         ensures ok { IfOk result (λ r. (r.0.pages ≡ length frames.entry.items) × (r.1.table ≡ r.0.table) × (r.1.view ≡ first_view (origin_of logged)) × (r.1.refused ≡ no_refusals)) }
+        ensures began { IfOk result (λ r. r.0.began ≡ logged) }
         ensures back { IfErr result (λ r. (r.0 ≡ logged) × (r.1.items ≡ frames.entry.items)) }
     {
         let boxed = JournalChronicle::new(alloc, logged, frames.as_slice());
@@ -67,6 +70,8 @@ impl<const SLOTS: usize, D: Disk> Store<SLOTS, D> {
             Err(logged) => return Err((logged, frames)),
         };
         journal.know_frames();
+        // What each image of the disk opens to now: this call hands the fact out.
+        let _ = journal.logged().durable();
         match Latches::new(alloc, journal, frames) {
             Ok((latches, hold)) => {
                 let pass = Pass {
@@ -170,6 +175,10 @@ impl<const SLOTS: usize, D: Disk> Store<SLOTS, D> {
         ensures page { (page : ℕ) (frame : Frame SLOTS) → 8 * page < result.0.journal.history.ids → HoldsPage (cells_of result.0.journal) page frame.page ↔ (frame ≡ frame_after SLOTS (origin_of result.0) (notes_of result.0) page) }
         ensures agree { AllAgree (cells_of result.0.journal) result.1.items }
         ensures marked { AreMarked main.refused (marks_of result.0) }
+
+        // Each image that a power loss might have left since the store began, at any moment of any call, opens to a graph that a
+        // crash after some first entries of the history may leave.
+        ensures since { OpensSince D.moment D.left_since SLOTS self.began result.0 }
     {
         let Pass {
             hold,

@@ -5,15 +5,17 @@ ghost use Rattle.core_store.specs.Frames.{AllAgree};
 ghost use Rattle.core_store.specs.JournalView.{cells_of};
 ghost use Rattle.logged_journal.specs.Opens.{OpensAfter};
 ghost use Rattle.logged_journal.specs.Records.{MayHaveAll};
-ghost use Rattle.logged_journal.specs.View.{history_of};
+ghost use Rattle.logged_journal.specs.View.{LoggedView, history_of};
+ghost use Rattle.journal_chronicle.specs.Since.{OpensSince};
 ghost use Rattle.latch_table.specs.Views.{met, page_claimed};
 ghost use Rattle.latch_table.specs.Holds.{IsAnother};
 ghost use Rattle.shared_store.specs.Acts.{Acts, Takes};
-ghost use Rattle.shared_store.specs.Calls.{GoesOnAs};
+ghost use Rattle.shared_store.specs.Calls.{GoesOnAs, WasNoted};
 ghost use Rattle.shared_store.specs.Holding.{HasJournal, pairs_of, with_pages};
 ghost use Rattle.shared_store.specs.Upkeep.{DoesCleanOn, DoesTurnOn, MakesClean, MakesTurn, entered_by_upkeep_of, marked_by_upkeep_of, found_by_upkeep, refused_by_upkeep_of, held_from};
 
 use crate::counting::count_upkeep;
+use crate::noting::know_noted;
 use crate::pass::Pass;
 use crate::refused::Refused;
 use crate::store::Store;
@@ -65,13 +67,16 @@ impl<const SLOTS: usize, D: Disk> Store<SLOTS, D> {
         requires none { hold.old.view.hands.pages ≡ [] }
         ensures of { hold.new.table ≡ self.now.table }
         ensures acts { Acts SLOTS hold.old.view hold.new.view journal.old journal.new [] (entered_by_upkeep_of result) (marked_by_upkeep_of result) (found_by_upkeep result) }
+        ensures noted { WasNoted SLOTS journal.old }
         ensures made { IfOk result (λ u. DoesCleanOn SLOTS D.faults D.may_leave journal.old journal.new page u) }
         ensures moments { IfOk result (λ _. LeavesOnlyImages D.moment D.left_since journal.old.disk journal.new.disk (MayHaveAll journal.old)) }
         ensures opens { IfOk result (λ _. LeavesOnlyImages D.moment D.left_since journal.old.disk journal.new.disk (OpensAfter SLOTS (history_of journal.old))) }
+        ensures since { (began : LoggedView D) → OpensSince D.moment D.left_since SLOTS began journal.old → OpensSince D.moment D.left_since SLOTS began journal.new }
     {
         let _ = &self.latches;
         // What a power loss may leave, and what that opens to: this call hands the facts out.
         let _ = journal.logged().durable();
+        know_noted(journal);
         if let Some(answer) = journal.refuse_clean() {
             journal.know_history();
             return Ok(answer);
@@ -189,13 +194,16 @@ impl<const SLOTS: usize, D: Disk> Store<SLOTS, D> {
         requires none { hold.old.view.hands.pages ≡ [] }
         ensures of { hold.new.table ≡ self.now.table }
         ensures acts { Acts SLOTS hold.old.view hold.new.view journal.old journal.new [] (entered_by_upkeep_of result) (marked_by_upkeep_of result) (found_by_upkeep result) }
+        ensures noted { WasNoted SLOTS journal.old }
         ensures made { IfOk result (λ u. DoesTurnOn SLOTS D.faults D.content D.may_leave journal.old journal.new u) }
         ensures moments { IfOk result (λ _. LeavesOnlyImages D.moment D.left_since journal.old.disk journal.new.disk (MayHaveAll journal.old)) }
         ensures opens { IfOk result (λ _. LeavesOnlyImages D.moment D.left_since journal.old.disk journal.new.disk (OpensAfter SLOTS (history_of journal.old))) }
+        ensures since { (began : LoggedView D) → OpensSince D.moment D.left_since SLOTS began journal.old → OpensSince D.moment D.left_since SLOTS began journal.new }
     {
         let _ = &self.latches;
         // What a power loss may leave, and what that opens to: this call hands the facts out.
         let _ = journal.logged().durable();
+        know_noted(journal);
         if let Some(answer) = journal.refuse_turn() {
             journal.know_history();
             return Ok(answer);

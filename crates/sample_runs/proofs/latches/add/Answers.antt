@@ -22,7 +22,7 @@ append-requires-clause-next c =
       entry = (c.args.page, c.args.value);
       fixed = c.requires.of.1;
       entries = c.in_ok-push.ensures.items ∙ ap (λ es. es ++ (c.args.page, c.args.value) ∷ []) (sym known);
-      log = (story c.args.pairs.pairs.items no_marks, has, ((λ k e. e), (λ e. e), (λ e. e)));
+      log = (story c.args.pairs.pairs.items no_marks (0, 0), has, ((λ k e. e), (λ e. e), (λ e. e)));
       speaks = inl refl;
       others_same = λ k low none. unwritten (log_of c.args.hold.now.view) c.args.page c.args.value k
           (λ e. none_some c.requires.page.0 (sym none ∙ ap (λ ps. frame_of ps k) c.requires.page.1 ∙ ap (frame_of ((c.args.page, c.requires.page.0) ∷ [])) (sym e) ∙ if_same c.args.page c.args.page (Some c.requires.page.0) None refl));
@@ -33,7 +33,7 @@ drop_log-requires-clause-log c =
     let told = c.append.ensures.view in
     record {
       fixed = ap (λ v. v.knowledge.fixed) told.2 ∙ c.requires.of.1;
-      log = (story (log_of c.args.hold.now.view ++ told.0 ∷ []) no_marks, ap (λ v. v.hands.log) told.2, sym told.1, ((λ k e. e), (λ e. e), (λ e. e)));
+      log = (story (log_of c.args.hold.now.view ++ told.0 ∷ []) no_marks (0, 0), ap (λ v. v.hands.log) told.2, sym told.1, ((λ k e. e), (λ e. e), (λ e. e)));
     }
 
 pub returns-clause-written : goal.returns-clause-written

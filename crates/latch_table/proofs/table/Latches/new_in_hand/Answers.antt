@@ -3,14 +3,15 @@ use Rattle.std.proofs.lemmas.List.{length-replicate}
 use Rattle.atomic_table.specs.Seated.{TableId}
 use Rattle.latch_table.specs.declared.content.Content.{Content}
 use Rattle.latch_table.specs.declared.content.Content.TheVariants.{Away}
-use Rattle.latch_table.proofs.Opens.{opens_held_as, held_settled}
+use Rattle.latch_table.proofs.FromFirst.{opens_held_from}
+use Rattle.latch_table.proofs.Opens.{held_settled}
 use Rattle.latch_table.proofs.table.Latches.new_in_hand.Goals as goal
 
 pub new-requires : goal.new-requires
 new-requires g c =
     let one : ℕ = 1 in
     let pages : c.len-pages.result ≡ length c.args.frames.now.items = omega (arith, c.len-pages.ensures) in
-    opens_held_as g.J.Chronicle.account _ c.args.chronicle.now _ c.args.frames.now.items _ _
+    opens_held_from g.J.Chronicle.account g.J.Chronicle.goes_on _ c.args.chronicle.now _ c.args.frames.now.items _ _
     c.of.ensures (ap (λ v. v.items) c.of-2.ensures) (c.as_slice.ensures.value ∙ c.in_ok-words.ensures ∙ ap (λ (n : ℕ). set (replicate (n + 2) one) (n + 1) 0) pages) (c.in_ok-slots.ensures ∙ ap (λ (n : ℕ). replicate (n + 1) Away) pages) g.met.J.Chronicle.begins_false c.requires.empty c.requires.agree
 
 pub invariant_of-hold : goal.invariant_of-hold

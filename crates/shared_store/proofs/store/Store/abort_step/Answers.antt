@@ -9,6 +9,8 @@ use Rattle.shared_store.specs.Calls.{GoesOnAs, DoesStepOn, KeepsNoted, MakesStep
 use Rattle.shared_store.proofs.Acting.{acts-seen, has-journal}
 use Rattle.shared_store.proofs.Passing.{IsDone, done-comes, done-pass, met-pass}
 use Rattle.shared_store.proofs.Steps.{again-stepped, again-unrefused, again-met, step-drop, marked-step, txn-step}
+use Rattle.logged_journal.specs.View.{LoggedView}
+use Rattle.journal_chronicle.specs.Since.{OpensSince}
 use Rattle.shared_store.proofs.store.Store.abort_step.Goals as goal
 
 -- ---- another pass has the log word
@@ -79,6 +81,7 @@ finish-pass-inside-requires-after_bounds g c κs within =
     let v = c.claim_log.new.hold.view in
     let w = c.act_abort_step-step.new.hold.view in
     let claim = c.in-Ok.ensures.ok.0 in
+    let since = c.act_abort_step-step.ensures.since c.args.self.now.began (subst (λ (v : LoggedView g.row.D.Denot). OpensSince g.D.Disk.moment g.D.Disk.left_since g.row.SLOTS v c.in-Ok.journal) (ap (λ z. z.began) c.self.view_is) c.in-Ok.ensures.on) in
     let acts = c.act_abort_step-step.ensures.acts in (
       search rules,
       (
@@ -98,8 +101,11 @@ finish-pass-inside-requires-after_bounds g c κs within =
                       (ap (λ t. t.slots) (ap (λ z. z.table) c.pass.view_is ∙ c.requires.of ∙ sym (ap (λ z. z.table) c.self.view_is)) ∙ c.self.invariant.sized ∙ ap (λ z. z.pages + 1) c.self.view_is)
                       c.in-Ok.ensures.ok.1 c.in-Ok.ensures.ok.0)
                       acts (c.is_entered-entered.ensures c.pass.inside.number),
-                  p.seen_is ∙ sym (ap (λ (v : Known g.row.SLOTS). v.knowledge.seen) claim)
-                      ∙ sym (acts-seen g.row.SLOTS v w c.in-Ok.journal c.act_abort_step-step.new.journal c.act_abort_step-step.new.held (entered_by_step c.pass.inside.number r) (marked_by_step r) (found_by_step r) acts),
+                  (
+                    since,
+                    p.seen_is ∙ sym (ap (λ (v : Known g.row.SLOTS). v.knowledge.seen) claim)
+                        ∙ sym (acts-seen g.row.SLOTS v w c.in-Ok.journal c.act_abort_step-step.new.journal c.act_abort_step-step.new.held (entered_by_step c.pass.inside.number r) (marked_by_step r) (found_by_step r) acts),
+                  ),
                 ),
               ),
             ),

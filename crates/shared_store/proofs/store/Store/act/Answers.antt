@@ -6,7 +6,7 @@ use Rattle.plain_model.specs.declared.calls.Reply.TheVariants as reply
 use Rattle.plain_model.specs.Machine.{transaction_of}
 use Rattle.plain_model.specs.History.{end_of}
 use Rattle.core_store.specs.declared.want.Want.TheVariants.{Ready}
-use Rattle.core_store.specs.Frames.{pages_held}
+use Rattle.core_store.specs.Frames.{pages_held, is_held}
 use Rattle.core_store.proofs.WantLaws.{ready-has}
 use Rattle.core_store.specs.JournalView.{JournalView, cells_of}
 use Rattle.core_store.specs.Limited.{pages_for_call}
@@ -22,6 +22,7 @@ use Rattle.shared_store.proofs.Active.{none-active, was-noted}
 use Rattle.shared_store.proofs.Wanted.{same-word, stopped-again}
 use Rattle.shared_store.proofs.Acting.{acts-stopped, acts-on}
 use Rattle.shared_store.proofs.Replies.{not-found, does-stopped, again-acts, again-found}
+use Rattle.shared_store.proofs.Since.{later-history, since-call}
 use Rattle.shared_store.proofs.store.Store.act.Goals as goal
 
 pub returns-in-Some-clause-acts : goal.returns-in-Some-clause-acts
@@ -182,3 +183,38 @@ returns-in-Err-clause-areas g c = λ none. absurd (again-found c.args.client c.a
 
 pub returns-clause-areas : goal.returns-clause-areas
 returns-clause-areas g c = λ none. c.apply-reply.ensures.areas
+
+-- ---- what was left since the store began
+
+pub returns-in-Some-clause-since : goal.returns-in-Some-clause-since
+returns-in-Some-clause-since g c = λ began h. h
+
+pub returns-in-Err-clause-since : goal.returns-in-Err-clause-since
+returns-in-Err-clause-since g c = λ began h. h
+
+pub returns-clause-since : goal.returns-clause-since
+returns-clause-since g c = λ began h.
+    let e = c.apply-reply.ensures in
+    let r = c.apply-reply.result in
+    let j = c.args.journal.now in
+    let k = c.apply-reply.new.self in
+    let running : j.failed ≡ None = sym (ap (λ (v : LoggedView g.row.D.Denot). v.failed) c.logged-2.ensures.logged) ∙ (sym c.failed.ensures.failed ∙ c.in_default.is) in
+    let later = later-history g.row.SLOTS j k c.know_history.ensures.history c.know_history-2.ensures.history (is_held c.claim_for_work.new.held) (entered_by_call c.args.client c.args.call.now r) (marked_by_call r) e.chronicle in
+    since-call g.D.Disk.moment g.D.Disk.left_since g.row.SLOTS g.D.Disk.faults began j k c.args.client c.args.call.now later h running e.opens r
+    (record {
+      legal = c.know_history-2.ensures.legal;
+      stopped = subst (λ (o : Option FailedCall). IfSome o (λ f. (r ≡ reply.Stopped f.faults) × (k ≡ j))) (sym running) tt;
+      only_stopped = e.only_stopped;
+      log_full = e.log_full;
+      log_marked = λ f. let x = e.log_marked f in x.0;
+      does = e.does;
+      goes_on = e.goes_on;
+      kept = e.kept;
+      committed = e.committed;
+      commit = e.commit;
+      untouched = e.untouched;
+      fault = λ f. let x = e.fault f in x.0;
+      later = e.later;
+      count = e.count;
+    })
+    e.never_again

@@ -2,7 +2,7 @@ use Rattle.std.proofs.Common.{◌≡◌, ◌≤◌, ℕ, List, Option, None, Res
 use Rattle.std.specs.Prelude.{IfSome}
 use Rattle.plain_model.specs.History.{end_of}
 use Rattle.core_store.specs.declared.want.Want.TheVariants.{Ready}
-use Rattle.core_store.specs.Frames.{pages_held}
+use Rattle.core_store.specs.Frames.{pages_held, is_held}
 use Rattle.core_store.proofs.WantLaws.{ready-has}
 use Rattle.core_store.specs.JournalView.{JournalView, cells_of}
 use Rattle.core_store.specs.Logged.{pages_for_undo, want_of}
@@ -18,6 +18,8 @@ use Rattle.shared_store.specs.Calls.{entered_by_step, marked_by_step, found_by_s
 use Rattle.shared_store.proofs.Active.{some-active}
 use Rattle.shared_store.proofs.Acting.{acts-stopped, acts-on}
 use Rattle.shared_store.proofs.Steps.{step-stopped, again-step, again-met}
+use Rattle.journal_chronicle.specs.Steps.{entered_by_abort_step, marked_by_abort_step}
+use Rattle.shared_store.proofs.Since.{later-history, since-still}
 use Rattle.shared_store.proofs.store.Store.act_abort_step.Goals as goal
 
 pub returns-in-Some-clause-acts : goal.returns-in-Some-clause-acts
@@ -101,3 +103,29 @@ returns-in-Err-step-clause-made g c = λ none.
       goes_on = tt;
       untouched = e.untouched;
     }
+
+-- ---- what was left since the store began
+
+pub returns-in-Some-clause-since : goal.returns-in-Some-clause-since
+returns-in-Some-clause-since g c = λ began h. h
+
+pub returns-in-Err-clause-since : goal.returns-in-Err-clause-since
+returns-in-Err-clause-since g c = λ began h. h
+
+pub returns-in-Ok-clause-since : goal.returns-in-Ok-clause-since
+returns-in-Ok-clause-since g c = λ began h.
+    let e = c.abort_step-step.ensures in
+    let j = c.args.journal.now in
+    let k = c.abort_step-step.new.self in
+    let r = c.abort_step-step.result in
+    let later = later-history g.row.SLOTS j k c.know_history.ensures.history c.know_history-2.ensures.history (is_held c.claim_for_work.new.held) (entered_by_abort_step c.args.client r) (marked_by_abort_step r) e.chronicle in
+    since-still g.D.Disk.moment g.D.Disk.left_since g.row.SLOTS began j k later h e.untouched.disk
+
+pub returns-in-Err-step-clause-since : goal.returns-in-Err-step-clause-since
+returns-in-Err-step-clause-since g c = λ began h.
+    let e = c.abort_step-step.ensures in
+    let j = c.args.journal.now in
+    let k = c.abort_step-step.new.self in
+    let r = c.abort_step-step.result in
+    let later = later-history g.row.SLOTS j k c.know_history.ensures.history c.know_history-2.ensures.history (is_held c.claim_for_work.new.held) (entered_by_abort_step c.args.client r) (marked_by_abort_step r) e.chronicle in
+    since-still g.D.Disk.moment g.D.Disk.left_since g.row.SLOTS began j k later h e.untouched.disk

@@ -15,6 +15,7 @@ use Rattle.shared_store.proofs.Looks.{goes-behind, still-journal}
 use Rattle.shared_store.proofs.Pairs.{with_none, told-frame}
 use Rattle.shared_store.proofs.Upkeeps.{RefusesClean, clean-enters_none, clean-free, clean-refused, clean-behind}
 use Rattle.shared_store.proofs.Moments.{moments-before, moments-still, opens-before, opens-still, clean-refused-disk}
+use Rattle.shared_store.proofs.Since.{later-history, since-room, since-still, since-upkeep}
 use Rattle.shared_store.proofs.store.Store.act_clean.Goals as goal
 
 -- ---- it is refused
@@ -125,3 +126,35 @@ returns-clause-opens g c =
     let none = none_from c.refuse_clean.result (λ x is. c.in_default.not-Some x is) in
     let refuses = subst (λ (o : Option Upkeep). RefusesClean c.args.journal.now c.refuse_clean.new.self o) none (record { stopped = c.refuse_clean.ensures.stopped; full = c.refuse_clean.ensures.full; free = c.refuse_clean.ensures.free }) in
     opens-before g.D.Disk.moment g.D.Disk.left_since c.args.journal.now c.refuse_clean.new.self c.clean-answer.new.self.disk (clean-free c.args.journal.now c.refuse_clean.new.self refuses).takes g.row.SLOTS c.clean-answer.ensures.opens
+
+-- ---- what was left since the store began
+
+pub returns-in-Some-clause-since : goal.returns-in-Some-clause-since
+returns-in-Some-clause-since g c = λ began h.
+    let j = c.args.journal.now in
+    let k = c.refuse_clean.new.self in
+    let u = c.in-Some.answer in
+    since-still g.D.Disk.moment g.D.Disk.left_since g.row.SLOTS began j k
+    (later-history g.row.SLOTS j k c.know_noted.ensures.history c.know_history.ensures.history no_page None (marked_by_upkeep u) c.in-Some.ensures.chronicle) h
+    (clean-refused-disk j k u (record { stopped = c.in-Some.ensures.stopped; full = c.in-Some.ensures.full; free = c.in-Some.ensures.free }))
+
+pub returns-in-Err-clause-since : goal.returns-in-Err-clause-since
+returns-in-Err-clause-since g c = λ began h.
+    let j = c.args.journal.now in
+    let k = c.refuse_clean.new.self in
+    let none = none_from c.refuse_clean.result (λ x is. c.in_default.not-Some x is) in
+    let refuses = subst (λ (o : Option Upkeep). RefusesClean j k o) none (record { stopped = c.refuse_clean.ensures.stopped; full = c.refuse_clean.ensures.full; free = c.refuse_clean.ensures.free }) in
+    since-room g.D.Disk.moment g.D.Disk.left_since g.row.SLOTS began j k (clean-free j k refuses).takes h
+
+pub returns-clause-since : goal.returns-clause-since
+returns-clause-since g c = λ began h.
+    let j = c.args.journal.now in
+    let k = c.refuse_clean.new.self in
+    let m = c.clean-answer.new.self in
+    let r = c.clean-answer.result in
+    let none = none_from c.refuse_clean.result (λ x is. c.in_default.not-Some x is) in
+    let look = subst (λ (o : Option Upkeep). GoesOnWith g.row.SLOTS no_page j k None (marked_by_refusal o)) none c.refuse_clean.ensures.chronicle in
+    let refuses = subst (λ (o : Option Upkeep). RefusesClean j k o) none (record { stopped = c.refuse_clean.ensures.stopped; full = c.refuse_clean.ensures.full; free = c.refuse_clean.ensures.free }) in
+    since-upkeep g.D.Disk.moment g.D.Disk.left_since g.row.SLOTS began j m
+    (later-history g.row.SLOTS j m c.know_noted.ensures.history c.know_history-2.ensures.history no_page (entered_by_upkeep r) (marked_by_upkeep r) (goes-behind g.row.SLOTS no_page j k m (marked_by_upkeep r) look (entered_by_upkeep r) c.clean-answer.ensures.chronicle)) h
+    (opens-before g.D.Disk.moment g.D.Disk.left_since j k m.disk (clean-free j k refuses).takes g.row.SLOTS c.clean-answer.ensures.opens)

@@ -9,6 +9,10 @@ use Rattle.shared_store.specs.Acts.{Acts}
 use Rattle.shared_store.specs.Calls.{WasNoted, entered_by_collecting, marked_by_collecting, found_by_collecting}
 use Rattle.shared_store.proofs.Acting.{acts-stopped, acts-on}
 use Rattle.shared_store.proofs.Collects.{acts-looked_found, acts-behind, collect-stopped, collect-did}
+use Rattle.core_store.specs.Frames.{is_held}
+use Rattle.journal_chronicle.specs.Steps.{entered_by_collect_step, marked_by_collect_step}
+use Rattle.shared_store.proofs.Looks.{goes-behind}
+use Rattle.shared_store.proofs.Since.{later-history, since-looked, since-still}
 use Rattle.shared_store.proofs.store.Store.act_collect_step.Goals as goal
 
 pub returns-in-Some-clause-acts : goal.returns-in-Some-clause-acts
@@ -60,3 +64,52 @@ returns-in-Ok-clause-made g c = λ _.
       history = c.know_history.ensures.history;
     } in
     collect-did g.row.SLOTS c.args.journal.now c.claim_for_collector.new.journal c.collect_step-step.new.self running e.same e.looks noted c.know_history-2.ensures.legal d.untouched c.in-Ok.step (d.log_full.1, d.does, d.goes_on)
+
+-- ---- what was left since the store began
+
+pub returns-in-Some-clause-since : goal.returns-in-Some-clause-since
+returns-in-Some-clause-since g c = λ began h. h
+
+pub returns-in-Err-clause-since : goal.returns-in-Err-clause-since
+returns-in-Err-clause-since g c = λ began h.
+    let e = c.claim_for_collector.ensures in
+    since-looked g.D.Disk.moment g.D.Disk.left_since g.row.SLOTS began c.args.journal.now c.claim_for_collector.new.journal e.same e.looks.same h
+
+pub returns-in-Ok-clause-since : goal.returns-in-Ok-clause-since
+returns-in-Ok-clause-since g c = λ began h.
+    let e = c.claim_for_collector.ensures in
+    let d = c.collect_step-step.ensures in
+    let i = c.args.journal.now in
+    let j = c.claim_for_collector.new.journal in
+    let k = c.collect_step-step.new.self in
+    let r = c.collect_step-step.result in
+    let test = is_held c.claim_for_collector.new.held in
+    let goes = goes-behind g.row.SLOTS test i j k (marked_by_collect_step r) e.chronicle (entered_by_collect_step r) d.chronicle in
+    since-still g.D.Disk.moment g.D.Disk.left_since g.row.SLOTS began i k (later-history g.row.SLOTS i k c.know_history.ensures.history c.know_history-2.ensures.history test (entered_by_collect_step r) (marked_by_collect_step r) goes) h
+    (d.untouched.disk ∙ ap (λ (v : LoggedView g.row.D.Denot). v.disk) e.same)
+
+pub returns-in-Err-Stopped-clause-since : goal.returns-in-Err-Stopped-clause-since
+returns-in-Err-Stopped-clause-since g c = λ began h.
+    let e = c.claim_for_collector.ensures in
+    let d = c.collect_step-step.ensures in
+    let i = c.args.journal.now in
+    let j = c.claim_for_collector.new.journal in
+    let k = c.collect_step-step.new.self in
+    let r = c.collect_step-step.result in
+    let test = is_held c.claim_for_collector.new.held in
+    let goes = goes-behind g.row.SLOTS test i j k (marked_by_collect_step r) e.chronicle (entered_by_collect_step r) d.chronicle in
+    since-still g.D.Disk.moment g.D.Disk.left_since g.row.SLOTS began i k (later-history g.row.SLOTS i k c.know_history.ensures.history c.know_history-2.ensures.history test (entered_by_collect_step r) (marked_by_collect_step r) goes) h
+    (d.untouched.disk ∙ ap (λ (v : LoggedView g.row.D.Denot). v.disk) e.same)
+
+pub returns-in-Err-LogFull-clause-since : goal.returns-in-Err-LogFull-clause-since
+returns-in-Err-LogFull-clause-since g c = λ began h.
+    let e = c.claim_for_collector.ensures in
+    let d = c.collect_step-step.ensures in
+    let i = c.args.journal.now in
+    let j = c.claim_for_collector.new.journal in
+    let k = c.collect_step-step.new.self in
+    let r = c.collect_step-step.result in
+    let test = is_held c.claim_for_collector.new.held in
+    let goes = goes-behind g.row.SLOTS test i j k (marked_by_collect_step r) e.chronicle (entered_by_collect_step r) d.chronicle in
+    since-still g.D.Disk.moment g.D.Disk.left_since g.row.SLOTS began i k (later-history g.row.SLOTS i k c.know_history.ensures.history c.know_history-2.ensures.history test (entered_by_collect_step r) (marked_by_collect_step r) goes) h
+    (d.untouched.disk ∙ ap (λ (v : LoggedView g.row.D.Denot). v.disk) e.same)

@@ -17,6 +17,7 @@ use Rattle.shared_store.proofs.Looks.{goes-behind, still-journal}
 use Rattle.shared_store.proofs.Pairs.{with_none}
 use Rattle.shared_store.proofs.Upkeeps.{RefusesTurn, turn-free, turn-refused, turn-behind, turn-no_memory}
 use Rattle.shared_store.proofs.Moments.{moments-before, moments-still, opens-before, opens-still}
+use Rattle.shared_store.proofs.Since.{later-history, since-still, since-upkeep}
 use Rattle.shared_store.proofs.store.Store.act_turn.Goals as goal
 
 -- ---- it is refused
@@ -176,3 +177,46 @@ returns-clause-opens g c =
     let refuses = subst (λ (o : Option Upkeep). RefusesTurn g.row.SLOTS c.args.journal.now c.refuse_turn.new.self o) none
     (record { stopped = n.stopped; only_stopped = n.only_stopped; full = n.full; marked = n.marked; busy = n.busy; only_busy = n.only_busy; told = n.told; memory = n.memory; never = n.never; free = n.free; untouched = n.untouched }) in
     opens-before g.D.Disk.moment g.D.Disk.left_since c.args.journal.now c.refuse_turn.new.self c.turn-answer.new.self.disk (turn-free g.row.SLOTS c.args.journal.now c.refuse_turn.new.self refuses).takes g.row.SLOTS c.turn-answer.ensures.opens
+
+-- ---- what was left since the store began
+
+pub returns-in-Some-clause-since : goal.returns-in-Some-clause-since
+returns-in-Some-clause-since g c = λ began h.
+    let j = c.args.journal.now in
+    let k = c.refuse_turn.new.self in
+    let u = c.in-Some.answer in
+    since-still g.D.Disk.moment g.D.Disk.left_since g.row.SLOTS began j k
+    (later-history g.row.SLOTS j k c.know_noted.ensures.history c.know_history.ensures.history no_page (entered_by_upkeep u) (marked_by_upkeep u) c.in-Some.ensures.chronicle) h c.in-Some.ensures.untouched.disk
+
+pub returns-in_default-with_capacity-clause-since : goal.returns-in_default-with_capacity-clause-since
+returns-in_default-with_capacity-clause-since g c = λ began h.
+    let j = c.args.journal.now in
+    let k = c.refuse_turn.new.self in
+    let none = none_from c.refuse_turn.result (λ x is. c.in_default.not-Some x is) in
+    let look = subst (λ (o : Option Upkeep). GoesOnWith g.row.SLOTS no_page j k (entered_by_refusal o) (marked_by_refusal o)) none c.refuse_turn.ensures.chronicle in
+    since-still g.D.Disk.moment g.D.Disk.left_since g.row.SLOTS began j k
+    (later-history g.row.SLOTS j k c.know_noted.ensures.history c.know_history-2.ensures.history no_page None no_mark look) h c.refuse_turn.ensures.untouched.disk
+
+pub returns-in-Err-clause-since : goal.returns-in-Err-clause-since
+returns-in-Err-clause-since g c = λ began h.
+    let j = c.args.journal.now in
+    let k = c.refuse_turn.new.self in
+    let none = none_from c.refuse_turn.result (λ x is. c.in_default.not-Some x is) in
+    let look = subst (λ (o : Option Upkeep). GoesOnWith g.row.SLOTS no_page j k (entered_by_refusal o) (marked_by_refusal o)) none c.refuse_turn.ensures.chronicle in
+    since-still g.D.Disk.moment g.D.Disk.left_since g.row.SLOTS began j k
+    (later-history g.row.SLOTS j k c.know_noted.ensures.history c.know_history-2.ensures.history no_page None no_mark look) h c.refuse_turn.ensures.untouched.disk
+
+pub returns-clause-since : goal.returns-clause-since
+returns-clause-since g c = λ began h.
+    let j = c.args.journal.now in
+    let k = c.refuse_turn.new.self in
+    let m = c.turn-answer.new.self in
+    let r = c.turn-answer.result in
+    let n = c.refuse_turn.ensures in
+    let none = none_from c.refuse_turn.result (λ x is. c.in_default.not-Some x is) in
+    let look = subst (λ (o : Option Upkeep). GoesOnWith g.row.SLOTS no_page j k (entered_by_refusal o) (marked_by_refusal o)) none n.chronicle in
+    let refuses = subst (λ (o : Option Upkeep). RefusesTurn g.row.SLOTS j k o) none
+    (record { stopped = n.stopped; only_stopped = n.only_stopped; full = n.full; marked = n.marked; busy = n.busy; only_busy = n.only_busy; told = n.told; memory = n.memory; never = n.never; free = n.free; untouched = n.untouched }) in
+    since-upkeep g.D.Disk.moment g.D.Disk.left_since g.row.SLOTS began j m
+    (later-history g.row.SLOTS j m c.know_noted.ensures.history c.know_history-3.ensures.history no_page (entered_by_upkeep r) (marked_by_upkeep r) (goes-behind g.row.SLOTS no_page j k m (marked_by_upkeep r) look (entered_by_upkeep r) c.turn-answer.ensures.chronicle)) h
+    (opens-before g.D.Disk.moment g.D.Disk.left_since j k m.disk (turn-free g.row.SLOTS j k refuses).takes g.row.SLOTS c.turn-answer.ensures.opens)

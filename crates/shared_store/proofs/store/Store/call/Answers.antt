@@ -15,6 +15,8 @@ use Rattle.shared_store.proofs.Acting.{acts-seen, has-journal}
 use Rattle.shared_store.proofs.Passing.{IsDone, done-comes, done-pass, met-pass}
 use Rattle.shared_store.proofs.Replies.{again-goes, again-refused, again-found, call-drop, marked-call, txn-after}
 use Rattle.shared_store.proofs.Wanted.{same-word}
+use Rattle.logged_journal.specs.View.{LoggedView}
+use Rattle.journal_chronicle.specs.Since.{OpensSince}
 use Rattle.shared_store.proofs.store.Store.call.Goals as goal
 
 -- ---- another pass has the log word
@@ -91,6 +93,7 @@ finish-pass-inside-requires-after_bounds g c κs within =
     let v = c.claim_log.new.hold.view in
     let w = c.act-reply.new.hold.view in
     let claim = c.in-Ok.ensures.ok.0 in
+    let since = c.act-reply.ensures.since c.args.self.now.began (subst (λ (v : LoggedView g.row.D.Denot). OpensSince g.D.Disk.moment g.D.Disk.left_since g.row.SLOTS v c.in-Ok.journal) (ap (λ z. z.began) c.self.view_is) c.in-Ok.ensures.on) in
     let acts = c.act-reply.ensures.acts in (
       search rules,
       (
@@ -110,8 +113,11 @@ finish-pass-inside-requires-after_bounds g c κs within =
                       (ap (λ t. t.slots) (ap (λ z. z.table) c.pass.view_is ∙ c.requires.of ∙ sym (ap (λ z. z.table) c.self.view_is)) ∙ c.self.invariant.sized ∙ ap (λ z. z.pages + 1) c.self.view_is)
                       c.in-Ok.ensures.ok.1 c.in-Ok.ensures.ok.0)
                       acts (c.is_entered-entered.ensures c.pass.inside.number c.args.call.now),
-                  p.seen_is ∙ sym (ap (λ (v : Known g.row.SLOTS). v.knowledge.seen) claim)
-                      ∙ sym (acts-seen g.row.SLOTS v w c.in-Ok.journal c.act-reply.new.journal c.act-reply.new.held (entered_by_call c.pass.inside.number c.args.call.now r) (marked_by_call r) (found_by_call r) acts),
+                  (
+                    since,
+                    p.seen_is ∙ sym (ap (λ (v : Known g.row.SLOTS). v.knowledge.seen) claim)
+                        ∙ sym (acts-seen g.row.SLOTS v w c.in-Ok.journal c.act-reply.new.journal c.act-reply.new.held (entered_by_call c.pass.inside.number c.args.call.now r) (marked_by_call r) (found_by_call r) acts),
+                  ),
                 ),
               ),
             ),

@@ -11,6 +11,7 @@ use Rattle.latch_table.proofs.Frames.{some_is}
 use Rattle.journal_chronicle.specs.View.{Origin, origin_of, notes_of, marks_of, history_after, frame_after, has_transaction}
 use Rattle.shared_store.specs.declared.refused.Refused.{Refused}
 use Rattle.shared_store.specs.Passes.{AreMarked}
+use Rattle.journal_chronicle.specs.Since.{OpensSince}
 use Rattle.shared_store.proofs.store.Store.close.Goals as goal
 
 some-kept : (a b : Option ℕ) → ((n : ℕ) → a ≡ Some n → b ≡ Some n) → IsSome a → IsSome b
@@ -47,3 +48,8 @@ pub returns-clause-page : goal.returns-clause-page
 returns-clause-page g c =
     subst (λ (v : LoggedView g.row.D.Denot). (page : ℕ) (frame : Frame g.row.SLOTS) → 8 * page < v.journal.history.ids → HoldsPage (cells_of v.journal) page frame.page ↔ (frame ≡ frame_after g.row.SLOTS (origin_of v) (notes_of v) page)) (sym c.into_logged.ensures)
     c.know_frames.ensures.page
+
+pub returns-clause-since : goal.returns-clause-since
+returns-clause-since g c =
+    subst (λ (v : LoggedView g.row.D.Denot). OpensSince g.D.Disk.moment g.D.Disk.left_since g.row.SLOTS c.args.self.began v) (sym c.into_logged.ensures)
+    (subst (λ (v : LoggedView g.row.D.Denot). OpensSince g.D.Disk.moment g.D.Disk.left_since g.row.SLOTS v c.close-journal.result.0) (ap (λ z. z.began) c.self.view_is) c.close-journal.ensures.on)

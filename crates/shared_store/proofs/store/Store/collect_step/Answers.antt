@@ -10,6 +10,8 @@ use Rattle.shared_store.proofs.Acting.{has-journal, to-drop}
 use Rattle.shared_store.proofs.Collects.{collect-act, collect-speaks, keeps-more, txn-collect, marked-collect}
 use Rattle.shared_store.proofs.Kept.{act-seen}
 use Rattle.shared_store.proofs.Passing.{done-comes, done-pass}
+use Rattle.logged_journal.specs.View.{LoggedView}
+use Rattle.journal_chronicle.specs.Since.{OpensSince}
 use Rattle.shared_store.proofs.store.Store.collect_step.Goals as goal
 
 pub act_collect_step-step-requires-after_bounds : goal.act_collect_step-step-requires-after_bounds
@@ -34,7 +36,8 @@ finish-pass-inside-requires-after_bounds g c κs within =
     c.in-Ok.ensures.ok.1 c.in-Ok.ensures.ok.0 in
     let drop = to-drop g.row.SLOTS c.args.self.now.pages v1 w c.in-Ok.journal c.act_collect_step-step.new.journal c.act_collect_step-step.new.held (marked_by_collecting r) (found_by_collecting r) has (entered_by_collecting r) c.is_entered-entered.result a c.is_entered-entered.ensures (collect-speaks v1.station.name r) in
     let seen = c.pass.invariant.seen_is ∙ (sym (ap (λ v. v.knowledge.seen) c.in-Ok.ensures.ok.0) ∙ sym (act-seen g.row.SLOTS v1 w c.in-Ok.journal c.act_collect_step-step.new.journal c.act_collect_step-step.new.held (entered_by_collecting r) (marked_by_collecting r) (found_by_collecting r) a)) in
-    (search rules, (search rules, (search rules, (search rules, (search rules, (c.act_collect_step-step.ensures.of, (drop, seen)))))))
+    let since = c.act_collect_step-step.ensures.since c.args.self.now.began (subst (λ (v : LoggedView g.row.D.Denot). OpensSince g.D.Disk.moment g.D.Disk.left_since g.row.SLOTS v c.in-Ok.journal) (ap (λ z. z.began) c.self.view_is) c.in-Ok.ensures.on) in
+    (search rules, (search rules, (search rules, (search rules, (search rules, (c.act_collect_step-step.ensures.of, (drop, (since, seen))))))))
 
 pub invariant_of-pass-2 : goal.invariant_of-pass-2
 invariant_of-pass-2 g c =

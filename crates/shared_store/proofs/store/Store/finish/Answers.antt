@@ -1,9 +1,11 @@
-use Rattle.std.proofs.Common.{◌≤◌, [], ap, ◌∙◌, rules}
+use Rattle.std.proofs.Common.{◌≤◌, [], ap, ◌∙◌, rules, sym, subst}
 use Rattle.framed_journal.proofs.HoldLaws.{slots-few}
 use Rattle.latch_table.specs.Views.{log_dropped}
 use Rattle.journal_chronicle.specs.View.{marks_of}
 use Rattle.shared_store.specs.Holding.{with_pages}
 use Rattle.shared_store.proofs.Finishes.{is-told, told-hand}
+use Rattle.logged_journal.specs.View.{LoggedView}
+use Rattle.journal_chronicle.specs.Since.{OpensSince}
 use Rattle.shared_store.proofs.store.Store.finish.Goals as goal
 
 pub drop_held-requires-after_bounds : goal.drop_held-requires-after_bounds
@@ -28,3 +30,6 @@ returns-clause-told g c = λ e.
 
 pub returns-clause-same : goal.returns-clause-same
 returns-clause-same g c = λ e. c.drop_log.ensures.view ∙ ap (λ v. log_dropped v (marks_of c.args.journal)) (c.drop_held.ensures.view ∙ ap (λ v. with_pages v []) (c.tell_if-seen.ensures.same e))
+
+pub drop_log-requires-clause-on : goal.drop_log-requires-clause-on
+drop_log-requires-clause-on g c = subst (λ (v : LoggedView g.row.D.Denot). OpensSince g.D.Disk.moment g.D.Disk.left_since g.row.SLOTS v c.args.journal) (sym (ap (λ z. z.began) c.self.view_is)) c.requires.since

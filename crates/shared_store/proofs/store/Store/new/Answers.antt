@@ -5,11 +5,14 @@ use Rattle.core_store.specs.declared.frame.Frame.{Frame}
 use Rattle.core_store.specs.declared.note.Note.{Note}
 use Rattle.core_store.specs.JournalView.{cells_of}
 use Rattle.core_store.specs.Frames.{AllAgree}
-use Rattle.logged_journal.specs.View.{LoggedView}
+use Rattle.logged_journal.specs.View.{LoggedView, history_of}
 use Rattle.journal_chronicle.specs.View.{origin_of, notes_of, failed_note, frame_after}
 use Rattle.std.proofs.lemmas.List.{get_or-replicate}
 use Rattle.latch_table.specs.Views.{truth_of}
 use Rattle.framed_journal.proofs.HoldLaws.{slots-few}
+use Rattle.disk_model.specs.Told.{EachImage}
+use Rattle.logged_journal.specs.Opens.{OpensAfter}
+use Rattle.shared_store.proofs.Since.{since-now}
 use Rattle.shared_store.proofs.store.Store.new.Goals as goal
 
 none-noted : {D : Type 0} (v : LoggedView D) → v.failed ≡ None → v.journal.notes ≡ [] → notes_of v ≡ []
@@ -56,3 +59,8 @@ invariant_of-pass g c =
             omega arith),
       );
     }
+
+pub new-requires-clause-on : goal.new-requires-clause-on
+new-requires-clause-on g c =
+    since-now g.D.Disk.moment g.D.Disk.left_since g.row.SLOTS g.D.Disk.may_leave c.in-Ok.journal g.D.Disk.only_now
+    (subst (λ (v : LoggedView g.row.D.Denot). EachImage g.D.Disk.may_leave v.disk (OpensAfter g.row.SLOTS (history_of v))) c.logged.ensures.logged c.durable.ensures.opens)

@@ -2,7 +2,6 @@ use Rattle.std.proofs.Common.{None, ◌≤◌, true, false, List, [], ◌∷◌,
 use Rattle.core_store.specs.declared.three.HeldFrame.{HeldFrame}
 use Rattle.core_store.specs.Frames.{AreOnce, IsNext, is_held}
 use Rattle.framed_journal.proofs.HoldLaws.{slots-few, AreHeldOf-none}
-use Rattle.latch_table.specs.Holds.{TableView}
 use Rattle.shared_store.specs.Acts.{Takes}
 use Rattle.shared_store.specs.Holding.{pairs_of}
 use Rattle.shared_store.proofs.Pairs.{has-with, claimed-more, with_none}
@@ -30,7 +29,7 @@ claim_one-claimed-requires-after_bounds g c κs within =
     let ids = c.requires.journal.ids in
     let low = c.pages-test.true in
     let all = c.pages-count.ensures in
-    let pages = ap (λ (t : TableView). t.pages) c.self.view_is in
+    let pages = ap (λ t. t.pages) c.self.view_is in
     let next : IsNext c.args.journal.now.journal.history.ids c.pages.held c.pages.page = record { there = omega (arith, all, low, ids, pages); other = i.above c.pages.page (omega arith); room = omega (arith, all, low, few, count, pages) } in
     (search rules, (search rules, (search rules, (search rules, (search rules, (i.of, (has, ((i.frames, ap (λ v. v.hands.pages) i.view.1), next))))))))
 
@@ -66,7 +65,7 @@ returns g c =
     let all = c.pages-count.ensures in
     let end = c.pages-test.false in
     let ids = c.requires.journal.ids in
-    let pages = ap (λ (t : TableView). t.pages) c.self.view_is in
+    let pages = ap (λ t. t.pages) c.self.view_is in
     record {
       of = i.of;
       taken = record {

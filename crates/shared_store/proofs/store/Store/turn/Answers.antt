@@ -13,6 +13,8 @@ use Rattle.shared_store.proofs.Acting.{has-journal, to-drop}
 use Rattle.shared_store.proofs.Kept.{act-seen, upkeep-speaks, txn-upkeep, marked-upkeep}
 use Rattle.shared_store.proofs.Passing.{done-comes, done-pass}
 use Rattle.shared_store.proofs.Upkeeps.{makes-turn}
+use Rattle.logged_journal.specs.View.{LoggedView}
+use Rattle.journal_chronicle.specs.Since.{OpensSince}
 use Rattle.shared_store.proofs.store.Store.turn.Goals as goal
 
 pub act_turn-answer-requires-after_bounds : goal.act_turn-answer-requires-after_bounds
@@ -38,7 +40,8 @@ finish-pass-inside-requires-after_bounds g c κs within =
     let drop = subst (λ (hs : List (HeldFrame g.row.SLOTS)). IsToDrop g.row.SLOTS c.args.self.now.pages w c.act_turn-answer.new.journal hs c.is_entered-entered.result) (sym c.new-held.ensures)
     (to-drop g.row.SLOTS c.args.self.now.pages v1 w c.in-Ok.journal c.act_turn-answer.new.journal [] (marked_by_upkeep_of r) (found_by_upkeep r) has (entered_by_upkeep_of r) c.is_entered-entered.result a c.is_entered-entered.ensures (upkeep-speaks v1.station.name r)) in
     let seen = c.pass.invariant.seen_is ∙ (sym (ap (λ v. v.knowledge.seen) c.in-Ok.ensures.ok.0) ∙ sym (act-seen g.row.SLOTS v1 w c.in-Ok.journal c.act_turn-answer.new.journal [] (entered_by_upkeep_of r) (marked_by_upkeep_of r) (found_by_upkeep r) a)) in
-    (search rules, (search rules, (search rules, (search rules, (search rules, (c.act_turn-answer.ensures.of, (drop, seen)))))))
+    let since = c.act_turn-answer.ensures.since c.args.self.now.began (subst (λ (v : LoggedView g.row.D.Denot). OpensSince g.D.Disk.moment g.D.Disk.left_since g.row.SLOTS v c.in-Ok.journal) (ap (λ z. z.began) c.self.view_is) c.in-Ok.ensures.on) in
+    (search rules, (search rules, (search rules, (search rules, (search rules, (c.act_turn-answer.ensures.of, (drop, (since, seen))))))))
 
 pub invariant_of-pass-2 : goal.invariant_of-pass-2
 invariant_of-pass-2 g c =
@@ -64,4 +67,4 @@ returns-clause-made g c =
     let r = c.act_turn-answer.result in
     let is : c.pass.inside.hold.view ≡ c.args.pass.now.view = ap (λ z. z.view) c.pass.view_is in
     let comes = done-comes g.row.SLOTS c.pass.inside.hold.view c.finish-pass-inside.new.hold.view c.in-Ok.journal c.act_turn-answer.new.journal (entered_by_upkeep_of r) (marked_by_upkeep_of r) (found_by_upkeep r) (record { claimed = c.claim_log.new.hold.view; worked = c.act_turn-answer.new.hold.view; held = []; tells = c.is_entered-entered.result; claim = c.in-Ok.ensures.ok.0; later = c.in-Ok.ensures.ok.1; acts = c.act_turn-answer.ensures.acts; iff = c.is_entered-entered.ensures; told = c.finish-pass-inside.ensures.told; same = c.finish-pass-inside.ensures.same }) in
-    makes-turn g.row.SLOTS g.D.Disk.faults g.D.Disk.content g.D.Disk.may_leave g.D.Disk.moment g.D.Disk.left_since c.pass.inside.hold.view c.args.pass.now.view c.finish-pass-inside.new.hold.view c.in-Ok.journal c.act_turn-answer.new.journal r is (record { later = c.in-Ok.ensures.ok.1; covered = c.in-Ok.ensures.once; found = comes.stories; kept = comes.noted }) c.act_turn-answer.ensures.made c.act_turn-answer.ensures.opens
+    makes-turn g.row.SLOTS g.D.Disk.faults g.D.Disk.content g.D.Disk.may_leave g.D.Disk.moment g.D.Disk.left_since c.pass.inside.hold.view c.args.pass.now.view c.finish-pass-inside.new.hold.view c.in-Ok.journal c.act_turn-answer.new.journal r is (record { later = c.in-Ok.ensures.ok.1; covered = c.in-Ok.ensures.once; found = comes.stories; kept = comes.noted }) c.act_turn-answer.ensures.noted c.act_turn-answer.ensures.made c.act_turn-answer.ensures.opens
