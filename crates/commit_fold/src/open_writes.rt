@@ -4,14 +4,13 @@ ghost use Rattle.std.specs.Prelude.{◌≡◌, ◌<◌, ◌++◌, ◌∷◌, [],
 use plain_model::{Memory, Write};
 use std::alloc::Global;
 use std::marker::Model;
-use std::mem;
 
 /// How many rows there are: the clients have the numbers from 1 to 64, and row 0 is that of none.
 const ROWS: usize = 65;
 
 /// The writes of one client's open transaction, oldest first.
 #[derive(Drop)]
-pub(crate) struct Row {
+struct Row {
     writes: Vec<Write>,
 }
 
@@ -44,10 +43,17 @@ impl Row {
     }
 
     /// The writes, in their order.
-    pub(crate) fn writes(&self) -> &[Write]
+    fn writes(&self) -> &[Write]
         ensures { result.now ≡ self.now }
     {
         self.writes.as_slice()
+    }
+
+    /// No write any more. It keeps its memory.
+    fn clear(&mut self)
+        ensures { self.new ≡ [] }
+    {
+        self.writes.clear();
     }
 }
 
@@ -87,12 +93,19 @@ impl OpenWrites {
         self.rows[pass as usize].push(write)
     }
 
-    /// Takes the client's writes away. It takes no memory.
-    pub(crate) fn take(&mut self, alloc: Global, pass: u8) -> Row
-        requires { pass < length self.old }
-        ensures row { result ≡ slice_index_or self.old pass [] }
-        ensures rest { self.new ≡ slice_set self.old pass [] }
+    /// The client's writes, in their order.
+    pub(crate) fn writes(&self, pass: u8) -> &[Write]
+        requires { pass < length self.now }
+        ensures { result.now ≡ slice_index_or self.now pass [] }
     {
-        mem::replace(&mut self.rows[pass as usize], Row::new(alloc))
+        self.rows[pass as usize].writes()
+    }
+
+    /// The client has no writes any more. Their memory is kept.
+    pub(crate) fn clear(&mut self, pass: u8)
+        requires { pass < length self.old }
+        ensures { self.new ≡ slice_set self.old pass [] }
+    {
+        self.rows[pass as usize].clear();
     }
 }

@@ -23,7 +23,6 @@ use std::marker::Model;
 /// the log is kept.
 #[derive(Drop)]
 pub struct Tally<const SLOTS: usize> {
-    alloc: Global,
     objects: Objects<SLOTS>,
     pending: OpenWrites,
     commits: u32,
@@ -48,7 +47,6 @@ impl<const SLOTS: usize> Tally<SLOTS> {
     {
         let _last = replay.last_id();
         Ok(Tally {
-            alloc,
             objects: Objects::of(alloc, replay)?,
             pending: OpenWrites::new(alloc)?,
             commits: 0,
@@ -91,7 +89,7 @@ impl<const SLOTS: usize> Tally<SLOTS> {
         requires { IsPass pass }
         ensures { self.new ≡ left pass self.old }
     {
-        let _writes = self.pending.take(self.alloc, pass);
+        self.pending.clear(pass);
     }
 
     /// The client's open transaction is committed.
@@ -100,13 +98,14 @@ impl<const SLOTS: usize> Tally<SLOTS> {
         requires room { self.old.commits + 1 < 2 ^ 32 }
         ensures { IsCommitted SLOTS pass self.old self.new }
     {
-        let row = self.pending.take(self.alloc, pass);
-        self.objects.write_all(row.writes());
+        self.objects.write_all(self.pending.writes(pass));
+        self.pending.clear(pass);
         self.commits += 1;
     }
 
-    /// Takes a record of single cells. Out of memory changes nothing.
-    fn take_of_cells(&mut self, r: &CellRecord) -> Result<(), Memory>
+    /// What a record of single cells does to a tally. Out of memory changes nothing.
+    #[inline(always)]
+    fn step(&mut self, r: &CellRecord) -> Result<(), Memory>
         requires spelled { HasCellSpelling SLOTS r.now }
         requires within { IsWithin (length self.old.cells - 1) r.now }
         requires room { self.old.commits + 1 < 2 ^ 32 }
@@ -161,6 +160,20 @@ impl<const SLOTS: usize> Tally<SLOTS> {
         }
     }
 
+    /// Takes the next record of the log, which is one of single cells, as [`Tally::take`] does.
+    pub fn take_of_cells(&mut self, r: &CellRecord) -> Result<(), Memory>
+        requires spelled { HasCellSpelling SLOTS r.now }
+        requires within { IsWithin (length self.old.cells - 1) r.now }
+        requires room { self.old.commits + 1 < 2 ^ 32 }
+        ensures told { (base : List StoredCell) (rs : List (LogRecord SLOTS)) → Tells base rs self.old → OnOk result (Tells base (rs ++ OfCells r.now ∷ []) self.new) }
+        ensures sized { length self.new.cells ≡ length self.old.cells }
+        ensures counted { self.new.commits ≤ self.old.commits + 1 }
+        ensures err { OnErr result (self.new ≡ self.old) }
+    {
+        self.know();
+        self.step(r)
+    }
+
     /// Takes the next record of the log. Out of memory is its only error, and changes nothing.
     pub fn take(&mut self, rec: &Record<SLOTS>) -> Result<(), Memory>
         requires spelled { HasSpelling rec.now }
@@ -171,7 +184,6 @@ impl<const SLOTS: usize> Tally<SLOTS> {
         ensures counted { self.new.commits ≤ self.old.commits + 1 }
         ensures err { OnErr result (self.new ≡ self.old) }
     {
-        self.know();
         match rec {
             Record::OfCells(r) => self.take_of_cells(r),
             Record::Image { .. } | Record::Turn { .. } => Ok(()),

@@ -1,3 +1,4 @@
+pub mod WindowLaws
 pub mod TestLaws
 pub mod BatchLaws
 pub mod FoundLaws

@@ -1,5 +1,5 @@
 //! The current log of a store.
-ghost use Rattle.std.specs.Prelude.{◌≡◌, ◌+◌, ◌≤◌, ◌^◌, ◌<◌, ℕ, length, IfOk, IfErr, IfSome};
+ghost use Rattle.std.specs.Prelude.{◌≡◌, ◌+◌, ◌≤◌, ◌^◌, ◌<◌, ℕ, length, IfOk, IfErr, IfSome, OnOk};
 ghost use Rattle.disk_model.specs.Areas.{Bytes};
 ghost use Rattle.disk_model.specs.Causes.{HasCause};
 ghost use Rattle.disk_model.specs.declared.area.Area.TheVariants.{Super};
@@ -11,11 +11,13 @@ ghost use Rattle.store_opening.specs.Store.{Reads, HasOpenCause};
 ghost use Rattle.gate_log.specs.declared.refusal.LogRefusal.TheVariants.{LogFull};
 ghost use Rattle.opened_images.specs.LogRecords.{body_of, first_records, BeginsWithBody};
 ghost use Rattle.current_log.specs.Tested.{IsTestedLog};
+ghost use Rattle.current_log.specs.Window.{IsWindow};
 ghost use Rattle.current_log.specs.Current.{HasCurrentLog, RefusesLog, RefusesLogIn, IsOfLog, damaged_in, refusal_in};
 
 use crate::batch::read_batch;
 use crate::first::{FirstRefusal, first_pages};
 use crate::testing::{replay_of_tests, test_batches};
+use crate::window::Window;
 use disk_model::{Area, Disk, DiskFailed};
 use gate_log::LogRefusal;
 use std::alloc::{AllocError, Global};
@@ -92,17 +94,20 @@ fn test_first<D: Disk, const SLOTS: usize>(
     alloc: Global,
     disk: &mut D,
     area: Area,
+    window: &mut Window,
     spare: &mut Vec<u8>,
 ) -> Result<u16, OpenRefusal>
     requires count { IsSlotCount SLOTS }
+    requires window { IsWindow (D.content disk.old area) window.old }
     ensures few { IfOk result (λ pages. (1 ≤ pages) × (pages ≤ 1024)) }
     ensures first { IfOk result (λ pages. IfSome (D.content disk.old area) (BeginsWithBody (body_of (first_records SLOTS pages)))) }
+    ensures window { OnOk result (IsWindow (D.content disk.new area) window.new) }
     ensures refused { IfErr result (λ e. IfSome (D.content disk.old area) (RefusesLogIn SLOTS area e)) }
     ensures of_log { IfErr result IsOfLog }
     ensures looks { IsLookedAt D.content D.may_leave D.moment D.left_since disk.old disk.new }
     ensures cause { HasOpenCause (D.faults disk.old) (D.faults disk.new) result }
 {
-    match read_batch(alloc, disk, area, 0, spare) {
+    match read_batch(alloc, disk, area, window, 0, spare) {
         Ok(Some(body)) => match first_pages::<SLOTS>(&body) {
             Ok(pages) => Ok(pages),
             Err(FirstRefusal::Damaged { at }) => Err(damaged(area, at)),
@@ -129,7 +134,8 @@ fn test_log<D: Disk, const SLOTS: usize>(
     ensures cause { HasOpenCause (D.faults disk.old) (D.faults disk.new) result }
 {
     let mut spare = Vec::new(alloc);
-    let pages = match test_first::<D, SLOTS>(alloc, disk, area, &mut spare) {
+    let mut window = Window::new();
+    let pages = match test_first::<D, SLOTS>(alloc, disk, area, &mut window, &mut spare) {
         Ok(pages) => pages,
         Err(refusal) => return Err(refusal),
     };
@@ -137,7 +143,16 @@ fn test_log<D: Disk, const SLOTS: usize>(
         Ok(replay) => replay,
         Err(AllocError) => return Err(OpenRefusal::Memory),
     };
-    match test_batches(alloc, disk, area, FIRST_END, pages, &mut replay, &mut spare) {
+    match test_batches(
+        alloc,
+        disk,
+        area,
+        &mut window,
+        FIRST_END,
+        pages,
+        &mut replay,
+        &mut spare,
+    ) {
         Ok(len) => Ok(FoundLog { area, pages, len }),
         Err(refusal) => Err(refusal_in(area, refusal)),
     }

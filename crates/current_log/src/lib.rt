@@ -4,8 +4,8 @@
 //! the first batch with its version, and then batch by batch whether each record may stand there. No cell is tested, nothing is
 //! written, and nothing is made to last.
 //!
-//! A batch is held in memory while it is tested, and no more of the log. The bytes of a log that was found can then be read in
-//! pieces.
+//! A batch is held in memory while it is tested, and a piece of the log that was read at once. The bytes of a log that was found can
+//! then be read in pieces.
 #![tactic(auto)]
 
 mod batch;
@@ -13,5 +13,6 @@ mod first;
 mod found;
 mod records;
 mod testing;
+mod window;
 
 pub use found::{FoundLog, find_log};

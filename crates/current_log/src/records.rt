@@ -6,14 +6,14 @@ ghost use Rattle.restart_laws.specs.Unended.{Unended};
 ghost use Rattle.opened_images.specs.LogRecords.{HasNoNext};
 ghost use Rattle.current_log.specs.Tested.{IsTesting, FitsFirst, FitsBody, StopsBody};
 
-use log_record::Record;
+use log_record::{CellRecord, Record};
 use log_replay::{Replay, TakeRefusal};
 use std::alloc::AllocError;
 
-/// Tests the record that the bytes begin with, in a store of so many pages, and answers how many bytes it has.
+/// Tests the record of any kind that the bytes begin with, in a store of so many pages, and answers how many bytes it has.
 ///
 /// [`TakeRefusal::Unfit`] comes exactly where no record that fits begins the bytes.
-fn test_record<const SLOTS: usize>(
+fn test_of_any_kind<const SLOTS: usize>(
     replay: &mut Replay<SLOTS>,
     pages: u16,
     bytes: &[u8],
@@ -38,6 +38,29 @@ fn test_record<const SLOTS: usize>(
             Ok(len)
         }
         Record::Turn { .. } => Err(TakeRefusal::Unfit),
+    }
+}
+
+/// Tests the record that the bytes begin with, in a store of so many pages, and answers how many bytes it has. Most are of single
+/// cells, and for these it moves no page.
+///
+/// [`TakeRefusal::Unfit`] comes exactly where no record that fits begins the bytes.
+fn test_record<const SLOTS: usize>(
+    replay: &mut Replay<SLOTS>,
+    pages: u16,
+    bytes: &[u8],
+) -> Result<usize, TakeRefusal>
+    requires count { IsSlotCount SLOTS }
+    ensures fits { (us : List (ℕ × Unended)) → IsTesting pages us replay.old → IfOk result (λ len. FitsFirst SLOTS pages us bytes.now len replay.new) }
+    ensures within { IfOk result (λ len. (1 ≤ len) × (len ≤ length bytes.now)) }
+    ensures unfit { (us : List (ℕ × Unended)) → IsTesting pages us replay.old → IsErrOf result Unfit → HasNoNext SLOTS pages us bytes.now }
+{
+    match CellRecord::read::<SLOTS>(bytes) {
+        Ok((rec, len)) => match replay.take_of_cells(&rec) {
+            Ok(()) => Ok(len),
+            Err(refusal) => Err(refusal),
+        },
+        Err(_) => test_of_any_kind(replay, pages, bytes),
     }
 }
 

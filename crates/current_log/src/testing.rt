@@ -1,5 +1,5 @@
 //! The log in one area, tested batch by batch.
-ghost use Rattle.std.specs.Prelude.{◌≡◌, ◌⊎◌, ◌+◌, ◌<◌, ◌≤◌, ◌^◌, ℕ, [], length, IfOk, IfErr, IfSome, IsErrOf, MatchOption};
+ghost use Rattle.std.specs.Prelude.{◌≡◌, ◌⊎◌, ◌+◌, ◌<◌, ◌≤◌, ◌^◌, ℕ, [], length, IfOk, IfErr, IfSome, OnOk, IsErrOf, MatchOption};
 ghost use Rattle.cell_page.specs.Format.{IsSlotCount};
 ghost use Rattle.gate_log.specs.declared.refusal.LogRefusal.TheVariants.{Disk, Damaged, Memory};
 ghost use Rattle.gate_log.specs.Batches.{most_bytes};
@@ -8,9 +8,11 @@ ghost use Rattle.log_replay.specs.Inside.{AreStorePages};
 ghost use Rattle.opened_images.specs.LogRecords.{IsDamagedLog};
 ghost use Rattle.store_opening.specs.Looks.{IsLookedAt};
 ghost use Rattle.current_log.specs.Tested.{IsTesting, HasTested, IsTestedLog};
+ghost use Rattle.current_log.specs.Window.{IsWindow};
 
 use crate::batch::read_batch;
 use crate::records::test_records;
+use crate::window::Window;
 use cell_page::Page;
 use disk_model::{Area, Disk};
 use gate_log::LogRefusal;
@@ -55,6 +57,7 @@ fn test_batch<D: Disk, const SLOTS: usize>(
     alloc: Global,
     disk: &mut D,
     area: Area,
+    window: &mut Window,
     at: u64,
     pages: u16,
     replay: &mut Replay<SLOTS>,
@@ -62,16 +65,18 @@ fn test_batch<D: Disk, const SLOTS: usize>(
 ) -> Result<Option<u64>, LogRefusal>
     requires count { IsSlotCount SLOTS }
     requires within { at ≤ most_bytes }
+    requires window { IsWindow (D.content disk.old area) window.old }
     ensures tested { IfSome (D.content disk.old area) (HasTested SLOTS pages at replay.old)
         → IfOk result (λ next. IfSome (D.content disk.old area) (λ c. MatchOption next (IsTestedLog SLOTS pages (at + 1) c) (λ end. HasTested SLOTS pages end replay.new c))) }
     ensures damaged { IfSome (D.content disk.old area) (HasTested SLOTS pages at replay.old)
         → (place : ℕ) → IsErrOf result (Damaged place) → IfSome (D.content disk.old area) (λ c. IsDamagedLog SLOTS c place) }
     ensures refusals { IfErr result (λ e. (e ≡ Disk) ⊎ (e ≡ Memory) ⊎ ((place : ℕ) × (e ≡ Damaged place))) }
+    ensures window { OnOk result (IsWindow (D.content disk.new area) window.new) }
     ensures later { IfOk result (λ next. IfSome next (λ end. (at < end) × (end ≤ most_bytes))) }
     ensures looks { IsLookedAt D.content D.may_leave D.moment D.left_since disk.old disk.new }
     ensures cause { IsCaused (D.faults disk.old) (D.faults disk.new) result }
 {
-    let body = match read_batch(alloc, disk, area, at, spare) {
+    let body = match read_batch(alloc, disk, area, window, at, spare) {
         Ok(Some(body)) => body,
         Ok(None) => return Ok(None),
         Err(refusal) => return Err(refusal),
@@ -98,6 +103,7 @@ pub(crate) fn test_batches<D: Disk, const SLOTS: usize>(
     alloc: Global,
     disk: &mut D,
     area: Area,
+    window: &mut Window,
     first: u64,
     pages: u16,
     replay: &mut Replay<SLOTS>,
@@ -105,6 +111,7 @@ pub(crate) fn test_batches<D: Disk, const SLOTS: usize>(
 ) -> Result<u64, LogRefusal>
     requires count { IsSlotCount SLOTS }
     requires within { first ≤ most_bytes }
+    requires window { IsWindow (D.content disk.old area) window.old }
     requires begun { IfSome (D.content disk.old area) (HasTested SLOTS pages first replay.old) }
     ensures tested { IfOk result (λ len. IfSome (D.content disk.old area) (IsTestedLog SLOTS pages len)) }
     ensures damaged { (place : ℕ) → IsErrOf result (Damaged place) → IfSome (D.content disk.old area) (λ c. IsDamagedLog SLOTS c place) }
@@ -115,7 +122,7 @@ pub(crate) fn test_batches<D: Disk, const SLOTS: usize>(
 {
     let mut at = first;
     'batches: loop {
-        match test_batch(alloc, disk, area, at, pages, replay, spare) {
+        match test_batch(alloc, disk, area, window, at, pages, replay, spare) {
             Ok(Some(next)) => at = next,
             Ok(None) => return Ok(at + 1),
             Err(refusal) => return Err(refusal),

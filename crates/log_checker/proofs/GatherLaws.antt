@@ -1,5 +1,5 @@
 -- What is made of the stream, one part more, with the fold.
-use Rattle.std.proofs.Common.{◌≡◌, ℕ, ◌+◌, ◌*◌, ◌<◌, ◌≤◌, ◌^◌, List, [], ◌∷◌, ◌++◌, length, replicate, Option, Some, None, Result, Ok, Err, refl, sym, ap, subst, ◌∙◌, arith, append_assoc, length-append}
+use Rattle.std.proofs.Common.{◌≡◌, ℕ, ◌+◌, ◌*◌, ◌<◌, ◌≤◌, ◌^◌, List, [], ◌∷◌, ◌++◌, length, replicate, Option, Some, None, Result, Ok, Err, Box, Global, refl, sym, ap, subst, ◌∙◌, arith, append_assoc, length-append}
 use Rattle.std.specs.Prelude.{OnOk, Bool, true, false, ◌==◌, if◌then◌else◌}
 use Rattle.std.proofs.lemmas.List.{append-nil, length-replicate}
 use Rattle.cell_model.specs.Cells.{Cell as StoredCell}
@@ -15,7 +15,7 @@ use Rattle.ship_stream.specs.Reading.{Reading, Nothing, InBase, InLog, shipped_b
 use Rattle.ship_stream.specs.Feeding.{Adds}
 use Rattle.commit_fold.specs.Tallies.{Tallying, Tells}
 use Rattle.standby.specs.Following.{over_base, base_after, after_all, AllFit, Gathering, Has}
-use Rattle.standby.proofs.GatherLaws.{has_number, page_awaited, has_page, page_next, batch_awaited, batch_took}
+use Rattle.standby.proofs.GatherLaws.{has_number, unboxed, page_awaited, has_page, page_next, batch_awaited, batch_took}
 use Rattle.log_checker.specs.Checking.{Checked, HasTally, HasBoth}
 use Rattle.log_checker.specs.Taking.{IsBeside, TellsMore}
 use Rattle.log_checker.proofs.CountLaws.{few_commits}
@@ -35,25 +35,25 @@ number_both r next c d count has adds counted pages replaying batches tally =
 
 -- ---- a page
 
-none_before_page : {slots : ℕ} (r next : Reading slots) (cells : List (Cell slots)) (o : Option Tallying) → Adds (Page cells) r next → HasTally r o → o ≡ None
-none_before_page Nothing next cells o adds has = has
-none_before_page (InBase n ps) next cells o adds has = has
-none_before_page (InLog ps bs) next cells o adds has = absurd adds
+none_before_page : {slots : ℕ} (r next : Reading slots) (page : Box (List (Cell slots)) Global) (o : Option Tallying) → Adds (Page page) r next → HasTally r o → o ≡ None
+none_before_page Nothing next page o adds has = has
+none_before_page (InBase n ps) next page o adds has = has
+none_before_page (InLog ps bs) next page o adds has = absurd adds
 
-pub page_awaited_both : {slots : ℕ} (r next : Reading slots) (c : Checked slots) (cells : List (Cell slots)) → HasBoth r c → Adds (Page cells) r next → IsReading next
+pub page_awaited_both : {slots : ℕ} (r next : Reading slots) (c : Checked slots) (page : Box (List (Cell slots)) Global) (cells : List (Cell slots)) → cells ≡ page.value → HasBoth r c → Adds (Page page) r next → IsReading next
     → IsReading (page_next c.gathered cells) × ((c.gathered.replaying ≡ None) × (c.gathered.batches ≡ 0) × (c.tally ≡ None))
-page_awaited_both r next c cells has adds reading =
-    let a = page_awaited r next c.gathered cells has.0 adds reading in
-    (a.0, (a.1.0, a.1.1, none_before_page r next cells c.tally adds has.1))
+page_awaited_both r next c page cells boxed has adds reading =
+    let a = page_awaited r next c.gathered page cells boxed has.0 adds reading in
+    (a.0, (a.1.0, a.1.1, none_before_page r next page c.tally adds has.1))
 
-is_next : {slots : ℕ} (r next : Reading slots) (g : Gathering slots) (cells : List (Cell slots)) → Has r g → Adds (Page cells) r next → next ≡ page_next g cells
-is_next Nothing next g cells has adds = absurd adds
-is_next (InBase n ps) next g cells has adds =
-    adds ∙ ap (λ (k : ℕ). with_page k (ps ++ cells ∷ [])) (sym has.0) ∙ ap (λ l. with_page g.count (l ++ cells ∷ [])) (sym has.1)
-is_next (InLog ps bs) next g cells has adds = absurd adds
+is_next : {slots : ℕ} (r next : Reading slots) (g : Gathering slots) (page : Box (List (Cell slots)) Global) (cells : List (Cell slots)) → cells ≡ page.value → Has r g → Adds (Page page) r next → next ≡ page_next g cells
+is_next Nothing next g page cells boxed has adds = absurd adds
+is_next (InBase n ps) next g page cells boxed has adds =
+    unboxed n ps next page cells boxed adds ∙ ap (λ (k : ℕ). with_page k (ps ++ cells ∷ [])) (sym has.0) ∙ ap (λ l. with_page g.count (l ++ cells ∷ [])) (sym has.1)
+is_next (InLog ps bs) next g page cells boxed has adds = absurd adds
 
-pub page_both : {slots : ℕ} (r next : Reading slots) (c d : Checked slots) (cells : List (Cell slots)) → HasBoth r c → Adds (Page cells) r next → HasBoth (page_next c.gathered cells) d → HasBoth next d
-page_both {slots} r next c d cells has adds took = subst (λ (x : Reading slots). HasBoth x d) (sym (is_next r next c.gathered cells has.0 adds)) took
+pub page_both : {slots : ℕ} (r next : Reading slots) (c d : Checked slots) (page : Box (List (Cell slots)) Global) (cells : List (Cell slots)) → cells ≡ page.value → HasBoth r c → Adds (Page page) r next → HasBoth (page_next c.gathered cells) d → HasBoth next d
+page_both {slots} r next c d page cells boxed has adds took = subst (λ (x : Reading slots). HasBoth x d) (sym (is_next r next c.gathered page cells boxed has.0 adds)) took
 
 -- where pages are missing yet, and where they are all there
 pub both_waits : {slots : ℕ} (pages : List (List (Cell slots))) (count : ℕ) (d : Checked slots) → (length pages == count) ≡ false → d.gathered.count ≡ count → d.gathered.pages ≡ pages

@@ -8,7 +8,8 @@ use Rattle.log_record.specs.declared.record.Record.TheVariants.{OfCells, Image, 
 use Rattle.log_replay.specs.Replays.{Replaying, FitsReplay, IsWithin, after_taking}
 use Rattle.ship_stream.specs.Runs.{RecordRun, AreRecords}
 use Rattle.commit_fold.specs.Tallies.{Tallying, Tells, IsWithinCells}
-use Rattle.log_checker.specs.Taking.{IsBeside, TellsMore}
+use Rattle.standby.specs.Taking.{HasNone}
+use Rattle.log_checker.specs.Taking.{IsBeside, TellsMore, TakesBoth}
 
 -- Of these records the tally told of the first ones, and those are left.
 pub record IsTold {slots : ℕ} (rs : List (Record slots)) (t u : Tallying) (left : RecordRun) : Type 0 where
@@ -41,6 +42,16 @@ pub told_none : {slots : ℕ} (rs : List (Record slots)) (t u : Tallying) (left 
 told_none {slots} rs t u left i none =
     let all : i.done ≡ rs = sym (i.split ∙ ap (λ (l : List (Record slots)). i.done ++ l) none ∙ append-nil i.done) in
     subst (λ (l : List (Record slots)). TellsMore l t u) all i.tells
+
+-- the next one was told
+pub told_takes : {slots : ℕ} (rs : List (Record slots)) (v w : Replaying) (s t u : Tallying) (left next : RecordRun) → IsTold rs s t left → TakesBoth slots v w t u left next → IsTold rs s u next
+told_takes rs v w s t u left next i b =
+    let n = b.taken.next i.later i.are in
+    told_next rs s t u left next b.taken.r i n.0 n.1 n.2 b.told
+
+-- there is none
+pub told_ended : {slots : ℕ} (rs : List (Record slots)) (t u w : Tallying) (left : RecordRun) → IsTold rs t u left → HasNone slots left → w ≡ u → TellsMore rs t w
+told_ended {slots} rs t u w left i none same = subst (λ (x : Tallying). TellsMore rs t x) (sym same) (told_none rs t u left i (none i.later i.are))
 
 -- ---- the tally beside the replay
 

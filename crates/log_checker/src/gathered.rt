@@ -120,8 +120,9 @@ impl<const SLOTS: usize> Gathered<SLOTS> {
         Ok(())
     }
 
-    /// The next batch came.
-    fn take_batch(&mut self, records: Records<SLOTS>) -> Result<(), FeedRefusal>
+    /// The next batch came. Hands its records out again, which are done with.
+    fn take_batch(&mut self, mut records: Records<SLOTS>) -> Result<Records<SLOTS>, FeedRefusal>
+        requires slots { IsSlotCount SLOTS }
         requires there { (v : Replaying) × (t : Tallying) × (self.old.gathered.replaying ≡ Some v) × (self.old.tally ≡ Some t) × IsBeside v t records }
         requires few { self.old.gathered.batches + 1 < 2 ^ 64 }
         ensures took { (v : Replaying) (rs : List (Record SLOTS)) → self.old.gathered.replaying ≡ Some v → AreRecords rs records.entry
@@ -133,10 +134,10 @@ impl<const SLOTS: usize> Gathered<SLOTS> {
     {
         match &mut self.replay {
             Some(replay) => match &mut self.tally {
-                Some(tally) => match take_records(replay, tally, records) {
+                Some(tally) => match take_records(replay, tally, &mut records) {
                     Ok(()) => {
                         self.batches += 1;
-                        Ok(())
+                        Ok(records)
                     }
                     Err(refusal) => Err(refusal),
                 },
@@ -146,10 +147,14 @@ impl<const SLOTS: usize> Gathered<SLOTS> {
         }
     }
 
-    /// The next part came. Its records, if it is a batch, are done to the base and to the fold.
+    /// The next part came. Its records, if it is a batch, are handed out again, done to the base and to the fold.
     ///
     /// [`FeedRefusal::Damaged`] is at the first record that doesn't fit, exactly where there is one.
-    pub(crate) fn take(&mut self, alloc: Global, part: Part<SLOTS>) -> Result<(), FeedRefusal>
+    pub(crate) fn take(
+        &mut self,
+        alloc: Global,
+        part: Part<SLOTS>,
+    ) -> Result<Option<Records<SLOTS>>, FeedRefusal>
         requires slots { IsSlotCount SLOTS }
         requires awaited { Awaits self.old part }
         ensures took { (r next : Reading SLOTS) → HasBoth r self.old → Adds part.entry r next → IsReading next → OnOk result (HasBoth next self.new) }
@@ -158,10 +163,16 @@ impl<const SLOTS: usize> Gathered<SLOTS> {
         match part {
             Part::Pages(count) => {
                 self.count = count;
-                Ok(())
+                Ok(None)
             }
-            Part::Page(page) => self.take_page(alloc, page),
-            Part::Batch { records, .. } => self.take_batch(records),
+            Part::Page(page) => match self.take_page(alloc, Box::into_inner(page)) {
+                Ok(()) => Ok(None),
+                Err(refusal) => Err(refusal),
+            },
+            Part::Batch { records, .. } => match self.take_batch(records) {
+                Ok(records) => Ok(Some(records)),
+                Err(refusal) => Err(refusal),
+            },
         }
     }
 }

@@ -16,7 +16,7 @@ use standby_feeding::FeedFault;
 use std::alloc::Global;
 
 /// How many bytes are asked of the source at a time.
-const PIECE: usize = 4096;
+const PIECE: usize = 65_536;
 
 /// What is known of a stream after a piece of it.
 #[derive(Clone, Copy, Debug, PartialEq, Eq)]

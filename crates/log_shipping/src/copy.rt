@@ -11,7 +11,7 @@ use outside_io::Sink;
 use script_lines::write_all;
 
 /// How many bytes are read and written at a time.
-const PIECE: usize = 4096;
+const PIECE: usize = 65_536;
 
 /// Why not all bytes were copied.
 #[derive(Clone, Copy, Debug, PartialEq, Eq)]

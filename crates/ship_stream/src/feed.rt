@@ -159,6 +159,15 @@ impl<const SLOTS: usize> Feed<SLOTS> {
         }
     }
 
+    /// Takes the memory of records that are done with, for what is kept of the next part. Else nothing changes.
+    pub fn reuse(&mut self, records: Records<SLOTS>)
+        ensures { self.new ≡ self.old }
+    {
+        if self.held.is_empty() {
+            self.held = records.into_room();
+        }
+    }
+
     /// Takes bytes from the front of the piece up to the one with which a part is whole, and hands the part out, or all of them.
     /// A batch is whole with the commit byte after it.
     ///
@@ -235,12 +244,17 @@ impl<const SLOTS: usize> Feed<SLOTS> {
     {
         let number = self.whole;
         let len = Page::<SLOTS>::encoded_len();
+        let before = self.held.len();
         let taken = fill(&mut self.held, len, piece)?;
         if self.held.len() < len {
             return Ok((taken, None));
         }
         match Page::decode(number, &self.held) {
             Ok(page) => {
+                let Ok(page) = Box::new(self.alloc, page) else {
+                    self.held.truncate(before);
+                    return Err(FeedRefusal::Memory);
+                };
                 self.held.clear();
                 self.stage = stage_behind(number, self.count);
                 self.whole = number + 1;

@@ -1,5 +1,5 @@
 -- What is made of the stream, one part more.
-use Rattle.std.proofs.Common.{◌≡◌, ℕ, ◌+◌, ◌<◌, ◌≤◌, ◌^◌, List, [], ◌∷◌, ◌++◌, length, Some, None, Result, Ok, Err, sym, ap, subst, ◌∙◌, arith, append_assoc, length-append}
+use Rattle.std.proofs.Common.{◌≡◌, ℕ, ◌+◌, ◌<◌, ◌≤◌, ◌^◌, List, [], ◌∷◌, ◌++◌, length, Some, None, Result, Ok, Err, Box, Global, sym, ap, subst, ◌∙◌, arith, append_assoc, length-append}
 use Rattle.std.specs.Prelude.{OnOk}
 use Rattle.std.proofs.lemmas.List.{append-nil}
 use Rattle.cell_page.specs.declared.cell.Cell.{Cell}
@@ -39,16 +39,21 @@ page_next g cells = with_page g.count (g.pages ++ cells ∷ [])
 is_page_next : {slots : ℕ} (n : ℕ) (ps : List (List (Cell slots))) (g : Gathering slots) (cells : List (Cell slots)) → g.count ≡ n → g.pages ≡ ps → with_page n (ps ++ cells ∷ []) ≡ page_next g cells
 is_page_next n ps g cells count pages = ap (λ (k : ℕ). with_page k (ps ++ cells ∷ [])) (sym count) ∙ ap (λ l. with_page g.count (l ++ cells ∷ [])) (sym pages)
 
-pub page_awaited : {slots : ℕ} (r next : Reading slots) (g : Gathering slots) (cells : List (Cell slots)) → Has r g → Adds (Page cells) r next → IsReading next
-    → IsReading (page_next g cells) × ((g.replaying ≡ None) × (g.batches ≡ 0))
-page_awaited Nothing next g cells has adds reading = absurd adds
-page_awaited (InBase n ps) next g cells has adds reading = (subst (λ r. IsReading r) (adds ∙ is_page_next n ps g cells has.0 has.1) reading, (has.2, has.3))
-page_awaited (InLog ps bs) next g cells has adds reading = absurd adds
+-- out of its box
+pub unboxed : {slots : ℕ} (n : ℕ) (ps : List (List (Cell slots))) (next : Reading slots) (page : Box (List (Cell slots)) Global) (cells : List (Cell slots)) → cells ≡ page.value
+    → next ≡ with_page n (ps ++ page.value ∷ []) → next ≡ with_page n (ps ++ cells ∷ [])
+unboxed n ps next page cells boxed is = is ∙ ap (λ l. with_page n (ps ++ l ∷ [])) (sym boxed)
 
-pub has_page : {slots : ℕ} (r next : Reading slots) (g h : Gathering slots) (cells : List (Cell slots)) → Has r g → Adds (Page cells) r next → Has (page_next g cells) h → Has next h
-has_page Nothing next g h cells has adds took = absurd adds
-has_page (InBase n ps) next g h cells has adds took = subst (λ r. Has r h) (sym (adds ∙ is_page_next n ps g cells has.0 has.1)) took
-has_page (InLog ps bs) next g h cells has adds took = absurd adds
+pub page_awaited : {slots : ℕ} (r next : Reading slots) (g : Gathering slots) (page : Box (List (Cell slots)) Global) (cells : List (Cell slots)) → cells ≡ page.value → Has r g → Adds (Page page) r next → IsReading next
+    → IsReading (page_next g cells) × ((g.replaying ≡ None) × (g.batches ≡ 0))
+page_awaited Nothing next g page cells boxed has adds reading = absurd adds
+page_awaited (InBase n ps) next g page cells boxed has adds reading = (subst (λ r. IsReading r) (unboxed n ps next page cells boxed adds ∙ is_page_next n ps g cells has.0 has.1) reading, (has.2, has.3))
+page_awaited (InLog ps bs) next g page cells boxed has adds reading = absurd adds
+
+pub has_page : {slots : ℕ} (r next : Reading slots) (g h : Gathering slots) (page : Box (List (Cell slots)) Global) (cells : List (Cell slots)) → cells ≡ page.value → Has r g → Adds (Page page) r next → Has (page_next g cells) h → Has next h
+has_page Nothing next g h page cells boxed has adds took = absurd adds
+has_page (InBase n ps) next g h page cells boxed has adds took = subst (λ r. Has r h) (sym (unboxed n ps next page cells boxed adds ∙ is_page_next n ps g cells has.0 has.1)) took
+has_page (InLog ps bs) next g h page cells boxed has adds took = absurd adds
 
 -- ---- a batch
 

@@ -9,6 +9,7 @@ use Rattle.opened_images.specs.LogRecords.{all_of}
 use Rattle.ship_stream.specs.Runs.{RecordRun, AreRecords}
 use Rattle.ship_stream.specs.Reading.{InLog}
 use Rattle.standby.specs.Following.{AllFit, after_all, over_base, base_after, StopsFitting, Gathering, Has}
+use Rattle.standby.specs.Taking.{TakesNext, StopsNext, HasNone}
 
 -- What is left of these records: what holds of it here holds of them all there.
 pub record IsLeft {slots : ℕ} (rs : List (Record slots)) (v : Replaying) (at : ℕ) (w : Replaying) (left : RecordRun) : Type 0 where
@@ -39,6 +40,24 @@ left_stops rs v at w left r i later split none = i.stop left.at (subst (λ l. St
 
 pub left_none : {slots : ℕ} (rs : List (Record slots)) (v : Replaying) (at : ℕ) (w : Replaying) (left : RecordRun) (i : IsLeft rs v at w left) → i.later ≡ [] → AllFit v rs × (w ≡ after_all v rs)
 left_none rs v at w left i none = (i.fit (subst (λ l. AllFit w l) (sym none) tt), ap (λ l. after_all w l) (sym none) ∙ i.lead)
+
+-- the next one was done
+pub left_takes : {slots : ℕ} (rs : List (Record slots)) (v : Replaying) (at : ℕ) (w u : Replaying) (left next : RecordRun) → IsLeft rs v at w left → TakesNext slots w u left next → IsLeft rs v at u next
+left_takes rs v at w u left next i t =
+    let n = t.next i.later i.are in
+    left_next rs v at w u left next t.r i n.0 n.1 n.2 t.place t.fits t.took
+
+-- it doesn't fit
+pub left_unfit : {slots : ℕ} (rs : List (Record slots)) (v : Replaying) (at place : ℕ) (w : Replaying) (left : RecordRun) → IsLeft rs v at w left → StopsNext slots w left place → StopsFitting v rs at place
+left_unfit rs v at place w left i s =
+    let n = s.next i.later i.are in
+    subst (λ (k : ℕ). StopsFitting v rs at k) (sym n.2) (left_stops rs v at w left s.r i n.0 n.1 s.unfit)
+
+-- there is none
+pub left_ended : {slots : ℕ} (rs : List (Record slots)) (v : Replaying) (at : ℕ) (w u : Replaying) (left : RecordRun) → IsLeft rs v at w left → HasNone slots left → u ≡ w → AllFit v rs × (u ≡ after_all v rs)
+left_ended rs v at w u left i none same =
+    let all = left_none rs v at w left i (none i.later i.are) in
+    (all.0, same ∙ all.1)
 
 -- ---- one batch more
 

@@ -99,8 +99,9 @@ impl<const SLOTS: usize> Gathered<SLOTS> {
         Ok(())
     }
 
-    /// The next batch came.
-    fn take_batch(&mut self, records: Records<SLOTS>) -> Result<(), FeedRefusal>
+    /// The next batch came. Hands its records out again, which are done with.
+    fn take_batch(&mut self, mut records: Records<SLOTS>) -> Result<Records<SLOTS>, FeedRefusal>
+        requires slots { IsSlotCount SLOTS }
         requires there { (v : Replaying) × (self.old.replaying ≡ Some v) }
         requires few { self.old.batches + 1 < 2 ^ 64 }
         ensures took { (v : Replaying) (rs : List (Record SLOTS)) → self.old.replaying ≡ Some v → AreRecords rs records.entry
@@ -109,10 +110,10 @@ impl<const SLOTS: usize> Gathered<SLOTS> {
             → StopsFitting v rs records.entry.at at }
     {
         match &mut self.replay {
-            Some(replay) => match take_records(replay, records) {
+            Some(replay) => match take_records(replay, &mut records) {
                 Ok(()) => {
                     self.batches += 1;
-                    Ok(())
+                    Ok(records)
                 }
                 Err(refusal) => Err(refusal),
             },
@@ -120,10 +121,14 @@ impl<const SLOTS: usize> Gathered<SLOTS> {
         }
     }
 
-    /// The next part came. Its records, if it is a batch, are done to the base.
+    /// The next part came. Its records, if it is a batch, are handed out again, done to the base.
     ///
     /// [`FeedRefusal::Damaged`] is at the first record that doesn't fit, exactly where there is one.
-    pub(crate) fn take(&mut self, alloc: Global, part: Part<SLOTS>) -> Result<(), FeedRefusal>
+    pub(crate) fn take(
+        &mut self,
+        alloc: Global,
+        part: Part<SLOTS>,
+    ) -> Result<Option<Records<SLOTS>>, FeedRefusal>
         requires slots { IsSlotCount SLOTS }
         requires awaited { Awaits self.old part }
         ensures took { (r next : Reading SLOTS) → Has r self.old → Adds part.entry r next → IsReading next → OnOk result (Has next self.new) }
@@ -132,10 +137,16 @@ impl<const SLOTS: usize> Gathered<SLOTS> {
         match part {
             Part::Pages(count) => {
                 self.count = count;
-                Ok(())
+                Ok(None)
             }
-            Part::Page(page) => self.take_page(alloc, page),
-            Part::Batch { records, .. } => self.take_batch(records),
+            Part::Page(page) => match self.take_page(alloc, Box::into_inner(page)) {
+                Ok(()) => Ok(None),
+                Err(refusal) => Err(refusal),
+            },
+            Part::Batch { records, .. } => match self.take_batch(records) {
+                Ok(records) => Ok(Some(records)),
+                Err(refusal) => Err(refusal),
+            },
         }
     }
 }

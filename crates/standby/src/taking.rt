@@ -8,8 +8,17 @@ ghost use Rattle.standby.specs.Damage.{IsDamagedAt};
 ghost use Rattle.standby.specs.Feeds.{HasRead, IsFedWith};
 
 use crate::gathered::Gathered;
-use ship_stream::{Feed, FeedRefusal};
+use ship_stream::{Feed, FeedRefusal, Records};
 use std::alloc::Global;
+
+/// Gives the reader the memory of records that are done with, if there are some.
+fn reuse<const SLOTS: usize>(feed: &mut Feed<SLOTS>, done: Option<Records<SLOTS>>)
+    ensures { feed.new ≡ feed.old }
+{
+    if let Some(records) = done {
+        feed.reuse(records);
+    }
+}
 
 /// Takes the next part from the front of the piece. Tells how many bytes it took, or nothing where it took them all and no part came
 /// whole.
@@ -30,7 +39,10 @@ fn take_part<const SLOTS: usize>(
 {
     match feed.next(piece) {
         Ok((taken, Some(part))) => match gathered.take(alloc, part) {
-            Ok(()) => Ok(Some(taken)),
+            Ok(done) => {
+                reuse(feed, done);
+                Ok(Some(taken))
+            }
             Err(refusal) => Err(refusal),
         },
         Ok((_, None)) => Ok(None),

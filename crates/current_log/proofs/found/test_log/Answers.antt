@@ -16,3 +16,9 @@ returns-clause-refused g c =
 
 pub returns-clause-looks : goal.returns-clause-looks
 returns-clause-looks g c = and_look g.D.Disk.content c.test_first.ensures.looks c.test_batches.ensures.looks
+
+pub test_first-requires-clause-window : goal.test_first-requires-clause-window
+test_first-requires-clause-window g c κs within = c.new-window.ensures (g.D.Disk.content c.args.disk.now c.args.area)
+
+pub returns-in-Ok-test_batches-clause-looks : goal.returns-in-Ok-test_batches-clause-looks
+returns-in-Ok-test_batches-clause-looks g c = and_look g.D.Disk.content c.test_first.ensures.looks c.test_batches.ensures.looks

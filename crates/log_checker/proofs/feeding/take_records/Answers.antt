@@ -1,18 +1,21 @@
-use Rattle.standby.proofs.RecordLaws.{left_first, left_next, left_none, left_stops}
-use Rattle.log_checker.proofs.RecordLaws.{told_first, told_next, told_none, within_cells, beside_next, took_one}
+use Rattle.std.proofs.Common.{rules}
+use Rattle.ship_stream.specs.declared.refusal.FeedRefusal.TheVariants.{Damaged}
+use Rattle.standby.proofs.Results.{same_error}
+use Rattle.standby.proofs.RecordLaws.{left_first, left_takes, left_unfit, left_ended}
+use Rattle.log_checker.proofs.RecordLaws.{told_first, told_takes, told_ended}
 use Rattle.log_checker.proofs.feeding.take_records.Goals as goal
 
 pub records-preserved : goal.records-preserved
-records-preserved g c = record {
-  left = λ rs are.
-      let i = c.records.invariant.left rs are in
-      let next = c.in-Some.ensures.next i.later i.are in
-      left_next rs c.args.replay.now c.args.records.at c.records.replay c.take.new.self c.records.records c.next.new.self c.in-Some.rec i next.0 next.1 next.2 c.in-Some.ensures.place
-      (c.in-Ok.ensures.unfit.0 (λ is. cc is)) c.in-Ok.ensures.ok;
-  told = λ rs are.
-      let i = c.records.invariant.told rs are in
-      let next = c.in-Some.ensures.next i.later i.are in
-      told_next rs c.args.tally.now c.records.tally c.take-in-Some.new.self c.records.records c.next.new.self c.in-Some.rec i next.0 next.1 next.2 c.in-Ok-take.ensures.told;
-  beside = beside_next c.records.replay c.take.new.self c.records.tally c.take-in-Some.new.self c.records.records c.next.new.self c.in-Some.rec c.in-Ok.ensures.ok c.take-in-Some.ensures.sized c.take-in-Some.ensures.counted
-      c.in-Some.ensures.fewer c.records.invariant.beside;
-}
+records-preserved g c =
+    let b = c.in-Ok-true.ensures.took (search rules) in
+    record {
+      left = λ rs are.
+          left_takes rs c.args.replay.now c.args.records.now.at c.records.replay c.take_next.new.replay c.records.records c.take_next.new.records (c.records.invariant.left rs are) b.taken;
+      told = λ rs are.
+          told_takes rs c.records.replay c.take_next.new.replay c.args.tally.now c.records.tally c.take_next.new.tally c.records.records c.take_next.new.records (c.records.invariant.told rs are) b;
+      beside = b.beside;
+    }
+
+pub returns-in-Err-clause-damaged : goal.returns-in-Err-clause-damaged
+returns-in-Err-clause-damaged g c rs are at is =
+    left_unfit rs c.args.replay.now c.args.records.now.at at c.records.replay c.records.records (c.records.invariant.left rs are) (c.in-Err.ensures.damaged at (same_error c.in-Err.refusal (Damaged at) is))

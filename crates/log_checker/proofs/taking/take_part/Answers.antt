@@ -1,4 +1,7 @@
-use Rattle.std.proofs.Common.{◌≤◌, rules, arith, ⊎_elim}
+use Rattle.std.proofs.Common.{◌≤◌, ◌++◌, take, sym, subst, rules, arith, ⊎_elim}
+use Rattle.ship_stream.specs.Reading.{Reading}
+use Rattle.ship_stream.specs.Feeding.{Feeding}
+use Rattle.log_checker.specs.Checking.{IsReadInto}
 use Rattle.ship_stream.specs.declared.refusal.FeedRefusal.TheVariants.{Damaged}
 use Rattle.standby.proofs.Results.{same_error}
 use Rattle.log_checker.proofs.TakingLaws.{awaited, one_part, all_taken, damage_found, unfit_found}
@@ -11,13 +14,15 @@ take-requires g c =
     let s = c.in-Ok-default-Some in
     let takes = takes_part c.args.feed.now c.next.new.self c.args.piece.now s.taken s.field-0-1 s.part s.field-0-1-is s.ensures.takes in
     let reads = c.requires.reads in
-    (search rules, (search rules, (c.requires.slots, awaited reads.0 reads.1 c.args.piece.now c.args.feed.now c.next.new.self c.args.gathered.now s.taken s.part takes reads.2)))
+    (search rules, (search rules, (search rules, (c.requires.slots, awaited reads.0 reads.1 c.args.piece.now c.args.feed.now c.next.new.self c.args.gathered.now s.taken s.part takes reads.2))))
 
 pub returns-in-Ok-clause-more : goal.returns-in-Ok-clause-more
 returns-in-Ok-clause-more g c =
     let s = c.in-Ok-default-Some in
     let takes = takes_part c.args.feed.now c.next.new.self c.args.piece.now s.taken s.field-0-1 s.part s.field-0-1-is s.ensures.takes in
-    one_part c.args.piece.now c.args.feed.now c.next.new.self c.args.gathered.now c.take.new.self s.taken s.part takes c.in-Ok.ensures.took
+    let more = one_part c.args.piece.now c.args.feed.now c.next.new.self c.args.gathered.now c.take.new.self s.taken s.part takes c.in-Ok.ensures.took in
+    λ r bytes i.
+    subst (λ (f : Feeding). (next : Reading g.row.SLOTS) × IsReadInto next (bytes ++ take s.taken c.args.piece.now) f c.take.new.self) (sym c.reuse.ensures) (more r bytes i)
 
 pub returns-in-Err-take-clause-damaged : goal.returns-in-Err-take-clause-damaged
 returns-in-Err-take-clause-damaged g c =

@@ -1,0 +1,22 @@
+use Rattle.std.proofs.Common.{◌≡◌, Err, ap, sym, ◌∙◌}
+use Rattle.log_record.specs.declared.record.Record.TheVariants.{OfCells}
+use Rattle.standby.proofs.feeding.take_next.Goals as goal
+
+pub returns-in-Ok-clause-took : goal.returns-in-Ok-clause-took
+returns-in-Ok-clause-took g c is = record {
+  r = OfCells c.in-Some.rec;
+  next = λ rs are. let n = c.in-Some.ensures.next rs are in (n.0, n.1, n.2);
+  place = c.in-Some.ensures.place;
+  fewer = c.in-Some.ensures.fewer;
+  fits = c.in-Ok.ensures.unfit.0 (λ e. cc e);
+  took = c.in-Ok.ensures.ok;
+}
+
+pub returns-in-Err-Unfit-clause-damaged : goal.returns-in-Err-Unfit-clause-damaged
+returns-in-Err-Unfit-clause-damaged g c at is =
+    let same : c.in-Some.at ≡ at = cc is in
+    record {
+      r = OfCells c.in-Some.rec;
+      next = λ rs are. let n = c.in-Some.ensures.next rs are in (n.0, n.1, sym same ∙ n.3);
+      unfit = λ fits. c.in-Err-Unfit.ensures.unfit.1 fits (ap Err c.in-Err-Unfit.field-0-is);
+    }

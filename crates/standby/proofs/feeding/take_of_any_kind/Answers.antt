@@ -1,0 +1,31 @@
+use Rattle.std.proofs.Common.{◌≡◌, ◌≤◌, Err, ap, sym, ◌∙◌, rules, arith, ⊎_elim}
+use Rattle.standby.proofs.feeding.take_of_any_kind.Goals as goal
+
+pub returns-in-Ok-clause-took : goal.returns-in-Ok-clause-took
+returns-in-Ok-clause-took g c is = record {
+  r = c.in-Some.rec;
+  next = λ rs are. let n = c.in-Some.ensures.next rs are in (n.0, n.1, n.2);
+  place = c.in-Some.ensures.place;
+  fewer = c.in-Some.ensures.fewer;
+  fits = c.in-Ok.ensures.unfit.0 (λ e. cc e);
+  took = c.in-Ok.ensures.ok;
+}
+
+pub next-requires : goal.next-requires
+next-requires g c =
+    let small : g.row.SLOTS ≤ 14 = ⊎_elim (λ six. omega arith) (λ fourteen. omega arith) c.requires.count in
+    (search rules, search rules)
+
+pub take-requires : goal.take-requires
+take-requires g c =
+    let small : g.row.SLOTS ≤ 14 = ⊎_elim (λ six. omega arith) (λ fourteen. omega arith) c.requires.count in
+    (search rules, (search rules, c.in-Some.ensures.spelled))
+
+pub returns-in-Err-Unfit-clause-damaged : goal.returns-in-Err-Unfit-clause-damaged
+returns-in-Err-Unfit-clause-damaged g c at is =
+    let same : c.in-Some.at ≡ at = cc is in
+    record {
+      r = c.in-Some.rec;
+      next = λ rs are. let n = c.in-Some.ensures.next rs are in (n.0, n.1, sym same ∙ n.3);
+      unfit = λ fits. c.in-Err-Unfit.ensures.unfit.1 fits (ap Err c.in-Err-Unfit.field-0-is);
+    }
