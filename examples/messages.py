@@ -208,6 +208,22 @@ def checks(it):
         it.tell("files after checks", [], os.listdir(it.disk))
 
 
+def maps(it):
+    """Lines that ask nothing of a map, and a store that keeps none."""
+    it.fresh()
+    it.expect("map now", it.run("map", "now"), 2, "usage", "map takes no further words")
+    for line in ("set 5 6", "put 5", "put 18446744073709551616 1", "get", "del 5 6", "list 3", "crash 4294967296"):
+        it.expect(line, it.run("map", text=f"put 1 2\n{line}\n"), 3, "refused: line 2", f"line 2, `{line}`, asks nothing of a map", "a line is put K V", "go on with it")
+    it.expect("long line of a map", it.run("map", text="#" * 129), 3, "refused: line 1", "more than 128 bytes")
+    folder = os.open(it.disk, os.O_RDONLY)
+    it.expect("input of a map", it.run("map", stdin=folder), 4, "refused: read", "standard input could not be read", "give the rest")
+    os.close(folder)
+    with open("/dev/full", "wb") as full:
+        it.expect("output of a map", it.run("map", text="put 1 2\n", stdout=full), 5, "", "standard output could not be written", "look before")
+    it.run("replay", text="1 begin\n1 store 0 13 0\n1 commit\n")
+    it.expect("no map", it.run("map"), 7, "refused: object 1 map", "keeps no map", "object 1 is the first", "all other commands open the store")
+
+
 def streams(it):
     """The input can't be read, or the output not written."""
     it.fresh()
@@ -360,7 +376,7 @@ def terminals(it):
         it.tell("turn at a terminal", "progress", (found[0], found[2]))
 
 
-ALL = (words, lines, limits, openings, standbys, checks, streams, disks, rights, full_disk, quiet, terminals)
+ALL = (words, lines, limits, openings, standbys, checks, maps, streams, disks, rights, full_disk, quiet, terminals)
 
 
 def main():

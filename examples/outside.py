@@ -26,7 +26,7 @@ from places import PAGE, places
 HERE = os.path.dirname(os.path.abspath(__file__))
 BENCH = os.path.join(HERE, "..", "bench")
 GENERATED = ["gen", "--seed", "1", "--clients", "1", "--txns", "1"]
-COMMANDS = (["init", "2"], ["replay"], ["run"], ["audit"], ["migrate"], ["backup"], ["ship"], ["log"], ["standby"], GENERATED, ["nothing"])
+COMMANDS = (["init", "2"], ["replay"], ["run"], ["audit"], ["migrate"], ["backup"], ["ship"], ["log"], ["standby"], ["map"], GENERATED, ["nothing"])
 
 # A copy of the process is made before its first data sync, and holds what it holds until it is ended.
 FORKS = r"""
@@ -100,8 +100,8 @@ def streams(attacks):
             wanted = 0
             if words == ["nothing"]:
                 wanted = USAGE
-            elif words == ["standby"]:
-                # The script is no stream. The last line of a refusal is told as far as it can be.
+            elif words[0] in ("standby", "map"):
+                # The script is no stream, and no line of a map. The last line of a refusal is told as far as it can be.
                 wanted = INPUT if 0 in closed else REFUSED
             elif 0 in closed and words[0] in ("replay", "run"):
                 wanted = INPUT
@@ -163,7 +163,7 @@ def locks(attacks):
     attacks.fresh()
     first = attacks.hold()
     before = attacks.held()
-    for words in (["init", "2"], ["replay"], ["run"], ["audit"], ["migrate"], ["backup"], ["ship"], ["log"], ["standby"], GENERATED):
+    for words in (["init", "2"], ["replay"], ["run"], ["audit"], ["migrate"], ["backup"], ["ship"], ["log"], ["standby"], ["map"], GENERATED):
         attacks.expect_refused("%s beside a run" % words[0], attacks.run(words))
     attacks.expect("files beside a run", before, attacks.held())
     attacks.tell(first, one(3), 3)
@@ -273,6 +273,22 @@ def killed(attacks):
         held.kill()
         rest = attacks.end(held)[1]
         attacks.expect_last("killed behind %d commits" % count, *range(2 + count + rest.count(b"commit: ok\n"), 40))
+
+
+def killed_map(attacks):
+    """A run over a map is killed behind so many lines that it answered: the map has their pairs, or some more of those that were asked."""
+    pairs = [(key, key + 7) for key in range(1, 10)]
+    kept = [b"list:%s\nkeys %d\n" % (b"".join(b" %d=%d" % it for it in pairs[:count]), count) for count in range(10)]
+    for count in (1, 3, 5, 8):
+        attacks.fresh()
+        attacks.count += 1
+        held = subprocess.Popen([attacks.program, "map"], stdin=subprocess.PIPE, stdout=subprocess.PIPE, stderr=subprocess.DEVNULL, cwd=attacks.disk)
+        attacks.tell(held, b"".join(b"put %d %d\n" % it for it in pairs), count)
+        held.kill()
+        least = count + attacks.end(held)[1].count(b"put: new\n")
+        found = attacks.run(["map"], b"list\n")[1]
+        attacks.expect("map killed behind %d lines, %r" % (count, found), True, found in kept[least:])
+        attacks.expect_last("map killed behind %d lines" % count, 2)
 
 
 def few_descriptors(attacks):
@@ -471,7 +487,7 @@ def benches(attacks):
             print("%s:\n%s" % (name, done.stdout.decode(errors="replace")))
 
 
-ALL = (streams, descriptors, places, asked, locks, killed, many_at_once, copies, few_descriptors, odd_files, rights, moved_files, file_sizes, stacks, full_disks, broken_pipes, benches)
+ALL = (streams, descriptors, places, asked, locks, killed, killed_map, many_at_once, copies, few_descriptors, odd_files, rights, moved_files, file_sizes, stacks, full_disks, broken_pipes, benches)
 
 
 def in_memory():

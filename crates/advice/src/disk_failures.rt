@@ -99,6 +99,9 @@ pub(crate) fn explain_disk<P: Eprint>(err: &P, known: &Known<'_>) {
         Doing::Init | Doing::Standby => eprintln!(err;
             "brahma: there may be no store now; look at the disk, and make it again"
         ),
+        Doing::Map => eprintln!(err;
+            "brahma: each line that was answered stays; the next one may be done or not. Look at the disk, and run again"
+        ),
         _ => {
             eprintln!(err;
                 "brahma: each commit answered ok stays; one answered fault may be there or not. Look at the disk, and run again"

@@ -2,7 +2,7 @@
 use crate::disk_failures::{explain_disk, explain_memory};
 use crate::latest::Latest;
 use crate::openings::{
-    explain_log, explain_no_store, explain_object, explain_page, explain_version,
+    explain_log, explain_no_map, explain_no_store, explain_object, explain_page, explain_version,
 };
 use crate::refusal::Refusal;
 use crate::refused_line::explain_line;
@@ -23,6 +23,8 @@ pub enum Doing {
     Standby,
     /// `check`.
     Check,
+    /// `map`.
+    Map,
     /// Another one.
     Other,
 }
@@ -53,7 +55,7 @@ pub fn explain_usage<P: Eprint>(err: &P, word: &str) {
         "gen" => eprintln!(err;
             "brahma: gen takes --seed S, below 2^64, --clients C, 1 to 64, and --txns T, 0 to 1000, each once; C times T is at most 2000"
         ),
-        "replay" | "run" | "audit" | "standby" | "check" => eprintln!(err;
+        "replay" | "run" | "audit" | "standby" | "check" | "map" => eprintln!(err;
             "brahma: {word} takes no further words"
         ),
         _ => eprintln!(err;
@@ -75,6 +77,9 @@ fn explain_read<P: Eprint>(err: &P, doing: Doing) {
         Doing::Standby | Doing::Check => {
             eprintln!(err; "brahma: the files were left as they are")
         }
+        Doing::Map => eprintln!(err;
+            "brahma: the whole lines before that were done, and each is committed; give the rest"
+        ),
         _ => eprintln!(err;
             "brahma: the whole lines before that were done; the next opening undoes what they left open. Go on from the first open begin"
         ),
@@ -92,17 +97,18 @@ fn explain_trace<P: Eprint>(err: &P) {
 }
 
 /// Says that the log is full.
-fn explain_log_full<P: Eprint>(err: &P, pages: Option<usize>) {
+fn explain_log_full<P: Eprint>(err: &P, known: &Known<'_>) {
     let _ = eprintln!(err;
         "brahma: the log is full: 1071644672 bytes, with what open transactions may still need"
     );
-    let _ = match pages {
-        Some(_) => {
-            eprintln!(err;
-                "brahma: each commit answered ok stays; run again with `turn` as the first line, which begins the log anew, and then the rest"
-            )
-        }
-        None => eprintln!(err;
+    let _ = match (known.pages, known.doing) {
+        (Some(_), Doing::Map) => eprintln!(err;
+            "brahma: each line that was answered stays; `echo turn | ./brahma replay` begins the log anew, and then give the rest"
+        ),
+        (Some(_), _) => eprintln!(err;
+            "brahma: each commit answered ok stays; run again with `turn` as the first line, which begins the log anew, and then the rest"
+        ),
+        (None, _) => eprintln!(err;
             "brahma: it has no room for the undo of what had not ended, so another program wrote it; lay a copy of all four files back"
         ),
     };
@@ -136,9 +142,10 @@ pub fn explain<P: Eprint>(err: &P, known: &Known<'_>) {
             Doing::Standby | Doing::Check => explain_made(err, id, rule),
             _ => explain_object(err, id, rule),
         },
+        Some(Refusal::NoMap { id }) => explain_no_map(err, id),
         Some(Refusal::Stream { at }) => explain_stream(err, at),
         Some(Refusal::Memory) => explain_memory(err),
         Some(Refusal::Trace) => explain_trace(err),
-        Some(Refusal::LogFull) => explain_log_full(err, known.pages),
+        Some(Refusal::LogFull) => explain_log_full(err, known),
     }
 }

@@ -13,15 +13,9 @@ pub struct Latest {
     ghost within: { len ≤ 4096 },
 }
 
-/// How many lines end in the bytes.
+/// How many lines end in the bytes. Each byte of a stream passes here, so nothing is done but to count.
 fn ends_in(bytes: &[u8]) -> u64 {
-    let mut count: u64 = 0;
-    for byte in bytes {
-        if *byte == b'\n' {
-            count = count.saturating_add(1);
-        }
-    }
-    count
+    bytes.iter().filter(|byte| **byte == b'\n').count() as u64
 }
 
 impl Latest {

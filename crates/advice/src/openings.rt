@@ -73,3 +73,13 @@ pub(crate) fn explain_object<P: Eprint>(err: &P, id: u64, rule: u64) {
     );
     say_copy(err);
 }
+
+/// Says that an object breaks the map that the store is to keep.
+pub(crate) fn explain_no_map<P: Eprint>(err: &P, id: u64) {
+    let _ = eprintln!(err;
+        "brahma: the store keeps no map: slot 13 of the root leads to objects that are none, and object {id} is the first that breaks it"
+    );
+    let _ = eprintln!(err;
+        "brahma: no line was done; all other commands open the store, and docs/EMBEDDING.md says which objects make a map"
+    );
+}

@@ -29,6 +29,8 @@ pub enum Refusal {
     Log { log: Log, at: u64 },
     /// `refused: object I rule R`.
     Object { id: u64, rule: u64 },
+    /// `refused: object I map`.
+    NoMap { id: u64 },
     /// `refused: stream at O`.
     Stream { at: u64 },
     /// `refused: memory`.
@@ -65,6 +67,17 @@ fn log_of(word: &[u8]) -> Option<Log> {
     }
 }
 
+/// What is refused of an object, by the words after its id.
+fn of_object(id: u64, behind: &[u8]) -> Option<Refusal> {
+    match next_word(behind).0 {
+        b"map" => Some(Refusal::NoMap { id }),
+        _ => Some(Refusal::Object {
+            id,
+            rule: number_behind(b"rule", behind)?,
+        }),
+    }
+}
+
 /// What is refused, by the words after `refused: `, where numbers stand among them.
 fn with_numbers(words: &[u8]) -> Option<Refusal> {
     let (kind, behind) = next_word(words);
@@ -80,10 +93,7 @@ fn with_numbers(words: &[u8]) -> Option<Refusal> {
             log: log_of(what)?,
             at: number_behind(b"at", rest)?,
         }),
-        b"object" => Some(Refusal::Object {
-            id: seed_of(what)?,
-            rule: number_behind(b"rule", rest)?,
-        }),
+        b"object" => of_object(seed_of(what)?, rest),
         b"stream" => Some(Refusal::Stream {
             at: number_behind(b"at", behind)?,
         }),

@@ -103,6 +103,16 @@ fn say_out_of_place<P: Eprint>(err: &P, number: u64, line: &[u8], known: &Known<
     }
 }
 
+/// Shows a line that asks nothing of a map, and says which lines do.
+fn say_no_map_line<P: Eprint>(err: &P, number: u64, line: &[u8]) {
+    let text = shown(line);
+    let text = text.as_str();
+    let _ = eprintln!(err; "brahma: line {number}, `{text}`, asks nothing of a map");
+    let _ = eprintln!(err;
+        "brahma: a line is put K V, get K, del K, list or crash K; numbers are below 2^64, that of crash below 2^32"
+    );
+}
+
 /// Says that a line is too long, with its front.
 fn say_too_long<P: Eprint>(err: &P, number: u64, line: &[u8]) {
     let front = shown(line.get(..SHOWN_OF_LONG).unwrap_or(line));
@@ -124,6 +134,10 @@ fn say_why<P: Eprint>(err: &P, number: u64, line: &[u8], known: &Known<'_>) {
         say_too_long(err, number, line);
         return;
     }
+    if matches!(known.doing, Doing::Map) {
+        say_no_map_line(err, number, line);
+        return;
+    }
     match fault_in(line) {
         Some(fault) => say_fault(err, number, line, fault.index, fault.expected),
         None => say_out_of_place(err, number, line, known),
@@ -138,6 +152,9 @@ pub(crate) fn explain_line<P: Eprint>(err: &P, number: u64, known: &Known<'_>) {
     let _ = match known.doing {
         Doing::Run => eprintln!(err;
             "brahma: nothing of the script was done; mend the line, and run it again"
+        ),
+        Doing::Map => eprintln!(err;
+            "brahma: the lines before it were done, and each is committed; mend it, and go on with it"
         ),
         _ => {
             eprintln!(err;

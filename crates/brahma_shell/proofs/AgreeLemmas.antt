@@ -10,8 +10,8 @@ use Rattle.plain_model.specs.declared.calls.Reply.{Reply}
 use Rattle.plain_model.specs.declared.calls.Entry.{Entry}
 use Rattle.plain_model.specs.declared.calls.Entry.TheVariants as entry
 use Rattle.plain_model.specs.ActiveTransaction.{ActiveTransaction}
-use Rattle.plain_model.specs.Machine.{State, transaction_of, step, success, new_transaction, with_transaction, without_transaction, refusal_in}
-use Rattle.plain_model.specs.History.{Moment, next, moment_after, after_undo, left_to_undo}
+use Rattle.plain_model.specs.Machine.{State, transaction_of, step, success, new_transaction, with_transaction, without_transaction}
+use Rattle.plain_model.specs.History.{Moment, next, moment_after, left_to_undo}
 use Rattle.plain_model.proofs.StepLemmas.{step-begin, step-commit, step-abort}
 use Rattle.plain_laws.specs.Sound.{PassesAscend}
 use Rattle.plain_laws.proofs.Entries.{at, at_here, ascend-insert, ascend-remove}
@@ -21,16 +21,14 @@ use Rattle.core_store.specs.declared.note.Note.{Note}
 use Rattle.call_generator.specs.declared.client.Client.{Client}
 use Rattle.call_generator.specs.declared.turns.Turn.{Turn}
 use Rattle.call_generator.specs.Draws.{next_number, drawn}
-use Rattle.call_generator.specs.Generator.{Generating, new_client, waiting_from, waiting, has_left, chosen, client_of, call_of_client, drawn_call, ends, after_call, asked, next_turn, after_turn, Generates, done, turn, IsWithin, IsGenerating}
-use Rattle.call_generator.proofs.WaitingLaws.{IsWaiting}
+use Rattle.call_generator.specs.Generator.{Generating, new_client, waiting_from, waiting, has_left, chosen, client_of, call_of_client, drawn_call, after_call, asked, next_turn, after_turn, Generates, done, turn, IsWithin, IsGenerating}
 use Rattle.call_generator.proofs.TurnLaws.{chosen-waits, turn-goes-on}
-use Rattle.script_lines.specs.declared.grammar.Line.{Line}
 use Rattle.script_lines.specs.declared.grammar.Line.TheVariants as line
 use Rattle.brahma_shell.specs.Points.{Point, after_notes, entries_in}
 use Rattle.brahma_shell.specs.Follows.{Gives, IsOfCollector}
 use Rattle.brahma_shell.specs.Generated.{line_of, lines_in, GivesLines}
 use Rattle.brahma_shell.proofs.PointLemmas.{after_notes-append, moment-after}
-use Rattle.brahma_shell.proofs.GivesLemmas.{Splits, lines-split}
+use Rattle.brahma_shell.proofs.GivesLemmas.{lines-split}
 
 -- ---- what agrees
 

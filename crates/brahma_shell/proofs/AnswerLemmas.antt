@@ -12,7 +12,7 @@ use Rattle.disk_model.proofs.Moments.{no_call}
 use Rattle.store_opening.specs.Looks.{IsLookedAt}
 use Rattle.script_lines.specs.Numbers.{object_slots, number_of, pages_of}
 use Rattle.brahma_shell.specs.declared.commands.Command.{Command}
-use Rattle.brahma_shell.specs.declared.commands.Command.TheVariants.{Init, Replay, Run, Gen, Audit, ParAudit, Migrate, Backup, Ship, Log, Standby, Check}
+use Rattle.brahma_shell.specs.declared.commands.Command.TheVariants.{Init, Replay, Run, Gen, Audit, ParAudit, Migrate, Backup, Ship, Log, Standby, Check, Map}
 use Rattle.gen_options.specs.declared.reading.Asked.{Asked}
 use Rattle.brahma_shell.specs.declared.ended.Ended.{Ended}
 use Rattle.brahma_shell.specs.declared.ended.Ended.TheVariants.{Shut, Kept}
@@ -191,17 +191,18 @@ mapped : (o : Option ℕ) (p : ℕ) → option_map Init o ≡ Some (Init p) → 
 mapped None p e = absurd (cc (e))
 mapped (Some n) p e = cc (e)
 
-one-word : (a b c d e f g h i : Bool) (p : ℕ) → (if a then Some Replay else if b then Some Run else if c then Some Audit else if d then Some Migrate else if e then Some Backup else if f then Some Ship else if g then Some Log else if h then Some Standby else if i then Some Check else None) ≡ Some (Init p) → ⊥
-one-word true b c d e f g h i p is = absurd (cc (is))
-one-word false true c d e f g h i p is = absurd (cc (is))
-one-word false false true d e f g h i p is = absurd (cc (is))
-one-word false false false true e f g h i p is = absurd (cc (is))
-one-word false false false false true f g h i p is = absurd (cc (is))
-one-word false false false false false true g h i p is = absurd (cc (is))
-one-word false false false false false false true h i p is = absurd (cc (is))
-one-word false false false false false false false true i p is = absurd (cc (is))
-one-word false false false false false false false false true p is = absurd (cc (is))
-one-word false false false false false false false false false p is = absurd (cc (is))
+one-word : (a b c d e f g h i j : Bool) (p : ℕ) → (if a then Some Replay else if b then Some Run else if c then Some Audit else if d then Some Migrate else if e then Some Backup else if f then Some Ship else if g then Some Log else if h then Some Standby else if i then Some Check else if j then Some Map else None) ≡ Some (Init p) → ⊥
+one-word true b c d e f g h i j p is = absurd (cc (is))
+one-word false true c d e f g h i j p is = absurd (cc (is))
+one-word false false true d e f g h i j p is = absurd (cc (is))
+one-word false false false true e f g h i j p is = absurd (cc (is))
+one-word false false false false true f g h i j p is = absurd (cc (is))
+one-word false false false false false true g h i j p is = absurd (cc (is))
+one-word false false false false false false true h i j p is = absurd (cc (is))
+one-word false false false false false false false true i j p is = absurd (cc (is))
+one-word false false false false false false false false true j p is = absurd (cc (is))
+one-word false false false false false false false false false true p is = absurd (cc (is))
+one-word false false false false false false false false false false p is = absurd (cc (is))
 
 two-words : (a b : Bool) (o : Option ℕ) (p : ℕ) → (if a then option_map Init o else if b then option_map ParAudit o else None) ≡ Some (Init p) → o ≡ Some p
 two-words true b o p e = mapped o p e
@@ -219,17 +220,18 @@ two-pieces true b (Some n) p e = absurd (cc (e))
 two-pieces false true o p e = pieces-mapped o p e
 two-pieces false false o p e = absurd (cc (e))
 
-one-pieces : (a b c d e f g h i : Bool) (p : ℕ) → (if a then Some Replay else if b then Some Run else if c then Some Audit else if d then Some Migrate else if e then Some Backup else if f then Some Ship else if g then Some Log else if h then Some Standby else if i then Some Check else None) ≡ Some (ParAudit p) → ⊥
-one-pieces true b c d e f g h i p is = absurd (cc (is))
-one-pieces false true c d e f g h i p is = absurd (cc (is))
-one-pieces false false true d e f g h i p is = absurd (cc (is))
-one-pieces false false false true e f g h i p is = absurd (cc (is))
-one-pieces false false false false true f g h i p is = absurd (cc (is))
-one-pieces false false false false false true g h i p is = absurd (cc (is))
-one-pieces false false false false false false true h i p is = absurd (cc (is))
-one-pieces false false false false false false false true i p is = absurd (cc (is))
-one-pieces false false false false false false false false true p is = absurd (cc (is))
-one-pieces false false false false false false false false false p is = absurd (cc (is))
+one-pieces : (a b c d e f g h i j : Bool) (p : ℕ) → (if a then Some Replay else if b then Some Run else if c then Some Audit else if d then Some Migrate else if e then Some Backup else if f then Some Ship else if g then Some Log else if h then Some Standby else if i then Some Check else if j then Some Map else None) ≡ Some (ParAudit p) → ⊥
+one-pieces true b c d e f g h i j p is = absurd (cc (is))
+one-pieces false true c d e f g h i j p is = absurd (cc (is))
+one-pieces false false true d e f g h i j p is = absurd (cc (is))
+one-pieces false false false true e f g h i j p is = absurd (cc (is))
+one-pieces false false false false true f g h i j p is = absurd (cc (is))
+one-pieces false false false false false true g h i j p is = absurd (cc (is))
+one-pieces false false false false false false true h i j p is = absurd (cc (is))
+one-pieces false false false false false false false true i j p is = absurd (cc (is))
+one-pieces false false false false false false false false true j p is = absurd (cc (is))
+one-pieces false false false false false false false false false true p is = absurd (cc (is))
+one-pieces false false false false false false false false false false p is = absurd (cc (is))
 
 more-pieces : (a : Bool) (o : Option Asked) (p : ℕ) → (if a then option_map Gen o else None) ≡ Some (ParAudit p) → ⊥
 more-pieces true None p e = absurd (cc (e))
@@ -244,14 +246,14 @@ more-words false o p e = absurd (cc (e))
 -- `init` is asked with a number of pages from 1 to 1,024
 pub pages-within : (words : List (List ℕ)) (p : ℕ) → Some (Init p) ≡ command_of words → (1 ≤ p) × (p ≤ 1024)
 pages-within [] p e = absurd (cc (e))
-pages-within (word ∷ []) p e = absurd (one-word (bytes_eq word (codes "replay")) (bytes_eq word (codes "run")) (bytes_eq word (codes "audit")) (bytes_eq word (codes "migrate")) (bytes_eq word (codes "backup")) (bytes_eq word (codes "ship")) (bytes_eq word (codes "log")) (bytes_eq word (codes "standby")) (bytes_eq word (codes "check")) p (sym e))
+pages-within (word ∷ []) p e = absurd (one-word (bytes_eq word (codes "replay")) (bytes_eq word (codes "run")) (bytes_eq word (codes "audit")) (bytes_eq word (codes "migrate")) (bytes_eq word (codes "backup")) (bytes_eq word (codes "ship")) (bytes_eq word (codes "log")) (bytes_eq word (codes "standby")) (bytes_eq word (codes "check")) (bytes_eq word (codes "map")) p (sym e))
 pages-within (word ∷ number ∷ []) p e = within (number_of number) p (two-words (bytes_eq word (codes "init")) (bytes_eq word (codes "paudit")) (pages_of number) p (sym e))
 pages-within (word ∷ number ∷ other ∷ words) p e = absurd (more-words (bytes_eq word (codes "gen")) (asked_of (number ∷ other ∷ words)) p (sym e))
 
 -- `paudit` is asked with a number of pieces from 1 to 1,024
 pub pieces-within : (words : List (List ℕ)) (p : ℕ) → Some (ParAudit p) ≡ command_of words → (1 ≤ p) × (p ≤ 1024)
 pieces-within [] p e = absurd (cc (e))
-pieces-within (word ∷ []) p e = absurd (one-pieces (bytes_eq word (codes "replay")) (bytes_eq word (codes "run")) (bytes_eq word (codes "audit")) (bytes_eq word (codes "migrate")) (bytes_eq word (codes "backup")) (bytes_eq word (codes "ship")) (bytes_eq word (codes "log")) (bytes_eq word (codes "standby")) (bytes_eq word (codes "check")) p (sym e))
+pieces-within (word ∷ []) p e = absurd (one-pieces (bytes_eq word (codes "replay")) (bytes_eq word (codes "run")) (bytes_eq word (codes "audit")) (bytes_eq word (codes "migrate")) (bytes_eq word (codes "backup")) (bytes_eq word (codes "ship")) (bytes_eq word (codes "log")) (bytes_eq word (codes "standby")) (bytes_eq word (codes "check")) (bytes_eq word (codes "map")) p (sym e))
 pieces-within (word ∷ number ∷ []) p e = within (number_of number) p (two-pieces (bytes_eq word (codes "init")) (bytes_eq word (codes "paudit")) (pages_of number) p (sym e))
 pieces-within (word ∷ number ∷ other ∷ words) p e = absurd (more-pieces (bytes_eq word (codes "gen")) (asked_of (number ∷ other ∷ words)) p (sym e))
 
@@ -299,6 +301,9 @@ options-standby words ask e = let g = options-gen words Standby ask e in absurd 
 options-check : (words : List (List ℕ)) → AskOptions words → command_of words ≡ Some Check → ⊥
 options-check words ask e = let g = options-gen words Check ask e in absurd (cc (g.1))
 
+options-map : (words : List (List ℕ)) → AskOptions words → command_of words ≡ Some Map → ⊥
+options-map words ask e = let g = options-gen words Map ask e in absurd (cc (g.1))
+
 options-migrate : (words : List (List ℕ)) → AskOptions words → command_of words ≡ Some Migrate → ⊥
 options-migrate words ask e = let g = options-gen words Migrate ask e in absurd (cc (g.1))
 
@@ -330,12 +335,13 @@ module _ {S D : Type 0} (content : D → Area → Option (List ℕ)) (may_leave 
     logged = λ e. absurd (none-some (command_of words) Log none e);
     stood_by = λ e. absurd (none-some (command_of words) Standby none e);
     checked = λ e. absurd (none-some (command_of words) Check none e);
+    mapped = λ e. absurd (none-some (command_of words) Map none e);
     makes_open = λ pages e. absurd (none-some (command_of words) (Init pages) none e);
     stays_open = λ tell ids opens other. subst (λ (e : Ended D). AlwaysOpens may_leave ids (disk_in e)) (sym back) opens;
     stays_either = λ tell ids opens other. subst (λ (e : Ended D). AlwaysOpensAtEither may_leave ids (disk_in e)) (sym back) opens;
     migrates = λ tell ids opens e. absurd (none-some (command_of words) Migrate none e);
     complete = λ tell command e. absurd (none-some (command_of words) command none e);
-    refuses = λ image reads closed ask. absurd (⊎_elim (none-some (command_of words) Replay none) (λ h. ⊎_elim (none-some (command_of words) Run none) (λ h. ⊎_elim (none-some (command_of words) Audit none) (λ h. ⊎_elim (λ n. none-some (command_of words) (ParAudit n.0) none n.1) (λ h. ⊎_elim (λ g. none-some (command_of words) (Gen g.0) none g.1) (none-some (command_of words) Backup none) h) h) h) h) ask);
+    refuses = λ image reads closed ask. absurd (⊎_elim (none-some (command_of words) Replay none) (λ h. ⊎_elim (none-some (command_of words) Run none) (λ h. ⊎_elim (none-some (command_of words) Audit none) (λ h. ⊎_elim (λ n. none-some (command_of words) (ParAudit n.0) none n.1) (λ h. ⊎_elim (λ g. none-some (command_of words) (Gen g.0) none g.1) (λ h. ⊎_elim (none-some (command_of words) Backup none) (none-some (command_of words) Map none) h) h) h) h) h) ask);
     refuses_to_migrate = λ image reads closed e. absurd (none-some (command_of words) Migrate none e);
     only_refused = λ no_stream tell seven. absurd (omega (arith, two, seven));
   }
@@ -377,6 +383,7 @@ module _ {S D : Type 0} (content : D → Area → Option (List ℕ)) (may_leave 
         logged = λ e. absurd (options-log words ask e);
         stood_by = λ e. absurd (options-standby words ask e);
         checked = λ e. absurd (options-check words ask e);
+        mapped = λ e. absurd (options-map words ask e);
         makes_open = λ pages e. absurd (options-init words pages ask e);
         stays_open = λ tell ids opens other. subst (λ (e : Ended D). AlwaysOpens may_leave ids (disk_in e)) (sym back) opens;
         stays_either = λ tell ids opens other. subst (λ (e : Ended D). AlwaysOpensAtEither may_leave ids (disk_in e)) (sym back) opens;
@@ -409,12 +416,13 @@ module _ {S D : Type 0} (content : D → Area → Option (List ℕ)) (may_leave 
         logged = λ e. absurd (cc (same-command (command_of words) (Init pages) Log asked e));
         stood_by = λ e. absurd (cc (same-command (command_of words) (Init pages) Standby asked e));
         checked = λ e. absurd (cc (same-command (command_of words) (Init pages) Check asked e));
+        mapped = λ e. absurd (cc (same-command (command_of words) (Init pages) Map asked e));
         makes_open = λ other e not_six. subst (λ (n : ℕ). AlwaysOpens may_leave (8 * n) (disk_in ended)) (same-pages (command_of words) pages other asked e) (made-open may_leave (disk_in ended) pages (pages-within words pages (sym asked)).0 (made.opens not_six));
         stays_open = λ tell ids opens other. absurd (other (inl (pages, asked)));
         stays_either = λ tell ids opens other. absurd (other (inl (pages, asked)));
         migrates = λ tell ids opens e. absurd (init-migrate (command_of words) pages asked e);
         complete = λ tell command e can reads writes faults. ⊎_elim (λ zero. inl zero) (λ h. ⊎_elim (λ five. absurd (writes (made.write five).0)) (λ six. absurd (faults (made.failed six).0)) h) made.statuses;
-        refuses = λ image reads closed ask. absurd (⊎_elim (init-replay (command_of words) pages asked) (λ h. ⊎_elim (init-run (command_of words) pages asked) (λ h. ⊎_elim (init-audit (command_of words) pages asked) (λ h. ⊎_elim (λ n. init-par_audit (command_of words) pages n.0 asked n.1) (λ h. ⊎_elim (λ g. init-gen (command_of words) pages g.0 asked g.1) (λ e. cc (same-command (command_of words) (Init pages) Backup asked e)) h) h) h) h) ask);
+        refuses = λ image reads closed ask. absurd (⊎_elim (init-replay (command_of words) pages asked) (λ h. ⊎_elim (init-run (command_of words) pages asked) (λ h. ⊎_elim (init-audit (command_of words) pages asked) (λ h. ⊎_elim (λ n. init-par_audit (command_of words) pages n.0 asked n.1) (λ h. ⊎_elim (λ g. init-gen (command_of words) pages g.0 asked g.1) (λ h. ⊎_elim (λ e. cc (same-command (command_of words) (Init pages) Backup asked e)) (λ e. cc (same-command (command_of words) (Init pages) Map asked e)) h) h) h) h) h) ask);
         refuses_to_migrate = λ image reads closed e. absurd (init-migrate (command_of words) pages asked e);
         only_refused = λ no_stream tell seven. absurd (not-refused status made.statuses seven);
       }
@@ -440,6 +448,7 @@ module _ {S D : Type 0} (content : D → Area → Option (List ℕ)) (may_leave 
     logged = λ e. absurd (cc (same-command (command_of words) Replay Log asked e));
     stood_by = λ e. absurd (cc (same-command (command_of words) Replay Standby asked e));
     checked = λ e. absurd (cc (same-command (command_of words) Replay Check asked e));
+    mapped = λ e. absurd (cc (same-command (command_of words) Replay Map asked e));
     makes_open = λ pages e. absurd (init-replay (command_of words) pages e asked);
     stays_open = λ tell ids opens other. ⊎_elim (λ u. unopened-open content may_leave moment left_since disk before after status ended u.1 stay counts tell ids opens) (λ r. replayed-open content may_leave script later disk before after status ended r stay tell ids (at-either may_leave ids disk opens)) replayed;
     stays_either = λ tell ids opens other. ⊎_elim (λ u. unopened-either content may_leave moment left_since disk before after status ended u.1 stay counts tell ids opens) (λ r. at-either may_leave ids (disk_in ended) (replayed-open content may_leave script later disk before after status ended r stay tell ids opens)) replayed;
@@ -449,7 +458,7 @@ module _ {S D : Type 0} (content : D → Area → Option (List ℕ)) (may_leave 
         ⊎_elim (λ u. unopened-memory content may_leave moment left_since disk before after status ended u.1 stay tell c.0 c.1 faults) (λ r. replayed-done content may_leave script later disk before after status ended r stay tell c.0 (at-either may_leave c.0 disk c.1) c.2 reads writes faults) replayed;
     refuses = λ image reads closed ask. ⊎_elim (λ u. u.1) (λ r. absurd (closed r.run.opening (r.opened image reads))) replayed;
     refuses_to_migrate = λ image reads closed e. absurd (replay-migrate (command_of words) asked e);
-    only_refused = λ no_stream tell seven image reads. (⊎_elim (λ u. unopened-closed content may_leave moment left_since disk before after status ended u.1 seven image reads) (λ r. absurd (r.only_untold seven tell)) replayed, λ e. absurd (replay-migrate (command_of words) asked e));
+    only_refused = λ no_stream tell seven image reads. inl (⊎_elim (λ u. unopened-closed content may_leave moment left_since disk before after status ended u.1 seven image reads) (λ r. absurd (r.only_untold seven tell)) replayed, λ e. absurd (replay-migrate (command_of words) asked e));
   }
 
   pub asks-audit : command_of words ≡ Some Audit → (status ≡ 0) ⊎ ((status ≡ 5) ⊎ ((status ≡ 6) ⊎ ((status ≡ 7) ⊎ ((status ≡ 8) ⊎ (status ≡ 9))))) → later ≡ script → Unopened content may_leave moment left_since disk before after status ended ⊎ Audited content may_leave disk before after status ended
@@ -475,6 +484,7 @@ module _ {S D : Type 0} (content : D → Area → Option (List ℕ)) (may_leave 
         logged = λ e. absurd (cc (same-command (command_of words) Audit Log asked e));
         stood_by = λ e. absurd (cc (same-command (command_of words) Audit Standby asked e));
         checked = λ e. absurd (cc (same-command (command_of words) Audit Check asked e));
+        mapped = λ e. absurd (cc (same-command (command_of words) Audit Map asked e));
         makes_open = λ pages e. absurd (init-audit (command_of words) pages e asked);
         stays_open = λ tell ids opens other. ⊎_elim (λ u. unopened-open content may_leave moment left_since disk before after status ended u stay counts tell ids opens) (λ a. audited-open content may_leave disk before after status ended a stay tell ids (at-either may_leave ids disk opens)) audited;
         stays_either = λ tell ids opens other. ⊎_elim (λ u. unopened-either content may_leave moment left_since disk before after status ended u stay counts tell ids opens) (λ a. at-either may_leave ids (disk_in ended) (audited-open content may_leave disk before after status ended a stay tell ids opens)) audited;
@@ -484,7 +494,7 @@ module _ {S D : Type 0} (content : D → Area → Option (List ℕ)) (may_leave 
             ⊎_elim (λ u. unopened-memory content may_leave moment left_since disk before after status ended u stay tell c.0 c.1 faults) (λ a. audited-done content may_leave disk before after status ended a writes) audited;
         refuses = λ image reads closed ask. ⊎_elim (λ u. u) (λ a. absurd (closed a.cells (a.opened image reads))) audited;
         refuses_to_migrate = λ image reads closed e. absurd (audit-migrate (command_of words) asked e);
-        only_refused = λ no_stream tell seven image reads. (⊎_elim (λ u. unopened-closed content may_leave moment left_since disk before after status ended u seven image reads) (λ a. absurd (audit-opened status a.statuses seven)) audited, λ e. absurd (audit-migrate (command_of words) asked e));
+        only_refused = λ no_stream tell seven image reads. inl (⊎_elim (λ u. unopened-closed content may_leave moment left_since disk before after status ended u seven image reads) (λ a. absurd (audit-opened status a.statuses seven)) audited, λ e. absurd (audit-migrate (command_of words) asked e));
       }
 
   pub asks-par_audit : (n : ℕ) → command_of words ≡ Some (ParAudit n) → (status ≡ 0) ⊎ ((status ≡ 5) ⊎ ((status ≡ 6) ⊎ ((status ≡ 7) ⊎ ((status ≡ 8) ⊎ (status ≡ 9))))) → later ≡ script → Unopened content may_leave moment left_since disk before after status ended ⊎ ParAudited content may_leave disk before after status ended
@@ -510,6 +520,7 @@ module _ {S D : Type 0} (content : D → Area → Option (List ℕ)) (may_leave 
         logged = λ e. absurd (cc (same-command (command_of words) (ParAudit n) Log asked e));
         stood_by = λ e. absurd (cc (same-command (command_of words) (ParAudit n) Standby asked e));
         checked = λ e. absurd (cc (same-command (command_of words) (ParAudit n) Check asked e));
+        mapped = λ e. absurd (cc (same-command (command_of words) (ParAudit n) Map asked e));
         makes_open = λ pages e. absurd (init-par_audit (command_of words) pages n e asked);
         stays_open = λ tell ids opens other. ⊎_elim (λ u. unopened-open content may_leave moment left_since disk before after status ended u stay counts tell ids opens) (λ a. par_audited-open content may_leave disk before after status ended a stay tell ids (at-either may_leave ids disk opens)) audited;
         stays_either = λ tell ids opens other. ⊎_elim (λ u. unopened-either content may_leave moment left_since disk before after status ended u stay counts tell ids opens) (λ a. at-either may_leave ids (disk_in ended) (par_audited-open content may_leave disk before after status ended a stay tell ids opens)) audited;
@@ -519,7 +530,7 @@ module _ {S D : Type 0} (content : D → Area → Option (List ℕ)) (may_leave 
             ⊎_elim (λ u. unopened-memory content may_leave moment left_since disk before after status ended u stay tell c.0 c.1 faults) (λ a. par_audited-done content may_leave disk before after status ended a writes) audited;
         refuses = λ image reads closed ask. ⊎_elim (λ u. u) (λ a. absurd (closed a.cells (a.opened image reads))) audited;
         refuses_to_migrate = λ image reads closed e. absurd (par_audit-migrate (command_of words) n asked e);
-        only_refused = λ no_stream tell seven image reads. (⊎_elim (λ u. unopened-closed content may_leave moment left_since disk before after status ended u seven image reads) (λ a. absurd (audit-opened status a.statuses seven)) audited, λ e. absurd (par_audit-migrate (command_of words) n asked e));
+        only_refused = λ no_stream tell seven image reads. inl (⊎_elim (λ u. unopened-closed content may_leave moment left_since disk before after status ended u seven image reads) (λ a. absurd (audit-opened status a.statuses seven)) audited, λ e. absurd (par_audit-migrate (command_of words) n asked e));
       }
 
   pub asks-gen : (a : Asked) → command_of words ≡ Some (Gen a) → (status ≡ 0) ⊎ ((status ≡ 5) ⊎ ((status ≡ 6) ⊎ ((status ≡ 7) ⊎ ((status ≡ 8) ⊎ (status ≡ 9))))) → later ≡ script
@@ -546,6 +557,7 @@ module _ {S D : Type 0} (content : D → Area → Option (List ℕ)) (may_leave 
         logged = λ e. absurd (cc (same-command (command_of words) (Gen a) Log asked e));
         stood_by = λ e. absurd (cc (same-command (command_of words) (Gen a) Standby asked e));
         checked = λ e. absurd (cc (same-command (command_of words) (Gen a) Check asked e));
+        mapped = λ e. absurd (cc (same-command (command_of words) (Gen a) Map asked e));
         makes_open = λ pages e. absurd (init-gen (command_of words) pages a e asked);
         stays_open = λ tell ids opens other. ⊎_elim (λ u. unopened-open content may_leave moment left_since disk before after status ended u stay counts tell ids opens) (λ g. generated-open content may_leave a disk before after status g.0 g.2 ended g.1 stay tell ids (at-either may_leave ids disk opens)) generated;
         stays_either = λ tell ids opens other. ⊎_elim (λ u. unopened-either content may_leave moment left_since disk before after status ended u stay counts tell ids opens) (λ g. at-either may_leave ids (disk_in ended) (generated-open content may_leave a disk before after status g.0 g.2 ended g.1 stay tell ids opens)) generated;
@@ -555,7 +567,7 @@ module _ {S D : Type 0} (content : D → Area → Option (List ℕ)) (may_leave 
             ⊎_elim (λ u. unopened-memory content may_leave moment left_since disk before after status ended u stay tell c.0 c.1 faults) (λ g. generated-done content may_leave a disk before after status g.0 g.2 writes faults) generated;
         refuses = λ image reads closed ask. ⊎_elim (λ u. u) (λ g. absurd (closed g.0.journal.opening (g.2.opened image reads))) generated;
         refuses_to_migrate = λ image reads closed e. absurd (gen-migrate (command_of words) a asked e);
-        only_refused = λ no_stream tell seven image reads. (⊎_elim (λ u. unopened-closed content may_leave moment left_since disk before after status ended u seven image reads) (λ g. absurd (gen-opened status g.2.statuses seven)) generated, λ e. absurd (gen-migrate (command_of words) a asked e));
+        only_refused = λ no_stream tell seven image reads. inl (⊎_elim (λ u. unopened-closed content may_leave moment left_since disk before after status ended u seven image reads) (λ g. absurd (gen-opened status g.2.statuses seven)) generated, λ e. absurd (gen-migrate (command_of words) a asked e));
       }
 
   pub asks-run : command_of words ≡ Some Run → IsStatusOfReplay status → (later ≡ script) × Unopened content may_leave moment left_since disk before after status ended ⊎ ((v : LoggedView D) × (ended ≡ Kept v) × Ran content may_leave disk before after status v)
@@ -579,6 +591,7 @@ module _ {S D : Type 0} (content : D → Area → Option (List ℕ)) (may_leave 
     logged = λ e. absurd (cc (same-command (command_of words) Run Log asked e));
     stood_by = λ e. absurd (cc (same-command (command_of words) Run Standby asked e));
     checked = λ e. absurd (cc (same-command (command_of words) Run Check asked e));
+    mapped = λ e. absurd (cc (same-command (command_of words) Run Map asked e));
     makes_open = λ pages e. absurd (init-run (command_of words) pages e asked);
     stays_open = λ tell ids opens other. ⊎_elim (λ u. unopened-open content may_leave moment left_since disk before after status ended u.1 stay counts tell ids opens) (λ r. ran-open content may_leave disk before after status r.0 r.2 stay tell ids (at-either may_leave ids disk opens) ended r.1) ran;
     stays_either = λ tell ids opens other. ⊎_elim (λ u. unopened-either content may_leave moment left_since disk before after status ended u.1 stay counts tell ids opens) (λ r. at-either may_leave ids (disk_in ended) (ran-open content may_leave disk before after status r.0 r.2 stay tell ids opens ended r.1)) ran;
@@ -588,7 +601,7 @@ module _ {S D : Type 0} (content : D → Area → Option (List ℕ)) (may_leave 
         ⊎_elim (λ u. unopened-memory content may_leave moment left_since disk before after status ended u.1 stay tell c.0 c.1 faults) (λ r. ran-done content may_leave disk before after status r.0 r.2 stay tell c.0 (at-either may_leave c.0 disk c.1) c.2 reads writes faults) ran;
     refuses = λ image reads closed ask. ⊎_elim (λ u. u.1) (λ r. absurd (closed r.0.journal.opening (r.2.opened image reads))) ran;
     refuses_to_migrate = λ image reads closed e. absurd (run-migrate (command_of words) asked e);
-    only_refused = λ no_stream tell seven image reads. (⊎_elim (λ u. unopened-closed content may_leave moment left_since disk before after status ended u.1 seven image reads) (λ r. absurd (run-opened status r.2.statuses seven)) ran, λ e. absurd (run-migrate (command_of words) asked e));
+    only_refused = λ no_stream tell seven image reads. inl (⊎_elim (λ u. unopened-closed content may_leave moment left_since disk before after status ended u.1 seven image reads) (λ r. absurd (run-opened status r.2.statuses seven)) ran, λ e. absurd (run-migrate (command_of words) asked e));
   }
 
   pub asks-migrate : command_of words ≡ Some Migrate → (status ≡ 0) ⊎ ((status ≡ 5) ⊎ ((status ≡ 6) ⊎ ((status ≡ 7) ⊎ ((status ≡ 8) ⊎ (status ≡ 9))))) → later ≡ script
@@ -617,6 +630,7 @@ module _ {S D : Type 0} (content : D → Area → Option (List ℕ)) (may_leave 
         logged = λ e. absurd (cc (same-command (command_of words) Migrate Log asked e));
         stood_by = λ e. absurd (cc (same-command (command_of words) Migrate Standby asked e));
         checked = λ e. absurd (cc (same-command (command_of words) Migrate Check asked e));
+        mapped = λ e. absurd (cc (same-command (command_of words) Migrate Map asked e));
         makes_open = λ pages e. absurd (init-migrate (command_of words) pages e asked);
         stays_open = λ tell ids opens other. goes-on-open content may_leave moment left_since disk before after status ended migrated stay tell ids counts opens;
         stays_either = λ tell ids opens other. goes-on-either content may_leave moment left_since disk before after status ended migrated stay tell ids counts opens;
@@ -625,11 +639,11 @@ module _ {S D : Type 0} (content : D → Area → Option (List ℕ)) (may_leave 
             let c = subst (CanBeDone may_leave disk before.left) (same-command (command_of words) command Migrate e asked) can in
             migration-done content may_leave moment left_since disk before after status ended migrated stay tell c.0 c.1 writes faults;
         refuses = λ image reads closed ask.
-            absurd (⊎_elim (λ e. replay-migrate (command_of words) e asked) (λ h. ⊎_elim (λ e. run-migrate (command_of words) e asked) (λ h. ⊎_elim (λ e. audit-migrate (command_of words) e asked) (λ h. ⊎_elim (λ n. par_audit-migrate (command_of words) n.0 n.1 asked) (λ h. ⊎_elim (λ g. gen-migrate (command_of words) g.0 g.1 asked) (λ e. cc (same-command (command_of words) Migrate Backup asked e)) h) h) h) h) ask);
+            absurd (⊎_elim (λ e. replay-migrate (command_of words) e asked) (λ h. ⊎_elim (λ e. run-migrate (command_of words) e asked) (λ h. ⊎_elim (λ e. audit-migrate (command_of words) e asked) (λ h. ⊎_elim (λ n. par_audit-migrate (command_of words) n.0 n.1 asked) (λ h. ⊎_elim (λ g. gen-migrate (command_of words) g.0 g.1 asked) (λ h. ⊎_elim (λ e. cc (same-command (command_of words) Migrate Backup asked e)) (λ e. cc (same-command (command_of words) Migrate Map asked e)) h) h) h) h) h) ask);
         refuses_to_migrate = λ image reads closed e. closed-unmigrated content may_leave moment left_since disk before after status ended migrated image reads closed.0 (closed.1 asked);
         only_refused = λ no_stream tell seven image reads.
             let closed = unmigrated-closed content may_leave moment left_since disk before after status ended migrated seven image reads in
-            (closed.0, λ e. closed.1);
+            inl (closed.0, λ e. closed.1);
       }
 
   pub asks-backup : command_of words ≡ Some Backup → (status ≡ 0) ⊎ ((status ≡ 5) ⊎ ((status ≡ 6) ⊎ ((status ≡ 7) ⊎ ((status ≡ 8) ⊎ (status ≡ 9))))) → later ≡ script → Unopened content may_leave moment left_since disk before after status ended ⊎ BackedUp content may_leave disk before after status ended
@@ -655,6 +669,7 @@ module _ {S D : Type 0} (content : D → Area → Option (List ℕ)) (may_leave 
         logged = λ e. absurd (cc (same-command (command_of words) Log Backup e asked));
         stood_by = λ e. absurd (cc (same-command (command_of words) Standby Backup e asked));
         checked = λ e. absurd (cc (same-command (command_of words) Check Backup e asked));
+        mapped = λ e. absurd (cc (same-command (command_of words) Map Backup e asked));
         makes_open = λ pages e. absurd (cc (same-command (command_of words) (Init pages) Backup e asked));
         stays_open = λ tell ids opens other. ⊎_elim (λ u. unopened-open content may_leave moment left_since disk before after status ended u stay counts tell ids opens) (λ b. backed_up-open content may_leave disk before after status ended b stay tell ids (at-either may_leave ids disk opens)) backed_up;
         stays_either = λ tell ids opens other. ⊎_elim (λ u. unopened-either content may_leave moment left_since disk before after status ended u stay counts tell ids opens) (λ b. at-either may_leave ids (disk_in ended) (backed_up-open content may_leave disk before after status ended b stay tell ids opens)) backed_up;
@@ -664,7 +679,7 @@ module _ {S D : Type 0} (content : D → Area → Option (List ℕ)) (may_leave 
             ⊎_elim (λ u. unopened-memory content may_leave moment left_since disk before after status ended u stay tell c.0 c.1 faults) (λ b. backed_up-done content may_leave disk before after status ended b writes faults) backed_up;
         refuses = λ image reads closed ask. ⊎_elim (λ u. u) (λ b. absurd (closed b.cells (b.opened image reads))) backed_up;
         refuses_to_migrate = λ image reads closed e. absurd (cc (same-command (command_of words) Migrate Backup e asked));
-        only_refused = λ no_stream tell seven image reads. (
+        only_refused = λ no_stream tell seven image reads. inl (
           ⊎_elim (λ u. unopened-closed content may_leave moment left_since disk before after status ended u seven image reads) (λ b. absurd (backed_up-opened content may_leave disk before after status ended b seven)) backed_up,
           λ e. absurd (cc (same-command (command_of words) Migrate Backup e asked)),
         );
@@ -693,6 +708,7 @@ module _ {S D : Type 0} (content : D → Area → Option (List ℕ)) (may_leave 
         logged = λ e. absurd (cc (same-command (command_of words) Log Ship e asked));
         stood_by = λ e. absurd (cc (same-command (command_of words) Standby Ship e asked));
         checked = λ e. absurd (cc (same-command (command_of words) Check Ship e asked));
+        mapped = λ e. absurd (cc (same-command (command_of words) Map Ship e asked));
         makes_open = λ pages e. absurd (cc (same-command (command_of words) (Init pages) Ship e asked));
         stays_open = λ tell ids opens other. shipped-images content may_leave moment left_since disk before after status ended shipped _ opens;
         stays_either = λ tell ids opens other. shipped-images content may_leave moment left_since disk before after status ended shipped _ opens;
@@ -701,9 +717,9 @@ module _ {S D : Type 0} (content : D → Area → Option (List ℕ)) (may_leave 
             let c = subst (CanBeDone may_leave disk before.left) (same-command (command_of words) command Ship e asked) can in
             shipped-done content may_leave moment left_since disk before after status ended shipped stay tell c.0 c.1 writes faults;
         refuses = λ image reads closed ask.
-            absurd (⊎_elim (λ e. cc (same-command (command_of words) Replay Ship e asked)) (λ h. ⊎_elim (λ e. cc (same-command (command_of words) Run Ship e asked)) (λ h. ⊎_elim (λ e. cc (same-command (command_of words) Audit Ship e asked)) (λ h. ⊎_elim (λ n. cc (same-command (command_of words) (ParAudit n.0) Ship n.1 asked)) (λ h. ⊎_elim (λ g. cc (same-command (command_of words) (Gen g.0) Ship g.1 asked)) (λ e. cc (same-command (command_of words) Backup Ship e asked)) h) h) h) h) ask);
+            absurd (⊎_elim (λ e. cc (same-command (command_of words) Replay Ship e asked)) (λ h. ⊎_elim (λ e. cc (same-command (command_of words) Run Ship e asked)) (λ h. ⊎_elim (λ e. cc (same-command (command_of words) Audit Ship e asked)) (λ h. ⊎_elim (λ n. cc (same-command (command_of words) (ParAudit n.0) Ship n.1 asked)) (λ h. ⊎_elim (λ g. cc (same-command (command_of words) (Gen g.0) Ship g.1 asked)) (λ h. ⊎_elim (λ e. cc (same-command (command_of words) Backup Ship e asked)) (λ e. cc (same-command (command_of words) Map Ship e asked)) h) h) h) h) h) ask);
         refuses_to_migrate = λ image reads closed e. absurd (cc (same-command (command_of words) Migrate Ship e asked));
-        only_refused = λ no_stream tell seven image reads. (shipped-closed content may_leave moment left_since disk before after status ended shipped seven image reads, λ e. absurd (cc (same-command (command_of words) Migrate Ship e asked)));
+        only_refused = λ no_stream tell seven image reads. inl (shipped-closed content may_leave moment left_since disk before after status ended shipped seven image reads, λ e. absurd (cc (same-command (command_of words) Migrate Ship e asked)));
       }
 
   pub asks-log : command_of words ≡ Some Log → later ≡ script → Logged content may_leave moment left_since disk before after status ended
@@ -729,6 +745,7 @@ module _ {S D : Type 0} (content : D → Area → Option (List ℕ)) (may_leave 
         logged = λ _. (same, logged);
         stood_by = λ e. absurd (cc (same-command (command_of words) Standby Log e asked));
         checked = λ e. absurd (cc (same-command (command_of words) Check Log e asked));
+        mapped = λ e. absurd (cc (same-command (command_of words) Map Log e asked));
         makes_open = λ pages e. absurd (cc (same-command (command_of words) (Init pages) Log e asked));
         stays_open = λ tell ids opens other. logged-images content may_leave moment left_since disk before after status ended logged _ opens;
         stays_either = λ tell ids opens other. logged-images content may_leave moment left_since disk before after status ended logged _ opens;
@@ -737,9 +754,9 @@ module _ {S D : Type 0} (content : D → Area → Option (List ℕ)) (may_leave 
             let c = subst (CanBeDone may_leave disk before.left) (same-command (command_of words) command Log e asked) can in
             logged-done content may_leave moment left_since disk before after status ended logged stay tell c.0 c.1 writes faults;
         refuses = λ image reads closed ask.
-            absurd (⊎_elim (λ e. cc (same-command (command_of words) Replay Log e asked)) (λ h. ⊎_elim (λ e. cc (same-command (command_of words) Run Log e asked)) (λ h. ⊎_elim (λ e. cc (same-command (command_of words) Audit Log e asked)) (λ h. ⊎_elim (λ n. cc (same-command (command_of words) (ParAudit n.0) Log n.1 asked)) (λ h. ⊎_elim (λ g. cc (same-command (command_of words) (Gen g.0) Log g.1 asked)) (λ e. cc (same-command (command_of words) Backup Log e asked)) h) h) h) h) ask);
+            absurd (⊎_elim (λ e. cc (same-command (command_of words) Replay Log e asked)) (λ h. ⊎_elim (λ e. cc (same-command (command_of words) Run Log e asked)) (λ h. ⊎_elim (λ e. cc (same-command (command_of words) Audit Log e asked)) (λ h. ⊎_elim (λ n. cc (same-command (command_of words) (ParAudit n.0) Log n.1 asked)) (λ h. ⊎_elim (λ g. cc (same-command (command_of words) (Gen g.0) Log g.1 asked)) (λ h. ⊎_elim (λ e. cc (same-command (command_of words) Backup Log e asked)) (λ e. cc (same-command (command_of words) Map Log e asked)) h) h) h) h) h) ask);
         refuses_to_migrate = λ image reads closed e. absurd (cc (same-command (command_of words) Migrate Log e asked));
-        only_refused = λ no_stream tell seven image reads. (logged-closed content may_leave moment left_since disk before after status ended logged seven image reads, λ e. absurd (cc (same-command (command_of words) Migrate Log e asked)));
+        only_refused = λ no_stream tell seven image reads. inl (logged-closed content may_leave moment left_since disk before after status ended logged seven image reads, λ e. absurd (cc (same-command (command_of words) Migrate Log e asked)));
       }
 
   pub asks-standby : command_of words ≡ Some Standby → StoodBy may_leave moment left_since disk before after status ended
@@ -765,13 +782,14 @@ module _ {S D : Type 0} (content : D → Area → Option (List ℕ)) (may_leave 
         logged = λ e. absurd (cc (same-command (command_of words) Log Standby e asked));
         stood_by = λ _. stood_by;
         checked = λ e. absurd (cc (same-command (command_of words) Standby Check asked e));
+        mapped = λ e. absurd (cc (same-command (command_of words) Standby Map asked e));
         makes_open = λ pages e. absurd (cc (same-command (command_of words) (Init pages) Standby e asked));
         stays_open = λ tell ids opens other. absurd (other (inr asked));
         stays_either = λ tell ids opens other. absurd (other (inr asked));
         migrates = λ tell ids opens e. absurd (cc (same-command (command_of words) Migrate Standby e asked));
         complete = λ tell command e can reads writes faults. stood-complete may_leave moment left_since disk before after status ended stood_by (subst (CanBeDone may_leave disk before.left) (same-command (command_of words) command Standby e asked) can) reads writes faults;
         refuses = λ image reads closed ask.
-            absurd (⊎_elim (λ e. cc (same-command (command_of words) Replay Standby e asked)) (λ h. ⊎_elim (λ e. cc (same-command (command_of words) Run Standby e asked)) (λ h. ⊎_elim (λ e. cc (same-command (command_of words) Audit Standby e asked)) (λ h. ⊎_elim (λ n. cc (same-command (command_of words) (ParAudit n.0) Standby n.1 asked)) (λ h. ⊎_elim (λ g. cc (same-command (command_of words) (Gen g.0) Standby g.1 asked)) (λ e. cc (same-command (command_of words) Backup Standby e asked)) h) h) h) h) ask);
+            absurd (⊎_elim (λ e. cc (same-command (command_of words) Replay Standby e asked)) (λ h. ⊎_elim (λ e. cc (same-command (command_of words) Run Standby e asked)) (λ h. ⊎_elim (λ e. cc (same-command (command_of words) Audit Standby e asked)) (λ h. ⊎_elim (λ n. cc (same-command (command_of words) (ParAudit n.0) Standby n.1 asked)) (λ h. ⊎_elim (λ g. cc (same-command (command_of words) (Gen g.0) Standby g.1 asked)) (λ h. ⊎_elim (λ e. cc (same-command (command_of words) Backup Standby e asked)) (λ e. cc (same-command (command_of words) Map Standby e asked)) h) h) h) h) h) ask);
         refuses_to_migrate = λ image reads closed e. absurd (cc (same-command (command_of words) Migrate Standby e asked));
         only_refused = λ no_stream tell seven image reads. absurd (no_stream (inl asked));
       }

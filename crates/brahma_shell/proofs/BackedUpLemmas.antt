@@ -1,9 +1,8 @@
 -- What a backup leaves of a store that was just opened.
-use Rattle.std.proofs.Common.{◌≡◌, ◌⊎◌, ⊎_elim, inl, inr, ℕ, ◌+◌, Bool, true, false, List, [], Option, None, length, refl, sym, ap, subst, ◌∙◌, arith}
+use Rattle.std.proofs.Common.{◌≡◌, ◌⊎◌, ⊎_elim, inl, inr, ℕ, ◌+◌, Bool, true, false, List, [], None, length, sym, ap, subst, ◌∙◌, arith}
 use Rattle.std.specs.Prelude.{◌↔◌, nat_lt}
 use Rattle.disk_model.specs.declared.area.Area.{Area}
-use Rattle.disk_model.specs.Areas.{Bytes}
-use Rattle.disk_model.specs.Told.{IsImage, EachImage}
+use Rattle.disk_model.specs.Told.{EachImage}
 use Rattle.cell_model.specs.Cells.{Cell}
 use Rattle.plain_model.specs.declared.calls.Entry.TheVariants.{Hidden}
 use Rattle.plain_model.specs.History.{History, end_of, least_active}

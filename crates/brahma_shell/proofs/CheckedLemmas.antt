@@ -1,12 +1,11 @@
 -- What the program answers where a check was asked.
-use Rattle.std.proofs.Common.{◌≡◌, ◌⊎◌, ⊎_elim, inl, inr, ◌≤◌, ℕ, List, Option, Some, None, sym, subst, arith}
+use Rattle.std.proofs.Common.{◌≡◌, ◌⊎◌, ⊎_elim, inl, inr, ◌≤◌, ℕ, List, Option, Some, sym, subst}
 use Rattle.std.specs.Prelude.{IfSome}
 use Rattle.disk_model.specs.declared.area.Area.{Area}
 use Rattle.disk_model.specs.Areas.{Bytes}
 use Rattle.disk_model.specs.Told.{IsImage}
 use Rattle.store_opening.specs.Looks.{IsLookedAt}
-use Rattle.brahma_shell.specs.declared.commands.Command.{Command}
-use Rattle.brahma_shell.specs.declared.commands.Command.TheVariants.{Init, Replay, Run, Gen, Audit, ParAudit, Migrate, Backup, Ship, Log, Standby, Check}
+use Rattle.brahma_shell.specs.declared.commands.Command.TheVariants.{Init, Replay, Run, Gen, Audit, ParAudit, Migrate, Backup, Ship, Log, Standby, Check, Map}
 use Rattle.brahma_shell.specs.declared.ended.Ended.{Ended}
 use Rattle.brahma_shell.specs.declared.ended.Ended.TheVariants.{Shut}
 use Rattle.brahma_shell.specs.Commands.{command_of}
@@ -51,6 +50,7 @@ module _ {S D : Type 0} (content : D → Area → Option (List ℕ)) (may_leave 
         logged = λ e. absurd (cc (same-command (command_of words) Log Check e asked));
         stood_by = λ e. absurd (cc (same-command (command_of words) Standby Check e asked));
         checked = λ _. (back, checked);
+        mapped = λ e. absurd (cc (same-command (command_of words) Map Check e asked));
         makes_open = λ pages e. absurd (cc (same-command (command_of words) (Init pages) Check e asked));
         stays_open = λ tell ids opens other. subst (λ (e : Ended D). AlwaysOpens may_leave ids (disk_in e)) (sym back) opens;
         stays_either = λ tell ids opens other. subst (λ (e : Ended D). AlwaysOpensAtEither may_leave ids (disk_in e)) (sym back) opens;
@@ -58,7 +58,7 @@ module _ {S D : Type 0} (content : D → Area → Option (List ℕ)) (may_leave 
         complete = λ tell command e can reads writes faults.
             checked-complete before after status checked (subst (CanBeDone may_leave disk before.left) (same-command (command_of words) command Check e asked) can) reads writes;
         refuses = λ image reads closed ask.
-            absurd (⊎_elim (λ e. cc (same-command (command_of words) Replay Check e asked)) (λ h. ⊎_elim (λ e. cc (same-command (command_of words) Run Check e asked)) (λ h. ⊎_elim (λ e. cc (same-command (command_of words) Audit Check e asked)) (λ h. ⊎_elim (λ n. cc (same-command (command_of words) (ParAudit n.0) Check n.1 asked)) (λ h. ⊎_elim (λ g. cc (same-command (command_of words) (Gen g.0) Check g.1 asked)) (λ e. cc (same-command (command_of words) Backup Check e asked)) h) h) h) h) ask);
+            absurd (⊎_elim (λ e. cc (same-command (command_of words) Replay Check e asked)) (λ h. ⊎_elim (λ e. cc (same-command (command_of words) Run Check e asked)) (λ h. ⊎_elim (λ e. cc (same-command (command_of words) Audit Check e asked)) (λ h. ⊎_elim (λ n. cc (same-command (command_of words) (ParAudit n.0) Check n.1 asked)) (λ h. ⊎_elim (λ g. cc (same-command (command_of words) (Gen g.0) Check g.1 asked)) (λ h. ⊎_elim (λ e. cc (same-command (command_of words) Backup Check e asked)) (λ e. cc (same-command (command_of words) Map Check e asked)) h) h) h) h) h) ask);
         refuses_to_migrate = λ image reads closed e. absurd (cc (same-command (command_of words) Migrate Check e asked));
         only_refused = λ not_stream tell seven image reads. absurd (not_stream (inr asked));
       }

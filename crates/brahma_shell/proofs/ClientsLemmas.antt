@@ -1,25 +1,19 @@
 -- What the clients of a run did, by what the last pass keeps.
-use Rattle.std.proofs.Common.{◌≡◌, ◌≢◌, ◌⊎◌, arith, ℕ, zero, suc, Bool, true, false, List, [], ◌∷◌, ◌++◌, map, fold, Option, Some, None, is_some, refl, sym, ap, subst, ◌∙◌, ⊎_elim, inl, inr}
-use Rattle.std.specs.Prelude.{◌==◌, if◌then◌else◌, unwrap_or}
+use Rattle.std.proofs.Common.{◌≡◌, ◌≢◌, ◌⊎◌, arith, ℕ, false, List, [], ◌∷◌, ◌++◌, map, None, is_some, refl, sym, ap, subst, ◌∙◌, ⊎_elim, inl, inr}
 use Rattle.std.proofs.lemmas.Bool.{cases_eq}
 use Rattle.std.proofs.lemmas.Bool.Decides.{nat_tests}
 use Rattle.std.specs.List.{AllByRecursion}
 use Rattle.std.specs.Map.{lookup}
 use Rattle.std.specs.Ordering.{nat_cmp}
 use Rattle.std.specs.BTreeMap.{is_at}
-use Rattle.plain_model.specs.declared.calls.Call.{Call as TransactionCall}
-use Rattle.plain_model.specs.declared.calls.Reply.{Reply}
-use Rattle.plain_model.specs.declared.calls.Entry.{Entry}
-use Rattle.plain_model.specs.declared.calls.Entry.TheVariants.{Call, Delete, Hidden, Undo, TurnBusy, Crash}
 use Rattle.plain_model.specs.ActiveTransaction.{ActiveTransaction}
 use Rattle.plain_model.specs.History.{History, end_of}
-use Rattle.plain_model.specs.Machine.{State, transaction_of}
+use Rattle.plain_model.specs.Machine.{transaction_of}
 use Rattle.core_store.specs.declared.frame.Frame.{Frame}
 use Rattle.core_store.specs.declared.note.Note.{Note}
 use Rattle.logged_journal.specs.View.{LoggedView, history_of}
 use Rattle.latch_table.specs.Rule.{AreAt, IsWhole, KeepsEachOnce}
-use Rattle.journal_chronicle.specs.Clients.{begins_or_ends, has_by, speaker_of}
-use Rattle.journal_chronicle.specs.Clients as clients
+use Rattle.journal_chronicle.specs.Clients.{speaker_of}
 use Rattle.journal_chronicle.specs.View.{account, origin_of, notes_of, history_after, has_transaction}
 use Rattle.shared_store.specs.Passes.{Known}
 use Rattle.client_pass.specs.declared.ends.WorkEnd.{WorkEnd}

@@ -41,7 +41,7 @@ same-cells a b e = cc (e)
 -- ---- what is read
 
 -- of two outcomes of an image that are cells both are the same
-same-outcome : (image : Bytes) (a b : List Cell) → Opened object_slots image (OpensTo a) → Opened object_slots image (OpensTo b) → a ≡ b
+pub same-outcome : (image : Bytes) (a b : List Cell) → Opened object_slots image (OpensTo a) → Opened object_slots image (OpensTo b) → a ≡ b
 same-outcome image a b x y = same-cells a b (one_outcome known-slots image (OpensTo a) (OpensTo b) x y)
 
 -- an image that a store is refused for, but for want of memory or a fault, does not open

@@ -1,5 +1,5 @@
 -- How `gen` ends.
-use Rattle.std.proofs.Common.{◌≡◌, ◌⊎◌, ⊎_elim, inl, inr, ℕ, ◌<◌, ◌≤◌, ◌-◌, true, false, List, length, [], ◌∷◌, ◌++◌, Option, Some, None, refl, sym, ap, subst, ◌∙◌, arith}
+use Rattle.std.proofs.Common.{◌≡◌, ◌⊎◌, ⊎_elim, inl, inr, ℕ, ◌≤◌, ◌-◌, true, List, length, [], ◌∷◌, ◌++◌, Option, refl, sym, ap, subst, ◌∙◌, arith}
 use Rattle.std.specs.Prelude.{codes, flat_map}
 use Rattle.plain_model.specs.declared.calls.Call.TheVariants.{Commit}
 use Rattle.std.specs.Io.KnownBytes.{Appends}
@@ -15,11 +15,11 @@ use Rattle.core_store.specs.Limited.{WasFull}
 use Rattle.journal_opening.specs.Openings.{ReadsAs}
 use Rattle.logged_journal.specs.View.{LoggedView}
 use Rattle.call_generator.specs.declared.turns.Turn.{Turn}
-use Rattle.call_generator.specs.Generator.{Generating, generator, Generates, new_client, turns_left}
+use Rattle.call_generator.specs.Generator.{generator, Generates, turns_left}
 use Rattle.call_generator.proofs.TurnLaws.{generator-inside, gives-turns}
 use Rattle.script_lines.specs.declared.grammar.Line.{Line}
 use Rattle.script_lines.specs.declared.grammar.Line.TheVariants as line
-use Rattle.script_lines.specs.Output.{AppendsFront, EndsWith}
+use Rattle.script_lines.specs.Output.{AppendsFront}
 use Rattle.gen_options.specs.declared.reading.Asked.{Asked}
 use Rattle.brahma_shell.specs.declared.replay.Stop.{Stop}
 use Rattle.brahma_shell.specs.declared.replay.Stop.TheVariants as stop
@@ -28,11 +28,11 @@ use Rattle.brahma_shell.specs.Growth.{Grows}
 use Rattle.brahma_shell.specs.Log.{StaysRunning, WasLogFull}
 use Rattle.brahma_shell.specs.Points.{Point, after_notes, start_point, point_of, MayRest, IsExactAt}
 use Rattle.brahma_shell.specs.Replay.{status_of, last_line}
-use Rattle.brahma_shell.specs.Top.{IsOfReplay, IsOfOpenedStore, IsJustOpened, Outside, Ends, IsDoneOrFull, Generated}
+use Rattle.brahma_shell.specs.Top.{IsOfReplay, IsOfOpenedStore, IsJustOpened, Outside, Ends, Generated}
 use Rattle.brahma_shell.proofs.AgreeLemmas.{all-idle, start-agrees}
 use Rattle.brahma_shell.proofs.EndLemmas.{FailedGranted, granted-running, both-unmarked, no-failure, of-opened, sound-opening}
 use Rattle.brahma_shell.proofs.LogLemmas.{committed}
-use Rattle.brahma_shell.proofs.GivesLemmas.{Splits, lines-split, gives-all, gives-none}
+use Rattle.brahma_shell.proofs.GivesLemmas.{lines-split, gives-all, gives-none}
 use Rattle.brahma_shell.proofs.GrowthLemmas.{Grows-start, IsSameStart-none, IsSameStart-more}
 use Rattle.brahma_shell.proofs.PointLemmas.{after_notes-append}
 use Rattle.script_lines.specs.Numbers.{object_slots}

@@ -1,5 +1,5 @@
 -- The notes of lines, one line after another, and how a journal grows by them.
-use Rattle.std.proofs.Common.{◌≡◌, ◌⊎◌, ⊎_elim, inl, inr, ℕ, ◌<◌, List, [], ◌∷◌, ◌++◌, append_assoc, Option, None, refl, sym, ap, subst, ◌∙◌, arith}
+use Rattle.std.proofs.Common.{◌≡◌, ◌⊎◌, ⊎_elim, inl, ℕ, List, [], ◌∷◌, ◌++◌, append_assoc, Option, refl, sym, ap, subst, ◌∙◌}
 use Rattle.std.proofs.lemmas.List.{append-nil}
 use Rattle.core_store.specs.declared.note.Note.{Note}
 use Rattle.core_store.specs.JournalView.{JournalView}
@@ -10,11 +10,11 @@ use Rattle.plain_model.specs.declared.calls.Call.TheVariants.{Commit}
 use Rattle.brahma_shell.specs.declared.replay.Stop.{Stop}
 use Rattle.brahma_shell.specs.declared.replay.Stop.TheVariants as stop
 use Rattle.brahma_shell.specs.Points.{Point, after_notes, point_of}
-use Rattle.brahma_shell.specs.Follows.{Gives, AsksUpkeep}
+use Rattle.brahma_shell.specs.Follows.{AsksUpkeep}
 use Rattle.brahma_shell.specs.Growth.{Grows}
 use Rattle.brahma_shell.specs.Log.{StaysRunning}
 use Rattle.brahma_shell.specs.Replay.{Performs, CutsOff, StopsPerform, LeavesLog, FailsPerform}
-use Rattle.brahma_shell.specs.Generated.{GivesLines, IsPartOf, GivesPart, GivesUpTo, DoesLines, CutsLines, LosesLines, StopsLines}
+use Rattle.brahma_shell.specs.Generated.{GivesLines, IsPartOf, GivesPart, GivesUpTo, DoesLines, CutsLines, StopsLines}
 use Rattle.brahma_shell.proofs.PointLemmas.{after_notes-append}
 use Rattle.brahma_shell.proofs.GrowthLemmas.{Grows-none, Grows-trans, Grows-point}
 use Rattle.brahma_shell.proofs.LogLemmas.{StaysRunning-trans, TellsFull-after, LosesCommit-after}

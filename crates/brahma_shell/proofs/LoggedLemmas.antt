@@ -1,5 +1,5 @@
 -- What a log that was printed leaves, and that it is printed where it can be.
-use Rattle.std.proofs.Common.{◌≡◌, ◌⊎◌, ⊎_elim, inl, inr, ℕ, List, [], Option, refl, sym, subst, arith}
+use Rattle.std.proofs.Common.{◌≡◌, ⊎_elim, inl, inr, ℕ, List, [], Option, refl, subst, arith}
 use Rattle.std.specs.Prelude.{IfSome, IsSome}
 use Rattle.std.specs.Io.KnownBytes.{Appends}
 use Rattle.disk_model.specs.declared.area.Area.{Area}
@@ -13,7 +13,7 @@ use Rattle.store_opening.specs.declared.open_refusal.Place.TheVariants as place
 use Rattle.store_opening.specs.Looks.{IsLookedAt}
 use Rattle.store_opening.specs.Store.{Reads, IsOfStore}
 use Rattle.current_log.specs.Current.{RefusesLog, IsOfLog}
-use Rattle.log_printing.specs.Printed.{IsLogText, IsTextFront, IsCutText}
+use Rattle.log_printing.specs.Printed.{IsLogText, IsTextFront}
 use Rattle.script_lines.specs.Output.{AppendsFront, open_refusal_line}
 use Rattle.script_lines.specs.Numbers.{object_slots}
 use Rattle.brahma_shell.specs.declared.ended.Ended.{Ended}

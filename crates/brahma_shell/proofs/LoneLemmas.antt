@@ -6,7 +6,7 @@ use Rattle.disk_model.specs.Areas.{Bytes}
 use Rattle.plain_model.specs.declared.calls.Call.TheVariants.{Commit}
 use Rattle.plain_model.specs.declared.calls.Reply.TheVariants.{DiskFault}
 use Rattle.plain_model.specs.declared.calls.Entry.TheVariants.{Call}
-use Rattle.plain_model.specs.History.{History, with_entry}
+use Rattle.plain_model.specs.History.{with_entry}
 use Rattle.core_store.specs.declared.limits.Limits.{Limits}
 use Rattle.logged_journal.specs.declared.failed.FailedCall.{FailedCall}
 use Rattle.logged_journal.specs.View.{LoggedView, history_of}

@@ -38,7 +38,7 @@ use Rattle.brahma_shell.specs.Growth.{IsSameStart}
 use Rattle.brahma_shell.specs.Log.{WasLogFull}
 use Rattle.brahma_shell.specs.Replay.{HasFollowed, AsksCrash, ComesToCrash, StopsReplay, FailsReplay, LeavesLog, LeavesMarks, status_of, last_line}
 use Rattle.brahma_shell.specs.Runs.{Run, whole, ids_at, end_point, since_opening}
-use Rattle.brahma_shell.specs.Top.{Tell, IsJustOpened, IsOfReplay, Outside, outside, Ends, EndsAtCrash, Replayed, text_in, whole_text, stored_at_end, status_of_refusal}
+use Rattle.brahma_shell.specs.Top.{Tell, IsJustOpened, IsOfReplay, Outside, outside, Ends, EndsAtCrash, Replayed, text_in, stored_at_end, status_of_refusal}
 use Rattle.brahma_shell.specs.Crashes.{Reopens, StaysShut, StopsCrash, shut, unwritten, reopened_line}
 use Rattle.brahma_shell.proofs.EndLemmas.{FailedGranted, of-replay, of-opened, sound-opening, off, front-kept, no-failure, nothing-more, FollowsPart-to}
 use Rattle.brahma_shell.proofs.LogLemmas.{history-running, none-committed, committed}

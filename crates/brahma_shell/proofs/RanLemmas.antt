@@ -1,7 +1,6 @@
 -- How a run of clients ends, by what is known where it ends.
-use Rattle.std.proofs.Common.{◌≡◌, ◌≢◌, ◌⊎◌, ⊎_elim, inl, inr, ℕ, ◌≤◌, ◌<◌, ◌-◌, Bool, true, false, List, [], ◌∷◌, ◌++◌, length, map, Option, Some, None, is_some, refl, sym, ap, subst, ◌∙◌, arith}
+use Rattle.std.proofs.Common.{◌≡◌, ◌≢◌, ◌⊎◌, ⊎_elim, inl, inr, ℕ, ◌≤◌, ◌-◌, true, List, [], length, Option, Some, None, is_some, refl, sym, ap, subst, ◌∙◌, arith}
 use Rattle.std.specs.Prelude.{IfSome, IsSome, codes}
-use Rattle.std.specs.List.{AllByRecursion}
 use Rattle.std.proofs.lemmas.Bool.{false≢true}
 use Rattle.std.specs.Io.KnownBytes.{Appends}
 use Rattle.plain_model.specs.declared.calls.Entry.{Entry}
@@ -17,8 +16,6 @@ use Rattle.disk_model.specs.Causes.{Rose}
 use Rattle.cell_model.specs.Cells.{Cell}
 use Rattle.cell_model.specs.Graph.{graph_of}
 use Rattle.core_store.specs.declared.frame.Frame.{Frame}
-use Rattle.core_store.specs.declared.limits.Limits.{Limits}
-use Rattle.core_store.specs.JournalView.{JournalView}
 use Rattle.core_store.specs.Opening.{opened_history}
 use Rattle.journal_opening.specs.Openings.{ReadsAs}
 use Rattle.logged_journal.specs.View.{LoggedView, history_of}
@@ -35,11 +32,11 @@ use Rattle.brahma_shell.specs.declared.replay.Stop.{Stop}
 use Rattle.brahma_shell.specs.declared.replay.Stop.TheVariants as stop
 use Rattle.brahma_shell.specs.ClientLines.{ReadsAll, StopsReading}
 use Rattle.brahma_shell.specs.Points.{point_of, MayRest, IsExactAt}
-use Rattle.brahma_shell.specs.Ran.{Began, Did, Ran, run_text}
+use Rattle.brahma_shell.specs.Ran.{Began, Did, Ran}
 use Rattle.brahma_shell.specs.Replay.{status_of, last_line}
 use Rattle.brahma_shell.specs.Running.{HasRun, HoldsNow}
 use Rattle.brahma_shell.specs.Telling.{IsUnmarked, Tells, shown, history_text, ending_text}
-use Rattle.brahma_shell.specs.Top.{IsOfReplay, IsOfOpenedStore, IsJustOpened, Outside, Ends, IsDoneOrFull, IsStatusOfReplay}
+use Rattle.brahma_shell.specs.Top.{IsOfReplay, IsOfOpenedStore, IsJustOpened, Outside, Ends, IsStatusOfReplay}
 use Rattle.brahma_shell.proofs.EndLemmas.{no-failure}
 use Rattle.brahma_shell.proofs.ClientLineLemmas.{none-refused}
 use Rattle.brahma_shell.proofs.ClientsLemmas.{clients-began, clients-did, clients-inactive}

@@ -1,15 +1,12 @@
 -- After a run that was finished the collector rests.
-use Rattle.std.proofs.Common.{◌≡◌, ℕ, List, [], ◌∷◌, ◌++◌, map, true, Option, Some, None, Ok, Err, refl, sym, ap, subst, ◌∙◌}
+use Rattle.std.proofs.Common.{◌≡◌, List, [], true, Option, Some, None, refl, sym, ap, subst, ◌∙◌}
 use Rattle.std.specs.Prelude.{IfSome}
 use Rattle.std.proofs.lemmas.List.{append-nil}
-use Rattle.plain_model.specs.History.{History, Moment, end_of}
-use Rattle.cell_model.specs.Cells.{Cell}
-use Rattle.core_store.specs.declared.collect.Collect.TheVariants.{Idle}
+use Rattle.plain_model.specs.History.{History}
 use Rattle.core_store.specs.declared.frame.Frame.{Frame}
-use Rattle.core_store.specs.declared.note.Note.{Note}
 use Rattle.core_store.specs.JournalView.{JournalView}
 use Rattle.logged_journal.specs.declared.failed.FailedCall.{FailedCall}
-use Rattle.logged_journal.specs.View.{LoggedView, failed_commit, history_of}
+use Rattle.logged_journal.specs.View.{LoggedView, history_of}
 use Rattle.latch_table.specs.Holds.{IsAlone}
 use Rattle.latch_table.specs.Rule.{AreAt, IsWhole, KeepsEachOnce}
 use Rattle.journal_chronicle.specs.View.{Origin, account, origin_of, notes_of, history_after}
@@ -18,7 +15,7 @@ use Rattle.client_pass.specs.Runs.{IsCollected}
 use Rattle.brahma_shell.specs.Points.{Point, start_with, after_notes, point_of, entries_in, MayRest, IsExactAt}
 use Rattle.brahma_shell.specs.Running.{OnlyPeeks}
 use Rattle.brahma_shell.proofs.LogLemmas.{none-committed, history-uncommitted}
-use Rattle.brahma_shell.proofs.PointLemmas.{may_rest, moment_of_point}
+use Rattle.brahma_shell.proofs.PointLemmas.{may_rest}
 use Rattle.brahma_shell.proofs.RestLemmas.{rests-exact}
 use Rattle.client_pass.proofs.SameLogs.{same-log_once}
 use Rattle.script_lines.specs.Numbers.{object_slots}

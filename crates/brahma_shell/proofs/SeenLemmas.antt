@@ -1,28 +1,24 @@
 -- The cells that the last pass saw after a run, and the stored ids.
-use Rattle.std.proofs.Common.{◌≡◌, ◌≢◌, ℕ, zero, suc, ◌+◌, ◌*◌, ◌<◌, ◌≤◌, Bool, true, false, List, [], ◌∷◌, ◌++◌, None, map, length, take, refl, sym, ap, subst, ◌∙◌, append_assoc, arith, inl, inr, ⊎_elim}
-use Rattle.std.specs.Prelude.{◌/◌, ◌%◌, ◌-◌, ◌||◌, ◌==◌, if◌then◌else◌, slice_index_or}
-use Rattle.std.specs.List.{AllByRecursion, list_any}
-use Rattle.std.specs.Ordering.{nat_cmp}
-use Rattle.std.specs.BTreeMap.{is_at}
+use Rattle.std.proofs.Common.{◌≡◌, ℕ, zero, suc, ◌+◌, ◌<◌, ◌≤◌, Bool, true, false, List, [], ◌∷◌, ◌++◌, None, length, take, refl, sym, ap, subst, ◌∙◌, append_assoc, arith, ⊎_elim}
+use Rattle.std.specs.Prelude.{◌==◌, if◌then◌else◌, slice_index_or}
 use Rattle.std.proofs.lemmas.List.{append-nil, take_all}
 use Rattle.std.proofs.lemmas.Bool.{cases_lt, ne_eqb}
 use Rattle.plain_model.specs.History.{end_of}
 use Rattle.plain_model.specs.Machine.{is_stored}
-use Rattle.plain_laws.specs.Sound.{Ascend}
-use Rattle.cell_model.specs.Cells.{Cell as StoredCell, cell_at, is_live}
+use Rattle.cell_model.specs.Cells.{Cell as StoredCell, is_live}
 use Rattle.cell_model.proofs.EditLaws.{live-within, live-there}
 use Rattle.store_model.specs.Sound.{IsSound}
 use Rattle.cell_page.specs.declared.cell.Cell.{Cell}
 use Rattle.cell_page.specs.Format.{first_id, page_of_id, place_of}
 use Rattle.core_store.specs.declared.frame.Frame.{Frame}
 use Rattle.core_store.specs.declared.note.Note.{Note}
-use Rattle.core_store.specs.JournalView.{JournalView, cells_of, cells_after_notes, core_of}
+use Rattle.core_store.specs.JournalView.{cells_of, cells_after_notes, core_of}
 use Rattle.logged_journal.specs.View.{LoggedView}
 use Rattle.latch_table.specs.declared.view.Station.{Station}
 use Rattle.latch_table.specs.Holds.{IsAlone}
 use Rattle.latch_table.specs.Views.{page_claimed, page_dropped, loaded, peeked}
 use Rattle.latch_table.specs.Rule.{AreSeen, IsWhole, KeepsEachOnce, LieBelow, times_in}
-use Rattle.journal_chronicle.specs.Pages.{page_in, page_cell}
+use Rattle.journal_chronicle.specs.Pages.{page_in}
 use Rattle.journal_chronicle.specs.View.{Origin, account, origin_of, notes_of, frame_after}
 use Rattle.shared_store.specs.Passes.{Known}
 use Rattle.brahma_shell.specs.Running.{OnlyPeeks, HasSeen, HasSeenLive}

@@ -1,13 +1,13 @@
 -- What a backup and a shipped log leave, and that each is done where it can be.
-use Rattle.std.proofs.Common.{◌≡◌, ◌⊎◌, ⊎_elim, inl, inr, ◌≤◌, ◌+◌, ◌*◌, ℕ, List, [], length, Option, Some, None, refl, sym, ap, subst, ◌∙◌, arith}
+use Rattle.std.proofs.Common.{◌≡◌, ⊎_elim, inl, inr, ℕ, List, [], Option, refl, subst, arith}
 use Rattle.std.specs.Prelude.{IfSome, IsSome}
 use Rattle.std.specs.Io.KnownBytes.{Appends}
 use Rattle.disk_model.specs.declared.area.Area.{Area}
 use Rattle.disk_model.specs.declared.area.Area.TheVariants.{LogA as AreaA, LogB as AreaB}
 use Rattle.disk_model.specs.Areas.{Bytes, in_area}
 use Rattle.disk_model.specs.Causes.{Rose}
-use Rattle.disk_model.specs.Told.{IsImage, EachImage}
-use Rattle.opened_images.specs.Opened.{Opened, OpensTo, no_store, damaged_log, unknown_version}
+use Rattle.disk_model.specs.Told.{EachImage}
+use Rattle.opened_images.specs.Opened.{no_store, damaged_log, unknown_version}
 use Rattle.opened_store.specs.Unopened.{DoesNotOpen}
 use Rattle.store_opening.specs.declared.open_refusal.OpenRefusal.{OpenRefusal}
 use Rattle.store_opening.specs.declared.open_refusal.OpenRefusal.TheVariants as refusal

@@ -1,6 +1,6 @@
 -- With which status a run of clients is told.
-use Rattle.std.proofs.Common.{◌≡◌, ◌≢◌, ◌⊎◌, ⊎_elim, inl, inr, ℕ, ◌≤◌, List, [], ◌++◌, Option, Some, None, refl, sym, ap, subst, ◌∙◌, arith}
-use Rattle.std.specs.Prelude.{IsSome, codes}
+use Rattle.std.proofs.Common.{◌≡◌, ◌⊎◌, ⊎_elim, inl, inr, ℕ, ◌≤◌, List, [], Option, Some, refl, arith}
+use Rattle.std.specs.Prelude.{codes}
 use Rattle.std.specs.Io.KnownBytes.{Appends}
 use Rattle.plain_model.specs.Text.{stored_line}
 use Rattle.disk_model.specs.Causes.{Rose}
@@ -11,7 +11,7 @@ use Rattle.brahma_shell.specs.declared.replay.Stop.{Stop}
 use Rattle.brahma_shell.specs.declared.replay.Stop.TheVariants as stop
 use Rattle.brahma_shell.specs.Replay.{status_of, last_line}
 use Rattle.brahma_shell.specs.Running.{TellsStop}
-use Rattle.brahma_shell.specs.Telling.{IsUnmarked, Shown, Tells, TellsStored, history_text, ending_text}
+use Rattle.brahma_shell.specs.Telling.{IsUnmarked, Shown, Tells, TellsStored, history_text}
 use Rattle.brahma_shell.proofs.TopLemmas.{EndsWith-after}
 
 module _ (stored : Option (List ℕ)) (before after : Shown) where

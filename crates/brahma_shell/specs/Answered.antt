@@ -8,7 +8,7 @@ use Rattle.store_opening.specs.Looks.{IsLookedAt}
 use Rattle.store_opening.specs.Store.{Reads}
 use Rattle.logged_journal.specs.View.{LoggedView}
 use Rattle.brahma_shell.specs.declared.commands.Command.{Command}
-use Rattle.brahma_shell.specs.declared.commands.Command.TheVariants.{Init, Replay, Run, Gen, Audit, ParAudit, Migrate, Backup, Ship, Log, Standby, Check}
+use Rattle.brahma_shell.specs.declared.commands.Command.TheVariants.{Init, Replay, Run, Gen, Audit, ParAudit, Migrate, Backup, Ship, Log, Standby, Check, Map}
 use Rattle.brahma_shell.specs.declared.ended.Ended.{Ended}
 use Rattle.brahma_shell.specs.declared.ended.Ended.TheVariants.{Shut, Kept}
 use Rattle.gen_options.specs.declared.reading.Asked.{Asked}
@@ -24,12 +24,13 @@ use Rattle.brahma_shell.specs.Shipped.{Shipped}
 use Rattle.brahma_shell.specs.Logged.{Logged}
 use Rattle.brahma_shell.specs.StoodBy.{StoodBy}
 use Rattle.brahma_shell.specs.Checked.{Checked}
+use Rattle.brahma_shell.specs.MapRan.{AlwaysKeepsMap, OpensToNoMap, HasOnlyMapLines, Unmapped, MapRan}
 use Rattle.standby_feeding.specs.StoodBy.{HasStream}
 use Rattle.script_lines.specs.Numbers.{object_slots}
 
 -- words that open the store
 abbrev pub AskStore : List (List ℕ) → Type 0
-AskStore words = (command_of words ≡ Some Replay) ⊎ ((command_of words ≡ Some Run) ⊎ ((command_of words ≡ Some Audit) ⊎ (((pieces : ℕ) × (command_of words ≡ Some (ParAudit pieces))) ⊎ (((asked : Asked) × (command_of words ≡ Some (Gen asked))) ⊎ (command_of words ≡ Some Backup)))))
+AskStore words = (command_of words ≡ Some Replay) ⊎ ((command_of words ≡ Some Run) ⊎ ((command_of words ≡ Some Audit) ⊎ (((pieces : ℕ) × (command_of words ≡ Some (ParAudit pieces))) ⊎ (((asked : Asked) × (command_of words ≡ Some (Gen asked))) ⊎ ((command_of words ≡ Some Backup) ⊎ (command_of words ≡ Some Map))))))
 
 -- words that make a store anew
 abbrev pub MakeStore : List (List ℕ) → Type 0
@@ -46,7 +47,7 @@ DoesNotOpenFor words image = DoesNotOpen object_slots image × (command_of words
 -- a command can be done with what it finds: it makes a store; or it finds one that opens, whatever a power loss leaves, and a
 -- replay's lines are in the grammar, within the limits, and name no page but one of that store, or those of a run are a script of
 -- clients; for a migration the store may open at six slots; of a standby and a check the source tells a stream whose store can
--- be made
+-- be made; for the lines of a map the store keeps one, and they are in their grammar and within the limits
 abbrev pub CanBeDone : {D : Type 0} → (D → Area → List ℕ → Type 0) → D → Option (List ℕ) → Command → Type 0
 CanBeDone may_leave disk left (Init pages) = ⊤
 CanBeDone may_leave disk left Replay = (ids : ℕ) × AlwaysOpens may_leave ids disk × HasOnlyLines ids left
@@ -60,6 +61,7 @@ CanBeDone may_leave disk left Ship = (ids : ℕ) × AlwaysOpens may_leave ids di
 CanBeDone may_leave disk left Log = (ids : ℕ) × AlwaysOpens may_leave ids disk
 CanBeDone may_leave disk left Standby = HasStream object_slots left
 CanBeDone may_leave disk left Check = HasStream object_slots left
+CanBeDone may_leave disk left Map = (ids : ℕ) × AlwaysKeepsMap may_leave ids disk × HasOnlyMapLines left
 
 -- there was no memory to read the options of `gen`: nothing is read, and the disk is asked for nothing
 pub record Starves {S D : Type 0} (words : List (List ℕ)) (script later : S) (disk : D) (before after : Outside) (status : ℕ) (ended : Ended D) : Type 0 where
@@ -102,6 +104,8 @@ pub record Answered {S D : Type 0} (content : D → Area → Option (List ℕ)) 
   pub stood_by : command_of words ≡ Some Standby → StoodBy may_leave moment left_since disk before after status ended
   -- a check hands the disk back as it was
   pub checked : command_of words ≡ Some Check → (ended ≡ Shut disk) × Checked before after status
+  pub mapped : command_of words ≡ Some Map → (later ≡ script) × Unmapped content may_leave moment left_since disk before after status ended
+      ⊎ MapRan content may_leave disk before after status ended
   -- a store that was made opens, whatever a power loss leaves
   pub makes_open : (pages : ℕ) → command_of words ≡ Some (Init pages) → (status ≡ 6 → ⊥) → AlwaysOpens may_leave (8 * pages) (disk_in ended)
   -- and on a disk that tells what it reads it goes on to open so, with as many ids, after each command that makes none, at every
@@ -119,5 +123,6 @@ pub record Answered {S D : Type 0} (content : D → Area → Option (List ℕ)) 
   pub refuses : (image : Bytes) → Reads content disk image → DoesNotOpen object_slots image → AskStore words → Unopened content may_leave moment left_since disk before after status ended
   -- nor is it migrated where it opens at neither number of slots
   pub refuses_to_migrate : (image : Bytes) → Reads content disk image → DoesNotOpenFor words image → command_of words ≡ Some Migrate → Unmigrated content may_leave moment left_since disk before after status ended
-  -- and only there it is refused, where the disk tells what it reads; where a stream is read, it is refused for that alone
-  pub only_refused : (AskStream words → ⊥) → Tell content → status ≡ 7 → (image : Bytes) → Reads content disk image → DoesNotOpenFor words image
+  -- and only there it is refused, where the disk tells what it reads, or where lines over its map are asked and it keeps none; where a
+  -- stream is read, it is refused for that alone
+  pub only_refused : (AskStream words → ⊥) → Tell content → status ≡ 7 → (image : Bytes) → Reads content disk image → DoesNotOpenFor words image ⊎ ((command_of words ≡ Some Map) × OpensToNoMap image)

@@ -1,5 +1,5 @@
 -- The script of a run of clients, which is read whole.
-use Rattle.std.specs.Prelude.{◌≡◌, ◌⊎◌, ℕ, ◌+◌, List, [], ◌∷◌, ◌++◌, length, Option, Some, None, ⊤}
+use Rattle.std.specs.Prelude.{◌≡◌, ℕ, ◌+◌, List, [], ◌∷◌, ◌++◌, length, Option, Some, None, ⊤}
 use Rattle.script_lines.specs.declared.grammar.Line.{Line}
 use Rattle.script_lines.specs.Grammar.{meaning_of, IsAccepted}
 use Rattle.script_lines.specs.Lines.{lines_of, line_feeds, whole_lines_of}

@@ -3,7 +3,7 @@ use Rattle.std.specs.Prelude.{◌≡◌, ℕ, if◌then◌else◌, List, [], ◌
 use Rattle.script_lines.specs.Numbers.{pages_of}
 use Rattle.gen_options.specs.Options.{asked_of}
 use Rattle.brahma_shell.specs.declared.commands.Command.{Command}
-use Rattle.brahma_shell.specs.declared.commands.Command.TheVariants.{Init, Replay, Run, Gen, Audit, ParAudit, Migrate, Backup, Ship, Log, Standby, Check}
+use Rattle.brahma_shell.specs.declared.commands.Command.TheVariants.{Init, Replay, Run, Gen, Audit, ParAudit, Migrate, Backup, Ship, Log, Standby, Check, Map}
 
 -- the command that one word names
 abbrev pub command_of_word : List ℕ → Option Command
@@ -17,6 +17,7 @@ command_of_word word =
     else if bytes_eq word (codes "log") then Some Log
     else if bytes_eq word (codes "standby") then Some Standby
     else if bytes_eq word (codes "check") then Some Check
+    else if bytes_eq word (codes "map") then Some Map
     else None
 
 -- the command that one word names with a number after it

@@ -1,5 +1,5 @@
 -- What the last pass knows after a run of clients.
-use Rattle.std.specs.Prelude.{◌≡◌, ◌⊎◌, ℕ, zero, suc, ◌≤◌, if◌then◌else◌, Bool, true, false, List, [], ◌∷◌, ◌++◌, slice_index_or, Option, None, IfSome, IsSome}
+use Rattle.std.specs.Prelude.{◌≡◌, ℕ, zero, suc, ◌≤◌, if◌then◌else◌, Bool, true, false, List, [], ◌∷◌, ◌++◌, slice_index_or, Option, None, IfSome, IsSome}
 use Rattle.plain_model.specs.History.{end_of, is_stopped}
 use Rattle.disk_model.specs.declared.area.Area.{Area}
 use Rattle.disk_model.specs.Causes.{Rose}
@@ -30,7 +30,6 @@ use Rattle.brahma_shell.specs.declared.replay.Stop.TheVariants as stop
 use Rattle.brahma_shell.specs.ClientLines.{ReadsAll}
 use Rattle.brahma_shell.specs.Log.{WasLogFull}
 use Rattle.brahma_shell.specs.Points.{entries_in}
-use Rattle.brahma_shell.specs.Telling.{IsUnmarked}
 use Rattle.script_lines.specs.Numbers.{object_slots}
 
 -- ---- why a run stopped

@@ -39,6 +39,8 @@ pub enum Command {
     /// `check`: tells whether the store of the stream that the source gives is the effect of just the commits in it. It asks the disk
     /// for nothing.
     Check,
+    /// `map`: does lines over the ordered map that the store keeps, each one transaction, and prints what they answer.
+    Map,
 }
 
 /// The command that one word names.
@@ -55,6 +57,7 @@ fn command_of_word(word: &[u8]) -> Option<Command>
         b"log" => Some(Command::Log),
         b"standby" => Some(Command::Standby),
         b"check" => Some(Command::Check),
+        b"map" => Some(Command::Map),
         _ => None,
     }
 }

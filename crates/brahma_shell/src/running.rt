@@ -150,7 +150,7 @@ fn tell<W: Sink, D: Disk>(
 }
 
 /// Makes known what holds of the journal: each of these calls hands facts out.
-fn know<D: Disk>(logged: &LoggedJournal<SLOTS, D>)
+pub(crate) fn know<D: Disk>(logged: &LoggedJournal<SLOTS, D>)
     ensures { HoldsNow D.may_leave D.faults logged.now }
 {
     let journal = logged.journal();

@@ -6,11 +6,11 @@ use Rattle.disk_model.specs.Causes.{Rose}
 use Rattle.script_lines.specs.Output.{AppendsFront}
 use Rattle.map_lines.specs.declared.grammar.Line.TheVariants as line
 use Rattle.map_lines.specs.Output.{list_line}
-use Rattle.map_script.specs.declared.failure.Failure.TheVariants as failure
+use Rattle.map_calls.specs.declared.failure.Failure.TheVariants as failure
 use Rattle.map_script.specs.declared.stop.Stop.{Stop}
 use Rattle.map_script.specs.declared.stop.Stop.TheVariants as stop
 use Rattle.plain_map.specs.Pairs.{Pairs}
-use Rattle.map_script.specs.Views.{StoreView, GoesOn}
+use Rattle.map_calls.specs.Views.{StoreView, Leaving, GoesOn}
 use Rattle.map_script.specs.Stopping.{StopsAnswer}
 use Rattle.map_script.specs.Listing.{StopsList}
 use Rattle.map_script.proofs.StoreLemmas.{starved}
@@ -23,7 +23,7 @@ stops-list (Ok u) before written text pairs a b e h = tt
 stops-list (Err s) before written text pairs a b e h =
     subst (λ (t : Stop). StopsList t pairs before written) (sym h.0) (subst (λ (t : List ℕ). AppendsFront before written t) e h.1)
 
-list-stops : (told : Type 0) (s : Stop) (old new : StoreView) (leaves : Pairs → Type 0) (before written : Option (List ℕ)) (pairs : Pairs) → pairs ≡ old.map.pairs → new.map ≡ old.map → GoesOn new leaves → StopsList s pairs before written → StopsAnswer told s line.List old new leaves before written
+list-stops : (told : Type 0) (s : Stop) (old new : StoreView) (leaves : Leaving) (before written : Option (List ℕ)) (pairs : Pairs) → pairs ≡ old.map.pairs → new.map ≡ old.map → GoesOn new leaves → StopsList s pairs before written → StopsAnswer told s line.List old new leaves before written
 list-stops told (stop.Line k) old new leaves before written pairs e same g h = absurd h
 list-stops told stop.Read old new leaves before written pairs e same g h = absurd h
 list-stops told stop.Write old new leaves before written pairs e same g h = (list_line pairs, (same, ap list_line e), g, h)
@@ -33,6 +33,6 @@ list-stops told (stop.Failed failure.LogFull) old new leaves before written pair
 list-stops told (stop.Failed failure.Memory) old new leaves before written pairs e same g h = (starved old new leaves old.map.pairs same g, h)
 list-stops told (stop.Unopened cause) old new leaves before written pairs e same g h = absurd h
 
-pub list-stopped : (told : Type 0) (r : Result (Unit {0}) Stop) (old new : StoreView) (leaves : Pairs → Type 0) (before written : Option (List ℕ)) (pairs : Pairs) → pairs ≡ old.map.pairs → new.map ≡ old.map → GoesOn new leaves → IfErr r (λ s. StopsList s pairs before written) → IfErr r (λ s. StopsAnswer told s line.List old new leaves before written)
+pub list-stopped : (told : Type 0) (r : Result (Unit {0}) Stop) (old new : StoreView) (leaves : Leaving) (before written : Option (List ℕ)) (pairs : Pairs) → pairs ≡ old.map.pairs → new.map ≡ old.map → GoesOn new leaves → IfErr r (λ s. StopsList s pairs before written) → IfErr r (λ s. StopsAnswer told s line.List old new leaves before written)
 list-stopped told (Ok u) old new leaves before written pairs e same g h = tt
 list-stopped told (Err s) old new leaves before written pairs e same g h = list-stops told s old new leaves before written pairs e same g h

@@ -1,14 +1,15 @@
 -- Calls of a store, one after another.
-use Rattle.std.proofs.Common.{◌≡◌, ◌⊎◌, ⊎_elim, inl, ◌≤◌, ◌<◌, ℕ, Option, Some, None, List, refl, ap, subst, ◌∙◌, arith}
+use Rattle.std.proofs.Common.{◌≡◌, ⊎_elim, inl, ◌≤◌, ◌<◌, ℕ, Bool, true, false, Option, Some, None, List, refl, subst, ◌∙◌, arith}
+use Rattle.std.specs.Prelude.{◌↔◌}
 use Rattle.std.specs.Io.KnownBytes.{Keeps}
 use Rattle.disk_model.specs.Causes.{Rose}
-use Rattle.map_script.specs.declared.failure.Failure.{Failure}
-use Rattle.map_script.specs.declared.failure.Failure.TheVariants as failure
-use Rattle.map_script.specs.declared.store.Put.{Put}
-use Rattle.map_script.specs.declared.store.Put.TheVariants.{Stored, NoRoom}
+use Rattle.map_calls.specs.declared.failure.Failure.{Failure}
+use Rattle.map_calls.specs.declared.failure.Failure.TheVariants as failure
+use Rattle.map_calls.specs.declared.put.Put.{Put}
+use Rattle.map_calls.specs.declared.put.Put.TheVariants.{Stored, NoRoom}
 use Rattle.plain_map.specs.Pairs.{Pairs, value_of}
-use Rattle.map_script.specs.Machine.{MapState, needs, Puts}
-use Rattle.map_script.specs.Views.{StoreView, GoesOn, Fails, Tries, Places}
+use Rattle.map_calls.specs.Maps.{MapState, needs, Puts}
+use Rattle.map_calls.specs.Views.{StoreView, Leaving, LeavesThen, GoesOn, Fails, Tries, Places}
 
 pub rose-to : (a b c : ℕ) → Rose a b → b ≤ c → Rose a c
 rose-to a b c r le = omega (arith, le, r)
@@ -17,21 +18,27 @@ pub rose-from : (a b c : ℕ) → a ≤ b → Rose b c → Rose a c
 rose-from a b c le r = omega (arith, le, r)
 
 -- a call fails after one that left the map
-pub fails-after : (cause : Failure) (old mid now : StoreView) (leaves : Pairs → Type 0) (asked : Pairs → Pairs) → mid.map ≡ old.map → old.faults ≤ mid.faults → Fails cause mid now leaves (asked mid.map.pairs) → Fails cause old now leaves (asked old.map.pairs)
+pub fails-after : (cause : Failure) (old mid now : StoreView) (leaves : Leaving) (asked : Pairs → Pairs) → mid.map ≡ old.map → old.faults ≤ mid.faults → Fails cause mid now leaves (asked mid.map.pairs) → Fails cause old now leaves (asked old.map.pairs)
 fails-after cause old mid now leaves asked e le f = record {
   disk = λ d. rose-from old.faults mid.faults now.faults le (f.disk d);
   history = f.history;
   log = f.log;
-  only = subst (λ (m : MapState). (pairs : Pairs) → leaves pairs → (pairs ≡ m.pairs) ⊎ ((cause ≡ failure.Disk) × (pairs ≡ asked m.pairs))) e f.only;
+  left = subst (λ (m : MapState). LeavesThen cause leaves m (asked m.pairs)) e f.left;
 }
 
+left-kept : (cause : Failure) (leaves : Leaving) (before : MapState) (asked : Pairs) → LeavesThen cause leaves before before.pairs → LeavesThen cause leaves before asked
+left-kept failure.Disk leaves before asked h = λ image l. inl (⊎_elim (λ k. k) (λ k. k) (h image l))
+left-kept failure.HistoryFull leaves before asked h = h
+left-kept failure.LogFull leaves before asked h = h
+left-kept failure.Memory leaves before asked h = h
+
 -- a call fails that asked for no other map
-pub fails-kept : (cause : Failure) (old now : StoreView) (leaves : Pairs → Type 0) (asked : Pairs) → Fails cause old now leaves old.map.pairs → Fails cause old now leaves asked
+pub fails-kept : (cause : Failure) (old now : StoreView) (leaves : Leaving) (asked : Pairs) → Fails cause old now leaves old.map.pairs → Fails cause old now leaves asked
 fails-kept cause old now leaves asked f = record {
   disk = f.disk;
   history = f.history;
   log = f.log;
-  only = λ pairs l. ⊎_elim (λ e. inl e) (λ h. inl h.1) (f.only pairs l);
+  left = left-kept cause leaves old.map asked f.left;
 }
 
 -- the pair was placed after a call that left the map
@@ -48,11 +55,19 @@ pub keeps-same : (o : Option (List ℕ)) → Keeps o o
 keeps-same None = tt
 keeps-same (Some xs) = refl
 
+unset : (b : Bool) → b ≡ false → b ≡ true → ⊥
+unset true e h = absurd (cc)
+unset false e h = absurd (cc)
+
+-- a store that isn't marked is marked for nothing
+pub no-mark : (P : Type 0) (b : Bool) → (P → ⊥) → b ≡ false → P ↔ (b ≡ true)
+no-mark P b n e = ((λ p. absurd (n p)), λ h. absurd (unset b e h))
+
 -- out of memory after a call that left the map
-pub starved : (old now : StoreView) (leaves : Pairs → Type 0) (asked : Pairs) → now.map ≡ old.map → GoesOn now leaves → Fails failure.Memory old now leaves asked
+pub starved : (old now : StoreView) (leaves : Leaving) (asked : Pairs) → now.map ≡ old.map → GoesOn now leaves → Fails failure.Memory old now leaves asked
 starved old now leaves asked e g = record {
   disk = λ d. absurd (cc (d));
-  history = λ d. absurd (cc (d));
-  log = λ d. absurd (cc (d));
-  only = λ pairs l. inl (g.only pairs l ∙ ap (λ (m : MapState). m.pairs) e);
+  history = no-mark (failure.Memory ≡ failure.HistoryFull) now.history_full (λ d. absurd (cc (d))) g.unmarked.0;
+  log = no-mark (failure.Memory ≡ failure.LogFull) now.log_full (λ d. absurd (cc (d))) g.unmarked.1;
+  left = subst (λ (m : MapState). LeavesThen failure.Memory leaves m asked) e g.left;
 }

@@ -3,21 +3,22 @@ use Rattle.std.specs.Prelude.{◌≡◌, ℕ, ◌+◌, List, [], ◌∷◌, ◌+
 use Rattle.script_lines.specs.Lines.{lines_of, line_feeds, whole_lines_of}
 use Rattle.map_lines.specs.declared.grammar.Line.{Line}
 use Rattle.map_lines.specs.Grammar.{IsAccepted, IsRefused, meaning_of}
-use Rattle.map_script.specs.Machine.{MapState, Does}
+use Rattle.map_calls.specs.Maps.{MapState}
+use Rattle.map_script.specs.Machine.{Does}
 
 -- the line of this number is accepted, and asks this
 abbrev pub Asks : ℕ → List ℕ → Line → Type 0
 Asks number bytes asked = IsAccepted number bytes × (meaning_of bytes ≡ Some asked)
 
 -- the line of this number is accepted, and does this to the map and prints this text
-abbrev pub LineDoes : ℕ → List ℕ → MapState → MapState → List ℕ → Type 0
-LineDoes number bytes m n text = (asked : Line) × Asks number bytes asked × Does asked m n text
+abbrev pub LineDoes : Type 0 → ℕ → List ℕ → MapState → MapState → List ℕ → Type 0
+LineDoes told number bytes m n text = (asked : Line) × Asks number bytes asked × Does told asked m n text
 
 -- the lines, one after another, lead from one map to the other, and print this text; the first one has this number
-abbrev pub Follows : ℕ → List (List ℕ) → MapState → MapState → List ℕ → Type 0
-Follows number [] m n text = (n ≡ m) × (text ≡ [])
-Follows number (line ∷ lines) m n text =
-    (mid : MapState) × («first» rest : List ℕ) × (text ≡ «first» ++ rest) × LineDoes number line m mid «first» × Follows (number + 1) lines mid n rest
+abbrev pub Follows : Type 0 → ℕ → List (List ℕ) → MapState → MapState → List ℕ → Type 0
+Follows told number [] m n text = (n ≡ m) × (text ≡ [])
+Follows told number (line ∷ lines) m n text =
+    (mid : MapState) × («first» rest : List ℕ) × (text ≡ «first» ++ rest) × LineDoes told number line m mid «first» × Follows told (number + 1) lines mid n rest
 
 -- ---- a source that tells what it has left, before the script and after it; of one that doesn't nothing is said
 

@@ -6,37 +6,36 @@ use Rattle.script_lines.specs.Output.{AppendsFront, EndsWith}
 use Rattle.map_lines.specs.Output.{keys_line}
 use Rattle.map_script.specs.declared.stop.Stop.{Stop}
 use Rattle.map_script.specs.declared.stop.Stop.TheVariants as stop
-use Rattle.plain_map.specs.Pairs.{Pairs}
 use Rattle.map_script.specs.Following.{Follows, AreAll}
-use Rattle.map_script.specs.Views.{StoreView, GoesOn}
+use Rattle.map_calls.specs.Views.{StoreView, Leaving, GoesOn}
 use Rattle.map_script.specs.Stopping.{StopsScript, status_of, last_line}
 
 -- All lines of the source were done, in order: they lead from the first map to the one that the store keeps, whatever a power loss
 -- leaves. All ids are free that can be. Their text was written, and the number of the map's keys.
-pub record EndsWell (source left : Option (List ℕ)) (first now : StoreView) (leaves : Pairs → Type 0) (before written : Option (List ℕ)) : Type 0 where
+pub record EndsWell (told : Type 0) (source left : Option (List ℕ)) (first now : StoreView) (leaves : Leaving) (before written : Option (List ℕ)) : Type 0 where
   pub done : List (List ℕ)
   pub text : List ℕ
-  pub follows : Follows 1 done first.map now.map text
+  pub follows : Follows told 1 done first.map now.map text
   pub all : AreAll source left done
   pub goes : GoesOn now leaves
   pub collected : now.room ≡ now.map.free
   pub printed : Appends before written (text ++ keys_line (length now.map.pairs))
 
 -- the same, but the sink failed the last line
-pub record CutsEnd (source left : Option (List ℕ)) (first now : StoreView) (leaves : Pairs → Type 0) (before written : Option (List ℕ)) : Type 0 where
+pub record CutsEnd (told : Type 0) (source left : Option (List ℕ)) (first now : StoreView) (leaves : Leaving) (before written : Option (List ℕ)) : Type 0 where
   pub done : List (List ℕ)
   pub text : List ℕ
-  pub follows : Follows 1 done first.map now.map text
+  pub follows : Follows told 1 done first.map now.map text
   pub all : AreAll source left done
   pub goes : GoesOn now leaves
   pub collected : now.room ≡ now.map.free
   pub printed : AppendsFront before written (text ++ keys_line (length now.map.pairs))
 
 -- a script stops: after some first lines, or at the last line of its text
-abbrev pub StopsAnywhere : Type 0 → Stop → Option (List ℕ) → Option (List ℕ) → StoreView → StoreView → (Pairs → Type 0) → Option (List ℕ) → Option (List ℕ) → Type 0
+abbrev pub StopsAnywhere : Type 0 → Stop → Option (List ℕ) → Option (List ℕ) → StoreView → StoreView → Leaving → Option (List ℕ) → Option (List ℕ) → Type 0
 StopsAnywhere told s source left first now leaves before written =
     StopsScript told s source left first now leaves before written
-    ⊎ ((s ≡ stop.Write) × CutsEnd source left first now leaves before written)
+    ⊎ ((s ≡ stop.Write) × CutsEnd told source left first now leaves before written)
 
 -- what a source and a sink show: what is left to read and what was written, where they tell it, and how many of their calls failed
 pub record Streams : Type 0 where
@@ -50,7 +49,7 @@ abbrev pub streams : Option (List ℕ) → ℕ → Option (List ℕ) → ℕ →
 streams left read_faults written write_faults = record { left = left; read_faults = read_faults; written = written; write_faults = write_faults }
 
 -- a script stopped, and after its text its last line was written
-pub record EndsStopped (told : Type 0) (s : Stop) (before after : Streams) (first now : StoreView) (leaves : Pairs → Type 0) : Type 0 where
+pub record EndsStopped (told : Type 0) (s : Stop) (before after : Streams) (first now : StoreView) (leaves : Leaving) : Type 0 where
   pub written : Option (List ℕ)
   pub stops : StopsAnywhere told s before.left after.left first now leaves before.written written
   pub last : EndsWith written after.written before.write_faults after.write_faults [] (last_line s)
@@ -58,7 +57,7 @@ pub record EndsStopped (told : Type 0) (s : Stop) (before after : Streams) (firs
   pub write : s ≡ stop.Write → Rose before.write_faults after.write_faults
 
 -- a script over a store that keeps a map ended with this status
-abbrev pub Mapped : Type 0 → Streams → Streams → StoreView → StoreView → (Pairs → Type 0) → ℕ → Type 0
+abbrev pub Mapped : Type 0 → Streams → Streams → StoreView → StoreView → Leaving → ℕ → Type 0
 Mapped told before after first now leaves status =
-    ((status ≡ 0) × EndsWell before.left after.left first now leaves before.written after.written)
+    ((status ≡ 0) × EndsWell told before.left after.left first now leaves before.written after.written)
     ⊎ ((s : Stop) × (status ≡ status_of s) × EndsStopped told s before after first now leaves)

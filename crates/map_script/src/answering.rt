@@ -3,28 +3,35 @@ ghost use Rattle.std.specs.Prelude.{◌≡◌, ◌≤◌, true, OnOk, IfErr, IsE
 ghost use Rattle.std.specs.Io.KnownBytes.{Appends};
 ghost use Rattle.disk_model.specs.Causes.{Rose};
 ghost use Rattle.map_lines.specs.Output.{list_line};
-ghost use Rattle.map_script.specs.Views.{GoesOn};
+ghost use Rattle.map_calls.specs.Views.{GoesOn};
 ghost use Rattle.map_script.specs.Stopping.{Answers, StopsAnswer, DoesLine, StopsLine};
 ghost use Rattle.map_script.specs.Listing.{StopsList};
+ghost use Rattle.stored_map.specs.Stores.{view_of, leaving, Tell};
 
-use crate::failure::Failure;
 use crate::placing::place;
 use crate::printing::{print, tell};
 use crate::stop::Stop;
-use crate::store::{MapStore, Put};
+use disk_model::Disk;
+use map_calls::{Failure, Put};
 use map_lines::{
     Line, accepted, deleted_line, found_line, list_line, put_full_line, put_line, reopened_line,
 };
 use outside_io::Sink;
 use std::alloc::Global;
+use stored_map::StoredMap;
 
 /// Gives the key this value, and writes the line.
-fn put<S: MapStore, W: Sink>(store: &mut S, out: &mut W, key: u64, value: u64) -> Result<(), Stop>
-    requires running { (S.view store.old).running ≡ true }
-    ensures ok { OnOk result (Answers (Line.Put key value) (S.view store.old) (S.view store.new) (S.leaves store.new) (W.written out.old) (W.written out.new)) }
-    ensures stopped { IfErr result (λ s. StopsAnswer S.told s (Line.Put key value) (S.view store.old) (S.view store.new) (S.leaves store.new) (W.written out.old) (W.written out.new)) }
+fn put<D: Disk, W: Sink>(
+    store: &mut StoredMap<D>,
+    out: &mut W,
+    key: u64,
+    value: u64,
+) -> Result<(), Stop>
+    requires running { (view_of D.faults store.old).running ≡ true }
+    ensures ok { OnOk result (Answers (Tell D.content) (Line.Put key value) (view_of D.faults store.old) (view_of D.faults store.new) (leaving D.may_leave store.new) (W.written out.old) (W.written out.new)) }
+    ensures stopped { IfErr result (λ s. StopsAnswer (Tell D.content) s (Line.Put key value) (view_of D.faults store.old) (view_of D.faults store.new) (leaving D.may_leave store.new) (W.written out.old) (W.written out.new)) }
     ensures write { IsErrOf result Stop.Write → Rose (W.faults out.old) (W.faults out.new) }
-    ensures later { (S.view store.old).faults ≤ (S.view store.new).faults }
+    ensures later { (view_of D.faults store.old).faults ≤ (view_of D.faults store.new).faults }
     ensures out_later { W.faults out.old ≤ W.faults out.new }
 {
     match place(store, key, value) {
@@ -35,12 +42,12 @@ fn put<S: MapStore, W: Sink>(store: &mut S, out: &mut W, key: u64, value: u64) -
 }
 
 /// Writes the key's value.
-fn get<S: MapStore, W: Sink>(store: &mut S, out: &mut W, key: u64) -> Result<(), Stop>
-    requires running { (S.view store.old).running ≡ true }
-    ensures ok { OnOk result (Answers (Line.Get key) (S.view store.old) (S.view store.new) (S.leaves store.new) (W.written out.old) (W.written out.new)) }
-    ensures stopped { IfErr result (λ s. StopsAnswer S.told s (Line.Get key) (S.view store.old) (S.view store.new) (S.leaves store.new) (W.written out.old) (W.written out.new)) }
+fn get<D: Disk, W: Sink>(store: &mut StoredMap<D>, out: &mut W, key: u64) -> Result<(), Stop>
+    requires running { (view_of D.faults store.old).running ≡ true }
+    ensures ok { OnOk result (Answers (Tell D.content) (Line.Get key) (view_of D.faults store.old) (view_of D.faults store.new) (leaving D.may_leave store.new) (W.written out.old) (W.written out.new)) }
+    ensures stopped { IfErr result (λ s. StopsAnswer (Tell D.content) s (Line.Get key) (view_of D.faults store.old) (view_of D.faults store.new) (leaving D.may_leave store.new) (W.written out.old) (W.written out.new)) }
     ensures write { IsErrOf result Stop.Write → Rose (W.faults out.old) (W.faults out.new) }
-    ensures later { (S.view store.old).faults ≤ (S.view store.new).faults }
+    ensures later { (view_of D.faults store.old).faults ≤ (view_of D.faults store.new).faults }
     ensures out_later { W.faults out.old ≤ W.faults out.new }
 {
     match store.get(key) {
@@ -50,12 +57,12 @@ fn get<S: MapStore, W: Sink>(store: &mut S, out: &mut W, key: u64) -> Result<(),
 }
 
 /// Takes the key's value away, and writes it.
-fn remove<S: MapStore, W: Sink>(store: &mut S, out: &mut W, key: u64) -> Result<(), Stop>
-    requires running { (S.view store.old).running ≡ true }
-    ensures ok { OnOk result (Answers (Line.Delete key) (S.view store.old) (S.view store.new) (S.leaves store.new) (W.written out.old) (W.written out.new)) }
-    ensures stopped { IfErr result (λ s. StopsAnswer S.told s (Line.Delete key) (S.view store.old) (S.view store.new) (S.leaves store.new) (W.written out.old) (W.written out.new)) }
+fn remove<D: Disk, W: Sink>(store: &mut StoredMap<D>, out: &mut W, key: u64) -> Result<(), Stop>
+    requires running { (view_of D.faults store.old).running ≡ true }
+    ensures ok { OnOk result (Answers (Tell D.content) (Line.Delete key) (view_of D.faults store.old) (view_of D.faults store.new) (leaving D.may_leave store.new) (W.written out.old) (W.written out.new)) }
+    ensures stopped { IfErr result (λ s. StopsAnswer (Tell D.content) s (Line.Delete key) (view_of D.faults store.old) (view_of D.faults store.new) (leaving D.may_leave store.new) (W.written out.old) (W.written out.new)) }
     ensures write { IsErrOf result Stop.Write → Rose (W.faults out.old) (W.faults out.new) }
-    ensures later { (S.view store.old).faults ≤ (S.view store.new).faults }
+    ensures later { (view_of D.faults store.old).faults ≤ (view_of D.faults store.new).faults }
     ensures out_later { W.faults out.old ≤ W.faults out.new }
 {
     match store.remove(key) {
@@ -78,12 +85,12 @@ fn tell_list<W: Sink>(alloc: Global, out: &mut W, pairs: &[(u64, u64)]) -> Resul
 }
 
 /// Writes all pairs.
-fn list<S: MapStore, W: Sink>(alloc: Global, store: &mut S, out: &mut W) -> Result<(), Stop>
-    requires running { (S.view store.old).running ≡ true }
-    ensures ok { OnOk result (Answers Line.List (S.view store.old) (S.view store.new) (S.leaves store.new) (W.written out.old) (W.written out.new)) }
-    ensures stopped { IfErr result (λ s. StopsAnswer S.told s Line.List (S.view store.old) (S.view store.new) (S.leaves store.new) (W.written out.old) (W.written out.new)) }
+fn list<D: Disk, W: Sink>(alloc: Global, store: &mut StoredMap<D>, out: &mut W) -> Result<(), Stop>
+    requires running { (view_of D.faults store.old).running ≡ true }
+    ensures ok { OnOk result (Answers (Tell D.content) Line.List (view_of D.faults store.old) (view_of D.faults store.new) (leaving D.may_leave store.new) (W.written out.old) (W.written out.new)) }
+    ensures stopped { IfErr result (λ s. StopsAnswer (Tell D.content) s Line.List (view_of D.faults store.old) (view_of D.faults store.new) (leaving D.may_leave store.new) (W.written out.old) (W.written out.new)) }
     ensures write { IsErrOf result Stop.Write → Rose (W.faults out.old) (W.faults out.new) }
-    ensures later { (S.view store.old).faults ≤ (S.view store.new).faults }
+    ensures later { (view_of D.faults store.old).faults ≤ (view_of D.faults store.new).faults }
     ensures out_later { W.faults out.old ≤ W.faults out.new }
 {
     let pairs = match store.list(alloc) {
@@ -94,12 +101,12 @@ fn list<S: MapStore, W: Sink>(alloc: Global, store: &mut S, out: &mut W) -> Resu
 }
 
 /// Loses power, opens the store again, and writes how many keys have a value then.
-fn crash<S: MapStore, W: Sink>(store: &mut S, out: &mut W, pick: u32) -> Result<(), Stop>
-    requires running { (S.view store.old).running ≡ true }
-    ensures ok { OnOk result (Answers (Line.Crash pick) (S.view store.old) (S.view store.new) (S.leaves store.new) (W.written out.old) (W.written out.new)) }
-    ensures stopped { IfErr result (λ s. StopsAnswer S.told s (Line.Crash pick) (S.view store.old) (S.view store.new) (S.leaves store.new) (W.written out.old) (W.written out.new)) }
+fn crash<D: Disk, W: Sink>(store: &mut StoredMap<D>, out: &mut W, pick: u32) -> Result<(), Stop>
+    requires running { (view_of D.faults store.old).running ≡ true }
+    ensures ok { OnOk result (Answers (Tell D.content) (Line.Crash pick) (view_of D.faults store.old) (view_of D.faults store.new) (leaving D.may_leave store.new) (W.written out.old) (W.written out.new)) }
+    ensures stopped { IfErr result (λ s. StopsAnswer (Tell D.content) s (Line.Crash pick) (view_of D.faults store.old) (view_of D.faults store.new) (leaving D.may_leave store.new) (W.written out.old) (W.written out.new)) }
     ensures write { IsErrOf result Stop.Write → Rose (W.faults out.old) (W.faults out.new) }
-    ensures later { (S.view store.old).faults ≤ (S.view store.new).faults }
+    ensures later { (view_of D.faults store.old).faults ≤ (view_of D.faults store.new).faults }
     ensures out_later { W.faults out.old ≤ W.faults out.new }
 {
     match store.lose_power(pick) {
@@ -109,17 +116,17 @@ fn crash<S: MapStore, W: Sink>(store: &mut S, out: &mut W, pick: u32) -> Result<
 }
 
 /// Does what a line asks, and writes its line.
-fn answer<S: MapStore, W: Sink>(
+fn answer<D: Disk, W: Sink>(
     alloc: Global,
-    store: &mut S,
+    store: &mut StoredMap<D>,
     out: &mut W,
     line: Line,
 ) -> Result<(), Stop>
-    requires goes { GoesOn (S.view store.old) (S.leaves store.old) }
-    ensures ok { OnOk result (Answers line (S.view store.old) (S.view store.new) (S.leaves store.new) (W.written out.old) (W.written out.new)) }
-    ensures stopped { IfErr result (λ s. StopsAnswer S.told s line (S.view store.old) (S.view store.new) (S.leaves store.new) (W.written out.old) (W.written out.new)) }
+    requires goes { GoesOn (view_of D.faults store.old) (leaving D.may_leave store.old) }
+    ensures ok { OnOk result (Answers (Tell D.content) line (view_of D.faults store.old) (view_of D.faults store.new) (leaving D.may_leave store.new) (W.written out.old) (W.written out.new)) }
+    ensures stopped { IfErr result (λ s. StopsAnswer (Tell D.content) s line (view_of D.faults store.old) (view_of D.faults store.new) (leaving D.may_leave store.new) (W.written out.old) (W.written out.new)) }
     ensures write { IsErrOf result Stop.Write → Rose (W.faults out.old) (W.faults out.new) }
-    ensures later { (S.view store.old).faults ≤ (S.view store.new).faults }
+    ensures later { (view_of D.faults store.old).faults ≤ (view_of D.faults store.new).faults }
     ensures out_later { W.faults out.old ≤ W.faults out.new }
 {
     match line {
@@ -133,18 +140,18 @@ fn answer<S: MapStore, W: Sink>(
 }
 
 /// Does the line of this number, and writes its line.
-pub(crate) fn do_line<S: MapStore, W: Sink>(
+pub(crate) fn do_line<D: Disk, W: Sink>(
     alloc: Global,
-    store: &mut S,
+    store: &mut StoredMap<D>,
     out: &mut W,
     number: u32,
     bytes: &[u8],
 ) -> Result<(), Stop>
-    requires goes { GoesOn (S.view store.old) (S.leaves store.old) }
-    ensures ok { OnOk result (DoesLine number bytes.now (S.view store.old) (S.view store.new) (S.leaves store.new) (W.written out.old) (W.written out.new)) }
-    ensures stopped { IfErr result (λ s. StopsLine S.told s number bytes.now (S.view store.old) (S.view store.new) (S.leaves store.new) (W.written out.old) (W.written out.new)) }
+    requires goes { GoesOn (view_of D.faults store.old) (leaving D.may_leave store.old) }
+    ensures ok { OnOk result (DoesLine (Tell D.content) number bytes.now (view_of D.faults store.old) (view_of D.faults store.new) (leaving D.may_leave store.new) (W.written out.old) (W.written out.new)) }
+    ensures stopped { IfErr result (λ s. StopsLine (Tell D.content) s number bytes.now (view_of D.faults store.old) (view_of D.faults store.new) (leaving D.may_leave store.new) (W.written out.old) (W.written out.new)) }
     ensures write { IsErrOf result Stop.Write → Rose (W.faults out.old) (W.faults out.new) }
-    ensures later { (S.view store.old).faults ≤ (S.view store.new).faults }
+    ensures later { (view_of D.faults store.old).faults ≤ (view_of D.faults store.new).faults }
     ensures out_later { W.faults out.old ≤ W.faults out.new }
 {
     match accepted(number, bytes) {

@@ -3,32 +3,34 @@ ghost use Rattle.std.specs.Prelude.{◌≡◌, ◌⊎◌, ◌≤◌, ◌++◌, t
 ghost use Rattle.std.specs.Io.KnownBytes.{Appends};
 ghost use Rattle.disk_model.specs.Causes.{Rose};
 ghost use Rattle.map_lines.specs.Output.{keys_line};
-ghost use Rattle.map_script.specs.Views.{GoesOn};
+ghost use Rattle.map_calls.specs.Views.{GoesOn};
 ghost use Rattle.map_script.specs.Stopping.{StopsEnd};
 ghost use Rattle.map_script.specs.Mapped.{EndsWell, StopsAnywhere, Mapped, streams};
+ghost use Rattle.stored_map.specs.Stores.{view_of, leaving, Tell};
 
 use crate::printing::{end_stopped, tell};
 use crate::script::do_lines;
 use crate::stop::Stop;
-use crate::store::MapStore;
+use disk_model::Disk;
 use map_lines::keys_line;
 use outside_io::{Sink, Source};
 use std::alloc::Global;
+use stored_map::StoredMap;
 
 /// Every line was done.
 const DONE: u8 = 0;
 
 /// Writes how many keys have a value.
-fn tell_keys<S: MapStore, W: Sink>(store: &mut S, out: &mut W) -> Result<(), Stop>
-    requires running { (S.view store.old).running ≡ true }
-    requires collected { (S.view store.old).room ≡ (S.view store.old).map.free }
-    ensures same { OnOk result ((S.view store.new).map ≡ (S.view store.old).map) }
-    ensures collected { OnOk result ((S.view store.new).room ≡ (S.view store.new).map.free) }
-    ensures goes { OnOk result (GoesOn (S.view store.new) (S.leaves store.new)) }
-    ensures printed { OnOk result (Appends (W.written out.old) (W.written out.new) (keys_line (length (S.view store.old).map.pairs))) }
-    ensures stopped { IfErr result (λ s. StopsEnd s (S.view store.old) (S.view store.new) (S.leaves store.new) (W.written out.old) (W.written out.new)) }
+fn tell_keys<D: Disk, W: Sink>(store: &mut StoredMap<D>, out: &mut W) -> Result<(), Stop>
+    requires running { (view_of D.faults store.old).running ≡ true }
+    requires collected { (view_of D.faults store.old).room ≡ (view_of D.faults store.old).map.free }
+    ensures same { OnOk result ((view_of D.faults store.new).map ≡ (view_of D.faults store.old).map) }
+    ensures collected { OnOk result ((view_of D.faults store.new).room ≡ (view_of D.faults store.new).map.free) }
+    ensures goes { OnOk result (GoesOn (view_of D.faults store.new) (leaving D.may_leave store.new)) }
+    ensures printed { OnOk result (Appends (W.written out.old) (W.written out.new) (keys_line (length (view_of D.faults store.old).map.pairs))) }
+    ensures stopped { IfErr result (λ s. StopsEnd s (view_of D.faults store.old) (view_of D.faults store.new) (leaving D.may_leave store.new) (W.written out.old) (W.written out.new)) }
     ensures write { IsErrOf result Stop.Write → Rose (W.faults out.old) (W.faults out.new) }
-    ensures later { (S.view store.old).faults ≤ (S.view store.new).faults }
+    ensures later { (view_of D.faults store.old).faults ≤ (view_of D.faults store.new).faults }
     ensures out_later { W.faults out.old ≤ W.faults out.new }
 {
     match store.keys() {
@@ -38,15 +40,15 @@ fn tell_keys<S: MapStore, W: Sink>(store: &mut S, out: &mut W) -> Result<(), Sto
 }
 
 /// Collects until there is nothing to do, and writes how many keys have a value.
-fn finish<S: MapStore, W: Sink>(store: &mut S, out: &mut W) -> Result<(), Stop>
-    requires running { (S.view store.old).running ≡ true }
-    ensures same { OnOk result ((S.view store.new).map ≡ (S.view store.old).map) }
-    ensures collected { OnOk result ((S.view store.new).room ≡ (S.view store.new).map.free) }
-    ensures goes { OnOk result (GoesOn (S.view store.new) (S.leaves store.new)) }
-    ensures printed { OnOk result (Appends (W.written out.old) (W.written out.new) (keys_line (length (S.view store.old).map.pairs))) }
-    ensures stopped { IfErr result (λ s. StopsEnd s (S.view store.old) (S.view store.new) (S.leaves store.new) (W.written out.old) (W.written out.new)) }
+fn finish<D: Disk, W: Sink>(store: &mut StoredMap<D>, out: &mut W) -> Result<(), Stop>
+    requires running { (view_of D.faults store.old).running ≡ true }
+    ensures same { OnOk result ((view_of D.faults store.new).map ≡ (view_of D.faults store.old).map) }
+    ensures collected { OnOk result ((view_of D.faults store.new).room ≡ (view_of D.faults store.new).map.free) }
+    ensures goes { OnOk result (GoesOn (view_of D.faults store.new) (leaving D.may_leave store.new)) }
+    ensures printed { OnOk result (Appends (W.written out.old) (W.written out.new) (keys_line (length (view_of D.faults store.old).map.pairs))) }
+    ensures stopped { IfErr result (λ s. StopsEnd s (view_of D.faults store.old) (view_of D.faults store.new) (leaving D.may_leave store.new) (W.written out.old) (W.written out.new)) }
     ensures write { IsErrOf result Stop.Write → Rose (W.faults out.old) (W.faults out.new) }
-    ensures later { (S.view store.old).faults ≤ (S.view store.new).faults }
+    ensures later { (view_of D.faults store.old).faults ≤ (view_of D.faults store.new).faults }
     ensures out_later { W.faults out.old ≤ W.faults out.new }
 {
     match store.collect() {
@@ -56,18 +58,18 @@ fn finish<S: MapStore, W: Sink>(store: &mut S, out: &mut W) -> Result<(), Stop>
 }
 
 /// Does each line of the source, and writes how many keys have a value then.
-fn do_script<S: MapStore, R: Source, W: Sink>(
+fn do_script<D: Disk, R: Source, W: Sink>(
     alloc: Global,
-    store: &mut S,
+    store: &mut StoredMap<D>,
     source: &mut R,
     out: &mut W,
 ) -> Result<(), Stop>
-    requires goes { GoesOn (S.view store.old) (S.leaves store.old) }
-    ensures ok { OnOk result (EndsWell (R.left source.old) (R.left source.new) (S.view store.old) (S.view store.new) (S.leaves store.new) (W.written out.old) (W.written out.new)) }
-    ensures stopped { IfErr result (λ s. StopsAnywhere S.told s (R.left source.old) (R.left source.new) (S.view store.old) (S.view store.new) (S.leaves store.new) (W.written out.old) (W.written out.new)) }
+    requires goes { GoesOn (view_of D.faults store.old) (leaving D.may_leave store.old) }
+    ensures ok { OnOk result (EndsWell (Tell D.content) (R.left source.old) (R.left source.new) (view_of D.faults store.old) (view_of D.faults store.new) (leaving D.may_leave store.new) (W.written out.old) (W.written out.new)) }
+    ensures stopped { IfErr result (λ s. StopsAnywhere (Tell D.content) s (R.left source.old) (R.left source.new) (view_of D.faults store.old) (view_of D.faults store.new) (leaving D.may_leave store.new) (W.written out.old) (W.written out.new)) }
     ensures read { IsErrOf result Stop.Read → Rose (R.faults source.old) (R.faults source.new) }
     ensures write { IsErrOf result Stop.Write → Rose (W.faults out.old) (W.faults out.new) }
-    ensures later { (S.view store.old).faults ≤ (S.view store.new).faults }
+    ensures later { (view_of D.faults store.old).faults ≤ (view_of D.faults store.new).faults }
     ensures source_later { R.faults source.old ≤ R.faults source.new }
     ensures out_later { W.faults out.old ≤ W.faults out.new }
 {
@@ -84,18 +86,18 @@ fn do_script<S: MapStore, R: Source, W: Sink>(
 /// The status is 0 where each line was done, 3 where a line is refused, 4 where the source failed and 5 where the sink did, 6 where
 /// the disk failed, 7 where the store isn't opened again after a loss of power or keeps no map then, 8 where memory is out, and 9
 /// where the history or the log is full.
-pub fn map_script<S: MapStore, R: Source, W: Sink>(
+pub fn map_script<D: Disk, R: Source, W: Sink>(
     alloc: Global,
-    store: &mut S,
+    store: &mut StoredMap<D>,
     source: &mut R,
     out: &mut W,
 ) -> u8
-    requires goes { GoesOn (S.view store.old) (S.leaves store.old) }
-    ensures mapped { Mapped S.told
+    requires goes { GoesOn (view_of D.faults store.old) (leaving D.may_leave store.old) }
+    ensures mapped { Mapped (Tell D.content)
         (streams (R.left source.old) (R.faults source.old) (W.written out.old) (W.faults out.old))
         (streams (R.left source.new) (R.faults source.new) (W.written out.new) (W.faults out.new))
-        (S.view store.old) (S.view store.new) (S.leaves store.new) result }
-    ensures later { (S.view store.old).faults ≤ (S.view store.new).faults }
+        (view_of D.faults store.old) (view_of D.faults store.new) (leaving D.may_leave store.new) result }
+    ensures later { (view_of D.faults store.old).faults ≤ (view_of D.faults store.new).faults }
     ensures source_later { R.faults source.old ≤ R.faults source.new }
     ensures out_later { W.faults out.old ≤ W.faults out.new }
 {

@@ -1,18 +1,24 @@
 //! A pair is put, after a collection where ids are short.
 ghost use Rattle.std.specs.Prelude.{◌≡◌, ◌≤◌, true, IfOk, IfErr, OnOk};
 ghost use Rattle.plain_map.specs.Pairs.{with_pair};
-ghost use Rattle.map_script.specs.Views.{GoesOn, Fails, Places};
+ghost use Rattle.map_calls.specs.Views.{GoesOn, Fails, Places};
+ghost use Rattle.stored_map.specs.Stores.{view_of, leaving};
 
-use crate::failure::Failure;
-use crate::store::{MapStore, Put};
+use disk_model::Disk;
+use map_calls::{Failure, Put};
+use stored_map::StoredMap;
 
 /// Collects, and then gives the key this value, where room is left then.
-fn place_after_collection<S: MapStore>(store: &mut S, key: u64, value: u64) -> Result<Put, Failure>
-    requires running { (S.view store.old).running ≡ true }
-    ensures placed { IfOk result (λ put. Places key value put (S.view store.old).map (S.view store.new).map) }
-    ensures goes { OnOk result (GoesOn (S.view store.new) (S.leaves store.new)) }
-    ensures failed { IfErr result (λ f. Fails f (S.view store.old) (S.view store.new) (S.leaves store.new) (with_pair key value (S.view store.old).map.pairs)) }
-    ensures later { (S.view store.old).faults ≤ (S.view store.new).faults }
+fn place_after_collection<D: Disk>(
+    store: &mut StoredMap<D>,
+    key: u64,
+    value: u64,
+) -> Result<Put, Failure>
+    requires running { (view_of D.faults store.old).running ≡ true }
+    ensures placed { IfOk result (λ put. Places key value put (view_of D.faults store.old).map (view_of D.faults store.new).map) }
+    ensures goes { OnOk result (GoesOn (view_of D.faults store.new) (leaving D.may_leave store.new)) }
+    ensures failed { IfErr result (λ f. Fails f (view_of D.faults store.old) (view_of D.faults store.new) (leaving D.may_leave store.new) (with_pair key value (view_of D.faults store.old).map.pairs)) }
+    ensures later { (view_of D.faults store.old).faults ≤ (view_of D.faults store.new).faults }
 {
     match store.collect() {
         Ok(()) => store.put(key, value),
@@ -22,12 +28,12 @@ fn place_after_collection<S: MapStore>(store: &mut S, key: u64, value: u64) -> R
 
 /// Gives the key this value. Where no room is left it collects, and tries once more: so there is none only where fewer ids can be
 /// free than the pair needs.
-pub(crate) fn place<S: MapStore>(store: &mut S, key: u64, value: u64) -> Result<Put, Failure>
-    requires running { (S.view store.old).running ≡ true }
-    ensures placed { IfOk result (λ put. Places key value put (S.view store.old).map (S.view store.new).map) }
-    ensures goes { OnOk result (GoesOn (S.view store.new) (S.leaves store.new)) }
-    ensures failed { IfErr result (λ f. Fails f (S.view store.old) (S.view store.new) (S.leaves store.new) (with_pair key value (S.view store.old).map.pairs)) }
-    ensures later { (S.view store.old).faults ≤ (S.view store.new).faults }
+pub(crate) fn place<D: Disk>(store: &mut StoredMap<D>, key: u64, value: u64) -> Result<Put, Failure>
+    requires running { (view_of D.faults store.old).running ≡ true }
+    ensures placed { IfOk result (λ put. Places key value put (view_of D.faults store.old).map (view_of D.faults store.new).map) }
+    ensures goes { OnOk result (GoesOn (view_of D.faults store.new) (leaving D.may_leave store.new)) }
+    ensures failed { IfErr result (λ f. Fails f (view_of D.faults store.old) (view_of D.faults store.new) (leaving D.may_leave store.new) (with_pair key value (view_of D.faults store.old).map.pairs)) }
+    ensures later { (view_of D.faults store.old).faults ≤ (view_of D.faults store.new).faults }
 {
     match store.put(key, value) {
         Ok(Put::Stored { old }) => Ok(Put::Stored { old }),

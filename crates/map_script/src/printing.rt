@@ -3,12 +3,12 @@ ghost use Rattle.std.specs.Prelude.{◌≡◌, ◌≤◌, [], OnOk, IfErr};
 ghost use Rattle.std.specs.Io.KnownBytes.{Appends};
 ghost use Rattle.disk_model.specs.Causes.{Rose};
 ghost use Rattle.script_lines.specs.Output.{AppendsFront, EndsWith};
-ghost use Rattle.map_script.specs.Views.{failure_line, status_of_failure, unopened_line, status_of_unopened, status_of_refusal};
+ghost use Rattle.map_calls.specs.Views.{failure_line, status_of_failure, unopened_line, status_of_unopened, status_of_refusal};
 ghost use Rattle.map_script.specs.Stopping.{last_line, status_of};
 
-use crate::failure::{Failure, Unopened};
 use crate::stop::Stop;
 use arrayvec::ArrayString;
+use map_calls::{Failure, Unopened};
 use map_lines::{LINE_ROOM, no_map_line};
 use outside_io::Sink;
 use script_lines::{open_refusal_line, refused_line, write_all, write_last};

@@ -1,5 +1,5 @@
 //! Why a script ends before its end.
-use crate::failure::{Failure, Unopened};
+use map_calls::{Failure, Unopened};
 
 /// Why a script ends before its end.
 #[derive(Clone, Copy, Debug, PartialEq, Eq)]

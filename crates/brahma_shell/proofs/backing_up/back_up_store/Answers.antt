@@ -1,4 +1,4 @@
-use Rattle.std.proofs.Common.{◌≡◌, ◌⊎◌, ◌≤◌, ◌↔◌, ℕ, ◌+◌, ◌*◌, ◌-◌, true, List, length, inl, inr, ⊎_elim, refl, sym, subst, ap, ◌∙◌, arith, rules}
+use Rattle.std.proofs.Common.{◌≡◌, ◌⊎◌, ◌↔◌, ℕ, ◌+◌, ◌*◌, ◌-◌, true, List, length, inl, inr, ⊎_elim, refl, sym, subst, ap, ◌∙◌, arith, rules}
 use Rattle.cell_model.specs.Cells.{Cell}
 use Rattle.plain_model.specs.History.{History}
 use Rattle.disk_model.specs.Causes.{Rose}
@@ -6,11 +6,10 @@ use Rattle.disk_model.specs.Told.{IsImage, EachImage}
 use Rattle.core_store.specs.declared.marks.Marks.{Marks}
 use Rattle.core_store.specs.JournalView.{cells_of}
 use Rattle.core_store.specs.Opening.{opened_history}
-use Rattle.logged_journal.specs.View.{LoggedView}
 use Rattle.logged_journal.specs.Opens.{OpensAfter}
 use Rattle.logged_journal.specs.Upkeep.{IsPastLogToTurn}
 use Rattle.script_lines.specs.Numbers.{object_slots}
-use Rattle.store_backup.specs.Backups.{IsBaseOf, HasTurned}
+use Rattle.store_backup.specs.Backups.{IsBaseOf}
 use Rattle.brahma_shell.specs.BackedUp.{IsAtCheckpoint}
 use Rattle.brahma_shell.proofs.AuditLemmas.{opening-cells}
 use Rattle.brahma_shell.proofs.LogLemmas.{history-running}

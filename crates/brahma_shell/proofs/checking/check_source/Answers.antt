@@ -1,8 +1,4 @@
-use Rattle.std.proofs.Common.{◌≡◌, ℕ, Err, Ok, refl, sym, ap, subst, ◌∙◌, arith}
-use Rattle.std.specs.Prelude.{Result}
-use Rattle.log_checker.specs.declared.verdict.Verdict.{Verdict}
-use Rattle.log_checking.specs.declared.refusal.VerdictRefusal.{VerdictRefusal}
-use Rattle.log_checking.specs.Checked.{HasChecked}
+use Rattle.std.proofs.Common.{ℕ, Err, sym, ap, subst}
 use Rattle.brahma_shell.specs.Top.{outside}
 use Rattle.brahma_shell.specs.Checked.{Checked}
 use Rattle.brahma_shell.proofs.CheckEnds.{checked-done, checked-write, checked-refused}

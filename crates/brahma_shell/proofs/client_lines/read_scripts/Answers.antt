@@ -1,10 +1,9 @@
-use Rattle.std.proofs.Common.{◌≡◌, ◌+◌, ◌-◌, ◌≤◌, ◌∷◌, ◌++◌, [], subst, arith}
+use Rattle.std.proofs.Common.{◌≡◌, ◌+◌, ◌-◌, ◌∷◌, ◌++◌, [], subst, arith}
 use Rattle.std.specs.Io.KnownBytes.{prepend_known}
 use Rattle.script_lines.specs.LineReader.{pending}
 use Rattle.brahma_shell.specs.ClientLines.{TakesLines}
 use Rattle.brahma_shell.specs.Scripts.{left_in}
-use Rattle.brahma_shell.proofs.ReplayLemmas.{HasLine-whole, HasLine-last}
-use Rattle.brahma_shell.proofs.ClientLineLemmas.{takes-more, takes-none, all-last, all-end, refuses-long, some-fault, stops-reading, never-read}
+use Rattle.brahma_shell.proofs.ClientLineLemmas.{takes-more, all-last, all-end, some-fault}
 use Rattle.brahma_shell.proofs.client_lines.read_scripts.Goals as goal
 
 pub lines-preserved : goal.lines-preserved

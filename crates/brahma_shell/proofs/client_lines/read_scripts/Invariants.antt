@@ -1,4 +1,4 @@
-use Rattle.std.proofs.Common.{◌≡◌, ◌≤◌, ◌-◌, List}
+use Rattle.std.proofs.Common.{◌≤◌, ◌-◌, List}
 use Rattle.script_lines.specs.declared.grammar.Line.{Line}
 use Rattle.client_scripts.specs.Scripts.{AreOfLines}
 use Rattle.brahma_shell.specs.ClientLines.{TakesLines}

@@ -1,4 +1,4 @@
-use Rattle.std.proofs.Common.{◌≡◌, codes, rules, ap, ◌∙◌}
+use Rattle.std.proofs.Common.{◌≡◌, codes, rules, ap}
 use Rattle.std.specs.Prelude.{Option, option_map, ℕ}
 use Rattle.std.proofs.lemmas.Slice.Eq.{text_from_reads}
 use Rattle.brahma_shell.specs.declared.commands.Command.TheVariants.{ParAudit}

@@ -36,3 +36,8 @@ pub returns-in-check : goal.returns-in-check
 returns-in-check c =
     let e : c.args.word.now ≡ codes "check" = search (rules, text_from_reads) in
     rw e
+
+pub returns-in-map : goal.returns-in-map
+returns-in-map c =
+    let e : c.args.word.now ≡ codes "map" = search (rules, text_from_reads) in
+    rw e

@@ -1,4 +1,4 @@
-use Rattle.std.proofs.Common.{false, [], Err, refl, ap, ◌∙◌}
+use Rattle.std.proofs.Common.{false, [], Err, refl, ap}
 use Rattle.std.proofs.lemmas.Result.{err_from_is_err_and}
 use Rattle.plain_model.specs.declared.calls.Entry.TheVariants.{Delete, Hidden}
 use Rattle.plain_model.specs.Text.{line_of}

@@ -1,5 +1,4 @@
-use Rattle.std.proofs.Common.{rules, ◌≡◌, ◌≤◌, inl, inr, None, refl, ⊎_elim, arith}
-use Rattle.brahma_shell.proofs.CrashLemmas.{just-opened}
+use Rattle.std.proofs.Common.{◌≤◌, inl, inr, None, refl, ⊎_elim, arith}
 use Rattle.brahma_shell.proofs.generating.generate_calls.Goals as goal
 
 pub returns-in-Ok-clause-generated : goal.returns-in-Ok-clause-generated

@@ -1,4 +1,4 @@
-use Rattle.std.proofs.Common.{◌≡◌, ◌≤◌, ◌<◌, refl, sym, subst, arith}
+use Rattle.std.proofs.Common.{refl, sym, subst, arith}
 use Rattle.call_generator.specs.Generator.{Generating, Generates}
 use Rattle.brahma_shell.proofs.EndLemmas.{granted-running, of-replay, sound-opening}
 use Rattle.brahma_shell.proofs.GenEnds.{ends-unmade, ends-told, ends-stopped, stopped-at, opening-sound, opened-since, reads-since, size-since, turns-of-seed}

@@ -1,6 +1,6 @@
-use Rattle.std.proofs.Common.{◌≡◌, ℕ, List, [], Err, refl, sym, ap, subst, ◌∙◌}
+use Rattle.std.proofs.Common.{ℕ, Err, refl, sym, ap, subst, ◌∙◌}
 use Rattle.store_opening.specs.declared.open_refusal.OpenRefusal.{OpenRefusal}
-use Rattle.log_printing.specs.declared.refusal.PrintRefusal.TheVariants.{Unread, Write}
+use Rattle.log_printing.specs.declared.refusal.PrintRefusal.TheVariants.{Unread}
 use Rattle.script_lines.specs.Output.{open_refusal_line}
 use Rattle.brahma_shell.specs.declared.ended.Ended.TheVariants.{Shut}
 use Rattle.brahma_shell.specs.Top.{outside}

@@ -1,5 +1,5 @@
 use Rattle.std.proofs.Common.{inl, inr, refl, sym, ap, ◌∙◌, rules}
-use Rattle.std.specs.Prelude.{Result, Err}
+use Rattle.std.specs.Prelude.{Err}
 use Rattle.brahma_shell.proofs.MigrationLemmas.{meanwhile, refused-version, six-disk, not-disk}
 use Rattle.brahma_shell.proofs.migrating.migrate_store.Goals as goal
 

@@ -1,4 +1,3 @@
-use Rattle.std.proofs.Common.{refl}
 use Rattle.std.proofs.Common.{arith, ◌≤◌}
 use Rattle.brahma_shell.proofs.CrashLemmas.{on-ok, on-err, stays-shut-kept, stays-shut-refused, stays-shut-memory, reopens, told-again, stops-told, history-ids}
 use Rattle.brahma_shell.proofs.EndLemmas.{granted-running, of-replay, sound-opening}

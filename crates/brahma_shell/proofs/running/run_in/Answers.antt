@@ -1,4 +1,4 @@
-use Rattle.std.proofs.Common.{◌≡◌, Err, List, refl, sym, ap, subst, ◌∙◌, arith}
+use Rattle.std.proofs.Common.{Err, List, refl, sym, ap, subst}
 use Rattle.client_pass.specs.declared.script.ClientScript.{ClientScript}
 use Rattle.client_scripts.specs.Scripts.{AreOfLines}
 use Rattle.logged_journal.specs.View.{LoggedView}

@@ -1,4 +1,4 @@
-use Rattle.std.proofs.Common.{rules, ◌≡◌, ◌≤◌, ℕ, List, length, [], None, refl, sym, ap, subst, ◌∙◌, arith}
+use Rattle.std.proofs.Common.{rules, ◌≡◌, [], None, refl, sym, ap, subst, ◌∙◌, arith}
 use Rattle.std.specs.Prelude.{option_map}
 use Rattle.logged_journal.specs.View.{LoggedView}
 use Rattle.framed_journal.specs.Holding.{AreFramesOf}
@@ -8,7 +8,7 @@ use Rattle.brahma_shell.specs.Ran.{Ran}
 use Rattle.brahma_shell.specs.Running.{HasRun}
 use Rattle.brahma_shell.specs.Top.{outside}
 use Rattle.brahma_shell.proofs.EndLemmas.{granted-running, of-replay, sound-opening}
-use Rattle.brahma_shell.proofs.StartLemmas.{may-run, room, alone-first}
+use Rattle.brahma_shell.proofs.StartLemmas.{may-run, room}
 use Rattle.brahma_shell.proofs.RanLemmas.{ends-unrun, ends-run}
 use Rattle.brahma_shell.proofs.running.run_opened.Goals as goal
 

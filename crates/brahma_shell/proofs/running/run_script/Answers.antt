@@ -1,4 +1,4 @@
-use Rattle.std.proofs.Common.{◌≡◌, ◌≤◌, inl, inr, ⊎_elim, arith}
+use Rattle.std.proofs.Common.{◌≤◌, inr, arith}
 use Rattle.brahma_shell.proofs.RanLemmas.{status-of_run}
 use Rattle.brahma_shell.proofs.running.run_script.Goals as goal
 

@@ -1,8 +1,7 @@
-use Rattle.std.proofs.Common.{◌≡◌, ℕ, List, [], Err, ⊎_elim, refl, sym, ap, subst, ◌∙◌}
-use Rattle.std.specs.Io.KnownBytes.{Appends}
+use Rattle.std.proofs.Common.{ℕ, [], Err, ⊎_elim, refl, sym, ap, subst, ◌∙◌}
 use Rattle.store_opening.specs.declared.open_refusal.OpenRefusal.{OpenRefusal}
 use Rattle.store_opening.specs.declared.open_refusal.OpenRefusal.TheVariants as refusal
-use Rattle.log_shipping.specs.declared.refusal.ShipRefusal.TheVariants.{Unread, Write}
+use Rattle.log_shipping.specs.declared.refusal.ShipRefusal.TheVariants.{Unread}
 use Rattle.script_lines.specs.Output.{EndsWith, open_refusal_line}
 use Rattle.brahma_shell.specs.declared.ended.Ended.TheVariants.{Shut}
 use Rattle.brahma_shell.specs.Top.{outside}

@@ -1,8 +1,8 @@
-use Rattle.std.proofs.Common.{◌≡◌, ℕ, ◌≤◌, Err, Ok, refl, sym, ap, subst, ◌∙◌, arith}
+use Rattle.std.proofs.Common.{ℕ, Err, sym, ap, subst, ◌∙◌}
 use Rattle.std.specs.Prelude.{Result}
 use Rattle.standby.specs.declared.promoted.Promoted.{Promoted}
 use Rattle.standby_feeding.specs.declared.refusal.StreamRefusal.{StreamRefusal}
-use Rattle.standby_feeding.specs.StoodBy.{HasStoodBy, HasStreamCause}
+use Rattle.standby_feeding.specs.StoodBy.{HasStoodBy}
 use Rattle.script_lines.specs.Numbers.{object_slots}
 use Rattle.brahma_shell.specs.declared.ended.Ended.TheVariants.{Shut}
 use Rattle.brahma_shell.specs.Top.{outside}

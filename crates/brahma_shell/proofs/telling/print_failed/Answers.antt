@@ -1,6 +1,4 @@
-use Rattle.std.proofs.Common.{Option, sym, ap, ◌∙◌}
-use Rattle.logged_journal.specs.declared.failed.FailedCall.{FailedCall}
-use Rattle.brahma_shell.specs.Telling.{failed_text}
+use Rattle.std.proofs.Common.{sym, ◌∙◌}
 use Rattle.brahma_shell.proofs.TellLemmas.{err-of_text, text-failed}
 use Rattle.brahma_shell.proofs.telling.print_failed.Goals as goal
 

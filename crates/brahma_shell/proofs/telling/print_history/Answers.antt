@@ -1,5 +1,5 @@
 use Rattle.std.proofs.Common.{◌≡◌, List, ◌++◌, sym, ap, subst, ◌∙◌}
-use Rattle.std.specs.Prelude.{OnOk, IfErr}
+use Rattle.std.specs.Prelude.{OnOk}
 use Rattle.std.specs.List.{AllByRecursion}
 use Rattle.std.specs.Io.KnownBytes.{Appends}
 use Rattle.plain_model.specs.Text.{text_of}
@@ -8,7 +8,7 @@ use Rattle.core_store.specs.JournalView.{JournalView}
 use Rattle.logged_journal.specs.View.{history_of}
 use Rattle.brahma_shell.specs.Points.{entries_in}
 use Rattle.brahma_shell.specs.Telling.{IsNoCrash, failed_text}
-use Rattle.brahma_shell.proofs.TellLemmas.{no-crash, history-parts, err-of_text, err-behind, ok-behind, StopsWriting, front-all}
+use Rattle.brahma_shell.proofs.TellLemmas.{no-crash, history-parts, err-of_text, err-behind, ok-behind, front-all}
 use Rattle.brahma_shell.proofs.telling.print_history.Goals as goal
 use Rattle.script_lines.specs.Numbers.{object_slots}
 

@@ -1,4 +1,4 @@
-use Rattle.std.proofs.Common.{refl, sym, ◌∙◌, arith}
+use Rattle.std.proofs.Common.{refl, sym, arith}
 use mir.Syntax.{of_param}
 use Rattle.brahma_shell.specs.declared.commands.Command.TheVariants.{Run, ParAudit}
 use Rattle.brahma_shell.specs.Commands.{command_of}

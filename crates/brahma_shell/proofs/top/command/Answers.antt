@@ -1,9 +1,10 @@
 use Rattle.std.proofs.Common.{refl, sym, ◌∙◌, arith}
 use mir.Syntax.{of_param}
-use Rattle.brahma_shell.specs.declared.commands.Command.TheVariants.{Init, Replay, Gen, Audit, Migrate, Backup, Ship, Log, Standby, Check}
+use Rattle.brahma_shell.specs.declared.commands.Command.TheVariants.{Init, Replay, Gen, Audit, Migrate, Backup, Ship, Log, Standby, Check, Map}
 use Rattle.brahma_shell.specs.Commands.{command_of}
 use Rattle.brahma_shell.proofs.AnswerLemmas.{asks-nothing, asks-starved, asks-init, asks-replay, asks-gen, asks-audit, asks-migrate, asks-backup, asks-ship, asks-log, asks-standby, pages-within, named}
 use Rattle.brahma_shell.proofs.CheckedLemmas.{asks-check}
+use Rattle.brahma_shell.proofs.MapAnswers.{asks-map}
 use Rattle.brahma_shell.proofs.FewLemmas.{gen-few}
 use Rattle.brahma_shell.proofs.top.command.Goals as goal
 
@@ -96,6 +97,13 @@ returns-in-Ok-Some-Check g c =
     let k = c.check_source.ensures in
     asks-check g.D.Disk.content g.D.Disk.may_leave g.D.Disk.moment g.D.Disk.left_since _ _ _ _ _ _ _ _ (record { reads = k.read_later; writes = k.out_later; disk = omega arith }) g.D.Disk.reads_may_stay g.D.Disk.counts_now
     g.D.Disk.only_now asked refl (k.checked (g.D.Disk.faults c.args.disk))
+
+pub returns-in-Ok-Some-Map : goal.returns-in-Ok-Some-Map
+returns-in-Ok-Some-Map g c =
+    let at = c.in-Ok-Some-Map in
+    let asked = named at.field-0 (command_of c.args.words.now) at.field-0-0 Map at.ensures.value at.field-0-is at.field-0-0-is in
+    let m = c.map_store.ensures in
+    asks-map g.D.Disk.content g.D.Disk.may_leave g.D.Disk.moment g.D.Disk.left_since _ _ _ _ _ _ _ _ m.later g.D.Disk.reads_may_stay g.D.Disk.counts_now asked m.statuses m.mapped
 
 pub returns-in-Ok-None : goal.returns-in-Ok-None
 returns-in-Ok-None g c =

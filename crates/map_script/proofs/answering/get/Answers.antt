@@ -1,6 +1,7 @@
 use Rattle.std.proofs.Common.{◌∙◌, ap}
 use Rattle.map_lines.specs.declared.grammar.Line.TheVariants.{Get}
 use Rattle.map_lines.specs.Output.{found_line}
+use Rattle.stored_map.specs.Stores.{view_of, leaving, Tell}
 use Rattle.map_script.proofs.StoreLemmas.{keeps-same}
 use Rattle.map_script.proofs.AnswerLemmas.{answers, stops-writing}
 use Rattle.map_script.proofs.answering.get.Goals as goal
@@ -8,12 +9,12 @@ use Rattle.map_script.proofs.answering.get.Goals as goal
 pub returns-in-Ok-clause-ok : goal.returns-in-Ok-clause-ok
 returns-in-Ok-clause-ok g c =
     let text = c.found_line.ensures ∙ ap found_line c.in-Ok.ensures.value in
-    answers c.tell.result (Get c.args.key) (g.S.MapStore.view c.args.store.now) (g.S.MapStore.view c.get.new.self) (g.S.MapStore.leaves c.get.new.self) _ _ c.found_line.result.bytes (c.in-Ok.ensures.same, text) c.in-Ok.ensures.goes c.tell.ensures.ok
+    answers (Tell g.D.Disk.content) c.tell.result (Get c.args.key) (view_of g.D.Disk.faults c.args.store.now) (view_of g.D.Disk.faults c.get.new.self) (leaving g.D.Disk.may_leave c.get.new.self) _ _ c.found_line.result.bytes (c.in-Ok.ensures.same, text) c.in-Ok.ensures.goes c.tell.ensures.ok
 
 pub returns-in-Ok-clause-stopped : goal.returns-in-Ok-clause-stopped
 returns-in-Ok-clause-stopped g c =
     let text = c.found_line.ensures ∙ ap found_line c.in-Ok.ensures.value in
-    stops-writing g.S.MapStore.told c.tell.result (Get c.args.key) (g.S.MapStore.view c.args.store.now) (g.S.MapStore.view c.get.new.self) (g.S.MapStore.leaves c.get.new.self) _ _ c.found_line.result.bytes _ _ (c.in-Ok.ensures.same, text) c.in-Ok.ensures.goes c.tell.ensures.err
+    stops-writing (Tell g.D.Disk.content) c.tell.result (Get c.args.key) (view_of g.D.Disk.faults c.args.store.now) (view_of g.D.Disk.faults c.get.new.self) (leaving g.D.Disk.may_leave c.get.new.self) _ _ c.found_line.result.bytes _ _ (c.in-Ok.ensures.same, text) c.in-Ok.ensures.goes c.tell.ensures.err
 
 pub returns-in-Err-clause-stopped : goal.returns-in-Err-clause-stopped
 returns-in-Err-clause-stopped g c = (c.in-Err.ensures.failed, keeps-same (g.W.Sink.written c.args.out.now))

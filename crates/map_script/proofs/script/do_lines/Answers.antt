@@ -1,6 +1,7 @@
 use Rattle.std.proofs.Common.{◌≤◌, ◌++◌, ◌∷◌, [], refl, arith}
 use Rattle.std.specs.Io.KnownBytes.{prepend_known}
 use Rattle.script_lines.specs.LineReader.{pending}
+use Rattle.stored_map.specs.Stores.{view_of, leaving, Tell}
 use Rattle.map_script.proofs.TakenLemmas.{has-whole, has-last}
 use Rattle.map_script.proofs.StopLemmas.{stands-first, place-next, stands-next, last-done, stops, last-stopped, not-read, last-read, came-end, stops-long, stops-read}
 use Rattle.map_script.proofs.script.do_lines.Goals as goal
@@ -8,7 +9,7 @@ use Rattle.map_script.proofs.script.do_lines.Goals as goal
 pub lines-init : goal.lines-init
 lines-init g c = record {
   within = (omega arith, omega arith);
-  stands = ([], refl, stands-first (g.R.Source.left c.args.source.now) (pending c.new-lines.result) (g.S.MapStore.view c.args.store.now) (g.S.MapStore.leaves c.args.store.now) (g.W.Sink.written c.args.out.now) c.new-lines.ensures c.requires.goes);
+  stands = ([], refl, stands-first (Tell g.D.Disk.content) (g.R.Source.left c.args.source.now) (pending c.new-lines.result) (view_of g.D.Disk.faults c.args.store.now) (leaving g.D.Disk.may_leave c.args.store.now) (g.W.Sink.written c.args.out.now) c.new-lines.ensures c.requires.goes);
   later = omega arith;
   source_later = omega arith;
   out_later = omega arith;
@@ -16,12 +17,12 @@ lines-init g c = record {
 
 pub lines-preserved : goal.lines-preserved
 lines-preserved g c =
-    let told = g.S.MapStore.told in
+    let told = Tell g.D.Disk.content in
     let start = g.R.Source.left c.args.source.now in
     let mid = prepend_known (pending c.lines.lines) (g.R.Source.left c.lines.source) in
-    let first = g.S.MapStore.view c.args.store.now in
-    let old = g.S.MapStore.view c.lines.store in
-    let held = g.S.MapStore.leaves c.lines.store in
+    let first = view_of g.D.Disk.faults c.args.store.now in
+    let old = view_of g.D.Disk.faults c.lines.store in
+    let held = leaving g.D.Disk.may_leave c.lines.store in
     let before = g.W.Sink.written c.args.out.now in
     let reached = g.W.Sink.written c.lines.out in
     let done = c.lines.invariant.stands.0 in
@@ -31,8 +32,8 @@ lines-preserved g c =
     let left = g.R.Source.left c.advance.new.source in
     let kept = pending c.advance.new.self in
     let line = c.line.result.now in
-    let now = g.S.MapStore.view c.do_line.new.store in
-    let leaves = g.S.MapStore.leaves c.do_line.new.store in
+    let now = view_of g.D.Disk.faults c.do_line.new.store in
+    let leaves = leaving g.D.Disk.may_leave c.do_line.new.store in
     let written = g.W.Sink.written c.do_line.new.out in
     let found = rw c.in-Ok-Line.field-0-is at c.in-Ok-Line.ensures.found in
     let takes = rw (← c.line.ensures) at found in
@@ -52,12 +53,12 @@ lines-preserved g c =
 
 pub returns-in-Err-do_line-clause-stopped : goal.returns-in-Err-do_line-clause-stopped
 returns-in-Err-do_line-clause-stopped g c =
-    let told = g.S.MapStore.told in
+    let told = Tell g.D.Disk.content in
     let start = g.R.Source.left c.args.source.now in
     let mid = prepend_known (pending c.lines.lines) (g.R.Source.left c.lines.source) in
-    let first = g.S.MapStore.view c.args.store.now in
-    let old = g.S.MapStore.view c.lines.store in
-    let held = g.S.MapStore.leaves c.lines.store in
+    let first = view_of g.D.Disk.faults c.args.store.now in
+    let old = view_of g.D.Disk.faults c.lines.store in
+    let held = leaving g.D.Disk.may_leave c.lines.store in
     let before = g.W.Sink.written c.args.out.now in
     let reached = g.W.Sink.written c.lines.out in
     let done = c.lines.invariant.stands.0 in
@@ -67,8 +68,8 @@ returns-in-Err-do_line-clause-stopped g c =
     let left = g.R.Source.left c.advance.new.source in
     let kept = pending c.advance.new.self in
     let line = c.line.result.now in
-    let now = g.S.MapStore.view c.do_line.new.store in
-    let leaves = g.S.MapStore.leaves c.do_line.new.store in
+    let now = view_of g.D.Disk.faults c.do_line.new.store in
+    let leaves = leaving g.D.Disk.may_leave c.do_line.new.store in
     let written = g.W.Sink.written c.do_line.new.out in
     let found = rw c.in-Ok-Line.field-0-is at c.in-Ok-Line.ensures.found in
     let takes = rw (← c.line.ensures) at found in
@@ -76,12 +77,12 @@ returns-in-Err-do_line-clause-stopped g c =
 
 pub returns-in-Err-do_line-clause-read : goal.returns-in-Err-do_line-clause-read
 returns-in-Err-do_line-clause-read g c =
-    let told = g.S.MapStore.told in
+    let told = Tell g.D.Disk.content in
     let start = g.R.Source.left c.args.source.now in
     let mid = prepend_known (pending c.lines.lines) (g.R.Source.left c.lines.source) in
-    let first = g.S.MapStore.view c.args.store.now in
-    let old = g.S.MapStore.view c.lines.store in
-    let held = g.S.MapStore.leaves c.lines.store in
+    let first = view_of g.D.Disk.faults c.args.store.now in
+    let old = view_of g.D.Disk.faults c.lines.store in
+    let held = leaving g.D.Disk.may_leave c.lines.store in
     let before = g.W.Sink.written c.args.out.now in
     let reached = g.W.Sink.written c.lines.out in
     let done = c.lines.invariant.stands.0 in
@@ -91,19 +92,19 @@ returns-in-Err-do_line-clause-read g c =
     let left = g.R.Source.left c.advance.new.source in
     let kept = pending c.advance.new.self in
     let line = c.line.result.now in
-    let now = g.S.MapStore.view c.do_line.new.store in
-    let leaves = g.S.MapStore.leaves c.do_line.new.store in
+    let now = view_of g.D.Disk.faults c.do_line.new.store in
+    let leaves = leaving g.D.Disk.may_leave c.do_line.new.store in
     let written = g.W.Sink.written c.do_line.new.out in
     λ is. not-read told start mid first old held before reached done s number line place c.in-Err-do_line.stop now leaves written _ c.in-Err-do_line.ensures.stopped (cc (is))
 
 pub returns-in-Ok-LastLine-clause-ok : goal.returns-in-Ok-LastLine-clause-ok
 returns-in-Ok-LastLine-clause-ok g c =
-    let told = g.S.MapStore.told in
+    let told = Tell g.D.Disk.content in
     let start = g.R.Source.left c.args.source.now in
     let mid = prepend_known (pending c.lines.lines) (g.R.Source.left c.lines.source) in
-    let first = g.S.MapStore.view c.args.store.now in
-    let old = g.S.MapStore.view c.lines.store in
-    let held = g.S.MapStore.leaves c.lines.store in
+    let first = view_of g.D.Disk.faults c.args.store.now in
+    let old = view_of g.D.Disk.faults c.lines.store in
+    let held = leaving g.D.Disk.may_leave c.lines.store in
     let before = g.W.Sink.written c.args.out.now in
     let reached = g.W.Sink.written c.lines.out in
     let done = c.lines.invariant.stands.0 in
@@ -113,8 +114,8 @@ returns-in-Ok-LastLine-clause-ok g c =
     let left = g.R.Source.left c.advance.new.source in
     let kept = pending c.advance.new.self in
     let line = c.line-in-Ok-LastLine.result.now in
-    let now = g.S.MapStore.view c.do_line-in-Ok-LastLine.new.store in
-    let leaves = g.S.MapStore.leaves c.do_line-in-Ok-LastLine.new.store in
+    let now = view_of g.D.Disk.faults c.do_line-in-Ok-LastLine.new.store in
+    let leaves = leaving g.D.Disk.may_leave c.do_line-in-Ok-LastLine.new.store in
     let written = g.W.Sink.written c.do_line-in-Ok-LastLine.new.out in
     let found = rw c.in-Ok-LastLine.field-0-is at c.in-Ok-LastLine.ensures.found in
     let takes = rw (← c.line-in-Ok-LastLine.ensures) at found in
@@ -122,12 +123,12 @@ returns-in-Ok-LastLine-clause-ok g c =
 
 pub returns-in-Ok-LastLine-clause-stopped : goal.returns-in-Ok-LastLine-clause-stopped
 returns-in-Ok-LastLine-clause-stopped g c =
-    let told = g.S.MapStore.told in
+    let told = Tell g.D.Disk.content in
     let start = g.R.Source.left c.args.source.now in
     let mid = prepend_known (pending c.lines.lines) (g.R.Source.left c.lines.source) in
-    let first = g.S.MapStore.view c.args.store.now in
-    let old = g.S.MapStore.view c.lines.store in
-    let held = g.S.MapStore.leaves c.lines.store in
+    let first = view_of g.D.Disk.faults c.args.store.now in
+    let old = view_of g.D.Disk.faults c.lines.store in
+    let held = leaving g.D.Disk.may_leave c.lines.store in
     let before = g.W.Sink.written c.args.out.now in
     let reached = g.W.Sink.written c.lines.out in
     let done = c.lines.invariant.stands.0 in
@@ -137,8 +138,8 @@ returns-in-Ok-LastLine-clause-stopped g c =
     let left = g.R.Source.left c.advance.new.source in
     let kept = pending c.advance.new.self in
     let line = c.line-in-Ok-LastLine.result.now in
-    let now = g.S.MapStore.view c.do_line-in-Ok-LastLine.new.store in
-    let leaves = g.S.MapStore.leaves c.do_line-in-Ok-LastLine.new.store in
+    let now = view_of g.D.Disk.faults c.do_line-in-Ok-LastLine.new.store in
+    let leaves = leaving g.D.Disk.may_leave c.do_line-in-Ok-LastLine.new.store in
     let written = g.W.Sink.written c.do_line-in-Ok-LastLine.new.out in
     let found = rw c.in-Ok-LastLine.field-0-is at c.in-Ok-LastLine.ensures.found in
     let takes = rw (← c.line-in-Ok-LastLine.ensures) at found in
@@ -146,12 +147,12 @@ returns-in-Ok-LastLine-clause-stopped g c =
 
 pub returns-in-Ok-LastLine-clause-read : goal.returns-in-Ok-LastLine-clause-read
 returns-in-Ok-LastLine-clause-read g c =
-    let told = g.S.MapStore.told in
+    let told = Tell g.D.Disk.content in
     let start = g.R.Source.left c.args.source.now in
     let mid = prepend_known (pending c.lines.lines) (g.R.Source.left c.lines.source) in
-    let first = g.S.MapStore.view c.args.store.now in
-    let old = g.S.MapStore.view c.lines.store in
-    let held = g.S.MapStore.leaves c.lines.store in
+    let first = view_of g.D.Disk.faults c.args.store.now in
+    let old = view_of g.D.Disk.faults c.lines.store in
+    let held = leaving g.D.Disk.may_leave c.lines.store in
     let before = g.W.Sink.written c.args.out.now in
     let reached = g.W.Sink.written c.lines.out in
     let done = c.lines.invariant.stands.0 in
@@ -161,19 +162,19 @@ returns-in-Ok-LastLine-clause-read g c =
     let left = g.R.Source.left c.advance.new.source in
     let kept = pending c.advance.new.self in
     let line = c.line-in-Ok-LastLine.result.now in
-    let now = g.S.MapStore.view c.do_line-in-Ok-LastLine.new.store in
-    let leaves = g.S.MapStore.leaves c.do_line-in-Ok-LastLine.new.store in
+    let now = view_of g.D.Disk.faults c.do_line-in-Ok-LastLine.new.store in
+    let leaves = leaving g.D.Disk.may_leave c.do_line-in-Ok-LastLine.new.store in
     let written = g.W.Sink.written c.do_line-in-Ok-LastLine.new.out in
     λ is. last-read told start mid first old held before reached done s number line place c.do_line-in-Ok-LastLine.result now leaves written _ c.do_line-in-Ok-LastLine.ensures.stopped is
 
 pub returns-in-Ok-LongLine-clause-stopped : goal.returns-in-Ok-LongLine-clause-stopped
 returns-in-Ok-LongLine-clause-stopped g c =
-    let told = g.S.MapStore.told in
+    let told = Tell g.D.Disk.content in
     let start = g.R.Source.left c.args.source.now in
     let mid = prepend_known (pending c.lines.lines) (g.R.Source.left c.lines.source) in
-    let first = g.S.MapStore.view c.args.store.now in
-    let old = g.S.MapStore.view c.lines.store in
-    let held = g.S.MapStore.leaves c.lines.store in
+    let first = view_of g.D.Disk.faults c.args.store.now in
+    let old = view_of g.D.Disk.faults c.lines.store in
+    let held = leaving g.D.Disk.may_leave c.lines.store in
     let before = g.W.Sink.written c.args.out.now in
     let reached = g.W.Sink.written c.lines.out in
     let done = c.lines.invariant.stands.0 in
@@ -187,12 +188,12 @@ returns-in-Ok-LongLine-clause-stopped g c =
 
 pub returns-in-Ok-End-clause-ok : goal.returns-in-Ok-End-clause-ok
 returns-in-Ok-End-clause-ok g c =
-    let told = g.S.MapStore.told in
+    let told = Tell g.D.Disk.content in
     let start = g.R.Source.left c.args.source.now in
     let mid = prepend_known (pending c.lines.lines) (g.R.Source.left c.lines.source) in
-    let first = g.S.MapStore.view c.args.store.now in
-    let old = g.S.MapStore.view c.lines.store in
-    let held = g.S.MapStore.leaves c.lines.store in
+    let first = view_of g.D.Disk.faults c.args.store.now in
+    let old = view_of g.D.Disk.faults c.lines.store in
+    let held = leaving g.D.Disk.may_leave c.lines.store in
     let before = g.W.Sink.written c.args.out.now in
     let reached = g.W.Sink.written c.lines.out in
     let done = c.lines.invariant.stands.0 in
@@ -206,12 +207,12 @@ returns-in-Ok-End-clause-ok g c =
 
 pub returns-in-Err-clause-stopped : goal.returns-in-Err-clause-stopped
 returns-in-Err-clause-stopped g c =
-    let told = g.S.MapStore.told in
+    let told = Tell g.D.Disk.content in
     let start = g.R.Source.left c.args.source.now in
     let mid = prepend_known (pending c.lines.lines) (g.R.Source.left c.lines.source) in
-    let first = g.S.MapStore.view c.args.store.now in
-    let old = g.S.MapStore.view c.lines.store in
-    let held = g.S.MapStore.leaves c.lines.store in
+    let first = view_of g.D.Disk.faults c.args.store.now in
+    let old = view_of g.D.Disk.faults c.lines.store in
+    let held = leaving g.D.Disk.may_leave c.lines.store in
     let before = g.W.Sink.written c.args.out.now in
     let reached = g.W.Sink.written c.lines.out in
     let done = c.lines.invariant.stands.0 in

@@ -1,18 +1,19 @@
 -- What contracts see of a store that keeps a map, and what its calls do.
-use Rattle.std.specs.Prelude.{◌≡◌, ◌⊎◌, ℕ, ◌<◌, Bool, true, List, codes}
+use Rattle.std.specs.Prelude.{◌≡◌, ◌⊎◌, ◌↔◌, ℕ, ◌<◌, Bool, true, false, List, codes}
+use Rattle.disk_model.specs.Areas.{Bytes}
 use Rattle.disk_model.specs.Causes.{Rose}
 use Rattle.store_opening.specs.declared.open_refusal.OpenRefusal.{OpenRefusal}
 use Rattle.store_opening.specs.declared.open_refusal.OpenRefusal.TheVariants as refusal
 use Rattle.script_lines.specs.Output.{open_refusal_line}
 use Rattle.map_lines.specs.Output.{no_map_line}
-use Rattle.map_script.specs.declared.failure.Failure.{Failure}
-use Rattle.map_script.specs.declared.failure.Failure.TheVariants as failure
-use Rattle.map_script.specs.declared.failure.Unopened.{Unopened}
-use Rattle.map_script.specs.declared.failure.Unopened.TheVariants as unopened
-use Rattle.map_script.specs.declared.store.Put.{Put}
-use Rattle.map_script.specs.declared.store.Put.TheVariants.{Stored, NoRoom}
+use Rattle.map_calls.specs.declared.failure.Failure.{Failure}
+use Rattle.map_calls.specs.declared.failure.Failure.TheVariants as failure
+use Rattle.map_calls.specs.declared.failure.Unopened.{Unopened}
+use Rattle.map_calls.specs.declared.failure.Unopened.TheVariants as unopened
+use Rattle.map_calls.specs.declared.put.Put.{Put}
+use Rattle.map_calls.specs.declared.put.Put.TheVariants.{Stored, NoRoom}
 use Rattle.plain_map.specs.Pairs.{Pairs, value_of}
-use Rattle.map_script.specs.Machine.{MapState, needs, Puts}
+use Rattle.map_calls.specs.Maps.{MapState, needs, Puts}
 
 -- a store that keeps a map: the map of its commits, how many ids are free now, whether it is open and takes calls, how many calls
 -- of its disk failed, and whether its history or its log is full
@@ -24,17 +25,36 @@ pub record StoreView : Type 0 where
   pub history_full : Bool
   pub log_full : Bool
 
--- the store takes calls, and a power loss now leaves just its map
-pub record GoesOn (now : StoreView) (leaves : Pairs → Type 0) : Type 0 where
-  pub running : now.running ≡ true
-  pub only : (pairs : Pairs) → leaves pairs → pairs ≡ now.map.pairs
+-- what a power loss may leave of a disk: which bytes, and whether such bytes are a store of so many ids that opens and keeps this map
+pub record Leaving : Type 1 where
+  pub left : Bytes → Type 0
+  pub keeps : Bytes → ℕ → Pairs → Type 0
 
--- the call failed. A power loss leaves the map of before, or, where the disk failed its commit, perhaps the changed one
-pub record Fails (cause : Failure) (before now : StoreView) (leaves : Pairs → Type 0) (asked : Pairs) : Type 0 where
+-- whatever a power loss leaves keeps this map
+abbrev pub LeavesOne : Leaving → ℕ → Pairs → Type 0
+LeavesOne l ids pairs = (image : Bytes) → l.left image → l.keeps image ids pairs
+
+-- whatever a power loss leaves keeps the one map or the other
+abbrev pub LeavesEither : Leaving → ℕ → Pairs → Pairs → Type 0
+LeavesEither l ids one other = (image : Bytes) → l.left image → l.keeps image ids one ⊎ l.keeps image ids other
+
+-- the store takes calls and isn't full, and a power loss now leaves its map
+pub record GoesOn (now : StoreView) (leaves : Leaving) : Type 0 where
+  pub running : now.running ≡ true
+  pub unmarked : (now.history_full ≡ false) × (now.log_full ≡ false)
+  pub left : LeavesOne leaves now.map.ids now.map.pairs
+
+-- a call that failed leaves the map of before; where the disk failed a commit, perhaps the one that was asked for
+abbrev pub LeavesThen : Failure → Leaving → MapState → Pairs → Type 0
+LeavesThen failure.Disk leaves before asked = LeavesEither leaves before.ids before.pairs asked
+LeavesThen _ leaves before asked = LeavesOne leaves before.ids before.pairs
+
+-- the call failed, and the store is marked as full exactly where that is the cause
+pub record Fails (cause : Failure) (before now : StoreView) (leaves : Leaving) (asked : Pairs) : Type 0 where
   pub disk : cause ≡ failure.Disk → Rose before.faults now.faults
-  pub history : cause ≡ failure.HistoryFull → now.history_full ≡ true
-  pub log : cause ≡ failure.LogFull → now.log_full ≡ true
-  pub only : (pairs : Pairs) → leaves pairs → (pairs ≡ before.map.pairs) ⊎ ((cause ≡ failure.Disk) × (pairs ≡ asked))
+  pub history : (cause ≡ failure.HistoryFull) ↔ (now.history_full ≡ true)
+  pub log : (cause ≡ failure.LogFull) ↔ (now.log_full ≡ true)
+  pub left : LeavesThen cause leaves before.map asked
 
 -- one try to put a pair: it is stored, and this value was there; or fewer ids are free now than it needs, and the map stays
 abbrev pub Tries : ℕ → ℕ → Put → StoreView → StoreView → Type 0
@@ -83,9 +103,11 @@ unopened_line (unopened.Refused refused) = open_refusal_line refused
 unopened_line (unopened.NoMap id) = no_map_line id
 unopened_line (unopened.Unread cause) = failure_line cause
 
--- The store isn't opened after a loss of power, or keeps no map there. A disk that tells what it reads is never the cause of a
--- refusal, and a power loss leaves the map of before.
-pub record StaysShut (told : Type 0) (cause : Unopened) (before now : StoreView) (leaves : Pairs → Type 0) : Type 0 where
+-- The store isn't opened after a loss of power, or keeps no map there. Where it is told what the disk reads, it isn't refused as
+-- damaged, and a power loss leaves the map of before.
+pub record StaysShut (told : Type 0) (cause : Unopened) (before now : StoreView) (leaves : Leaving) : Type 0 where
   pub disk : status_of_unopened cause ≡ 6 → Rose before.faults now.faults
-  pub refused : told → status_of_unopened cause ≡ 7 → ⊥
-  pub only : (pairs : Pairs) → leaves pairs → pairs ≡ before.map.pairs
+  pub history : (cause ≡ unopened.Unread failure.HistoryFull) ↔ (now.history_full ≡ true)
+  pub log : (cause ≡ unopened.Unread failure.LogFull) ↔ (now.log_full ≡ true)
+  pub sound : told → status_of_unopened cause ≡ 7 → ⊥
+  pub left : told → LeavesOne leaves before.map.ids before.map.pairs
