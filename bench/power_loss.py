@@ -7,8 +7,9 @@ A library that is loaded before the C library's own keeps a trace of the calls t
 is to take the place of one of them, and on their folder: reads, writes, cuts, syncs, new names and removals. It ends the program at the Kth
 of them, for K from 1 on until the program ends by itself: while a store is made from nothing and over another one, while a script is
 replayed that has every line, while a store is opened whose last transactions had not ended, while one is opened on which another run did
-not end well, while an audit or a backup is made, while a store of version 1 is migrated, and one of version 2, while a client works on a
-thread, while generated calls are done, and while M (five, without it) scripts are replayed that are drawn as those of damage.py are.
+not end well, while an audit or a backup is made, while a store of version 1 is migrated, and one of version 2, while lines are done in the
+map of a store, while a client works on a thread, while generated calls are done, and while M (five, without it) scripts are replayed that
+are drawn as those of damage.py are.
 
 From the trace N (ten, without it) contents of the four files are drawn as a power loss at that call may leave them. What the last sync of a
 file made last is there. Of the writes and cuts after it, and of the call at which power was lost, each is done, not done or done in part,
@@ -224,6 +225,9 @@ UNDER_A_MARK = b"1 begin\n1 set 0 3\n1 commit\n"
 # What a run does after one whose sync failed.
 LATER = b"1 begin\n1 set 0 8\n1 make 1\n1 store 0 3 1\n1 commit\n2 begin\n2 set 0 11\n2 commit\nclean 0\n1 begin\n1 set 0 12\n1 commit\n"
 
+# Lines that put pairs into a map, change one, take some out, and put again where ids have to be collected before.
+PAIRS = b"put 5 50\nput 3 30\nget 5\nput 5 51\nput 9 90\ndel 3\nput 4 40\nput 1 10\ndel 9\nput 8 80\nput 7 70\nlist\ndel 2\n"
+
 LOST = 97
 NO_STORE = (7, b"refused: no store\n")
 
@@ -248,15 +252,18 @@ class Losses:
         ended = self.runs.run(words, script, TRACE=self.trace, **told)
         return ended, folder.goes_on(self.trace)
 
-    def fronts(self, areas, script):
-        """What each number of the script's first lines prints, but for the line at the end, and what is reachable after it."""
+    def seen(self, words):
+        """What is reachable in the store of the folder, or the pairs of its map after lines for that."""
+        return self.runs.run(["map"], b"list\n") if words[0] == "map" else self.runs.seen(words[0] == "migrate")
+
+    def fronts(self, areas, words, script):
+        """What each number of the script's first lines prints, but for the line at the end, and what is seen after it."""
         lines = script.splitlines(keepends=True)
         found = []
         for count in range(len(lines) + 1):
-            front = b"".join(lines[:count])
             self.runs.lay(areas)
-            output = self.runs.run(["replay"], front)[1].splitlines(keepends=True)
-            found.append((b"".join(output[:-1]), self.runs.seen_behind(areas, front)))
+            output = self.runs.run(words, b"".join(lines[:count]))[1].splitlines(keepends=True)
+            found.append((b"".join(output[:-1]), self.seen(words)))
         return found
 
     def allowed(self, areas, words, script):
@@ -272,7 +279,7 @@ class Losses:
             return lambda _: [seen]
         if words[0] in ("audit", "backup"):
             script = b""
-        fronts = self.fronts(areas, script)
+        fronts = self.fronts(areas, words if words[0] == "map" else ["replay"], script)
         seen = [now for _, now in fronts]
         if words[0] == "run":
             return lambda _: seen
@@ -281,7 +288,7 @@ class Losses:
     def fault_of(self, areas, words, may_be):
         """What is wrong with a store after such a run, if anything."""
         self.runs.lay(areas)
-        now = self.runs.seen(words[0] == "migrate")
+        now = self.seen(words)
         if may_be is not None and now not in may_be:
             return "opens to %r" % (now,)
         return None if now == NO_STORE and may_be else self.runs.fault_of_audit()
@@ -392,6 +399,7 @@ def lose_all(words, runs):
         # At each call in the short form too.
         Losses(runs, words.losses, words.seed, 1).try_each(of_version_1(unended), ["migrate"], b""),
         0 if words.short else losses.try_each(unended, ["migrate"], b""),
+        losses.try_each(fresh, ["map"], PAIRS),
         losses.try_each(fresh, ["run"], CLIENT),
         losses.try_each(fresh, stores.GENERATED, b""),
         *(losses.try_each(fresh, ["replay"], script) for script in drawn_scripts),
