@@ -25,8 +25,9 @@ LANE = 5_000_000_000
 # What one copy of a proof takes of memory, in bytes: so much, and so much for each crate below.
 COPY, COPY_BELOW = 1_000_000_000, 40_000_000
 
-# The lines from which a proof gets two copies for each processor. The copies wait for each other now and then, so with more of them than
-# processors less time is lost over a function that takes long.
+# The lines from which a proof gets twice as many copies. They wait for each other now and then, so with more of them than processors less
+# time is lost over a function that takes long. Each copy begins with the reading of what its functions name, which takes up to half a minute of a
+# processor's time. So a proof has few where other crates can use the processors.
 LONG = 10_000
 
 # What was measured of four processors: lines of source, definitions and proofs that are proved in a second.
@@ -107,15 +108,19 @@ def memory():
         return 1024 * int(re.search(r"MemAvailable:\s+(\d+)", it.read())[1])
 
 
-def copies(lines, below):
-    """How many copies the proof of a crate of so many lines may have, which stands on so many others."""
-    processors = min(len(os.sched_getaffinity(0)), 4)
-    wanted = 2 * processors if lines > LONG else processors
+def processors():
+    """How many processors are used."""
+    return min(len(os.sched_getaffinity(0)), 4)
+
+
+def copies(lines, below, share):
+    """How many copies the proof of a crate of so many lines may have, which stands on so many others and has this share of the processors."""
+    wanted = 2 * share if lines > LONG else share
     return max(1, min(wanted, memory() // (COPY + COPY_BELOW * below)))
 
 
 def lanes_wanted():
-    return max(1, min(len(os.sched_getaffinity(0)), 4, memory() // LANE))
+    return max(1, min(processors(), memory() // LANE))
 
 
 class Proof:
@@ -148,13 +153,16 @@ class Proof:
                     return name
                 self.turn.wait()
 
-    def is_first(self, name):
-        """Whether more work waits for this crate than for each other one that is being proved."""
-        with self.turn:
-            return all(self.chain(it) <= self.chain(name) for it in self.running)
-
     def copies(self, name):
-        return copies(self.lines[name], len(below(self.crates, name)) - 1)
+        """How many copies the proof of this crate gets: its share of the processors beside what runs and what could run now. The crate for
+        which most work waits has two of them at least."""
+        with self.turn:
+            others = [it for it in self.crates if it not in self.done and it != name and self.done.issuperset(self.crates[it])]
+            is_first = all(self.chain(it) <= self.chain(name) for it in self.running)
+        share = max(processors() // (1 + len(others)), 2 if is_first else 1)
+        if not is_first and share == 1:
+            return 1
+        return copies(self.lines[name], len(below(self.crates, name)) - 1, share)
 
     def put(self, name, is_done):
         with self.turn:
@@ -194,8 +202,7 @@ def work(proof, lanes, lane):
     while name := proof.take(lane):
         with open(f"{LOGS}/{name}", "w", encoding="utf-8") as log:
             how = {"stdin": subprocess.DEVNULL, "stdout": log, "stderr": subprocess.STDOUT}
-            # The crate for which most work waits has several copies, and so most of the processors. The others have one each.
-            words = ["rt", "lib", "--jobs", str(proof.copies(name) if proof.is_first(name) else 1)]
+            words = ["rt", "lib", "--jobs", str(proof.copies(name))]
             status = subprocess.run(words, cwd=f"{lane}/crates/{name}", **how).returncode
         if not status:
             for it in lanes:
