@@ -1,0 +1,8 @@
+pub mod AloneLaws
+pub mod EndLaws
+pub mod AskLaws
+pub mod KeptLaws
+pub mod BeginLaws
+pub mod CommitLaws
+pub mod StartLaws
+pub mod GetLaws

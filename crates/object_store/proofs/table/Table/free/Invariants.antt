@@ -1,0 +1,6 @@
+use Rattle.std.proofs.Common.{◌≢◌, ◌<◌, ℕ, None}
+use Rattle.object_store.specs.Handles.{held_at}
+use Rattle.object_store.proofs.table.Table.free.Given as goal
+
+abbrev pub invariant-loop-register : goal.invariant-loop-register
+invariant-loop-register l = (r : ℕ) → r < l.register → held_at l.self-inside.rows r ≢ None

@@ -1,0 +1,5 @@
+pub mod Seen
+pub mod Calls
+pub mod Handles
+pub mod Ends
+pub mod Steps
