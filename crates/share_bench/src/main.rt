@@ -1,7 +1,15 @@
-//! Prints how many calls a second clients make.
+//! Counts calls a second, and prints how many there were: of clients on threads that share a store, of clients that take turns at a
+//! lock, and of one thread that makes the calls of all clients.
+//!
+//! It promises nothing: its contracts say only what callers need.
 #![tactic(auto)]
 
-use counted_calls::{Tally, count};
+mod client;
+mod made;
+mod order;
+mod runs;
+
+use crate::runs::{Tally, count};
 use std::env;
 use std::rt::{Clock, Env};
 use std::sync::Wait;

@@ -1,5 +1,5 @@
 //! Runs of clients, timed.
-ghost use Rattle.counted_calls.specs.Clients.{HasGiven};
+ghost use Rattle.share_bench.specs.Clients.{HasGiven};
 
 use crate::client::{CALLS, Client, Locker, Owner, Sharer, begin, make, work};
 use crate::made::{MemoryPass, MemoryStore, new_journal, new_store, share_next};
@@ -13,11 +13,11 @@ use std::time::{Duration, Instant};
 
 /// How many calls were done, and how long they took.
 #[derive(Clone, Copy)]
-pub struct Tally {
+pub(crate) struct Tally {
     /// The calls of all clients together.
-    pub calls: u64,
+    pub(crate) calls: u64,
     /// The time from before the first one to after the last one, in microseconds.
-    pub micros: u64,
+    pub(crate) micros: u64,
 }
 
 impl Tally {
@@ -34,7 +34,7 @@ impl Tally {
     }
 
     /// How many calls a second that makes.
-    pub fn per_second(&self) -> u64 {
+    pub(crate) fn per_second(&self) -> u64 {
         self.calls.saturating_mul(1_000_000) / self.micros.max(1)
     }
 }
@@ -158,7 +158,7 @@ fn run<R: Threads + Wait + Clock + AllocGlobal + Sync>(rt: &R, order: Order) -> 
 
 /// Counts the calls that these words ask for, if they ask for anything: how clients come to the store, how many they are, and
 /// what they ask of it.
-pub fn count<R: Threads + Wait + Clock + AllocGlobal + Sync>(
+pub(crate) fn count<R: Threads + Wait + Clock + AllocGlobal + Sync>(
     rt: &R,
     how: &str,
     clients: &str,

@@ -1,7 +1,7 @@
 //! New stores on disks in memory.
 ghost use Rattle.std.specs.Prelude.{◌≡◌, ◌+◌, [], None, IfOk};
 ghost use Rattle.shared_store.specs.Passes.{IsClient};
-ghost use Rattle.counted_calls.specs.Clients.{HasGiven, IsClientOf};
+ghost use Rattle.share_bench.specs.Clients.{HasGiven, IsClientOf};
 
 use anyhow::{Result, anyhow};
 use core_store::Limits;

@@ -1,6 +1,6 @@
 use Rattle.std.proofs.Common.{rules}
-use Rattle.counted_calls.proofs.Fresh.{running-same, unnoted-same, frames-same, none-given}
-use Rattle.counted_calls.proofs.made.store_over.Goals as goal
+use Rattle.share_bench.proofs.Fresh.{running-same, unnoted-same, frames-same, none-given}
+use Rattle.share_bench.proofs.made.store_over.Goals as goal
 
 pub new-requires-after_bounds : goal.new-requires-after_bounds
 new-requires-after_bounds g c κs within =

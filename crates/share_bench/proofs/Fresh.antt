@@ -7,8 +7,8 @@ use Rattle.latch_table.specs.Holds.{TableView}
 use Rattle.latch_table.specs.declared.view.Station.{Station}
 use Rattle.latch_table.specs.Views.{first_station, is_listed}
 use Rattle.shared_store.specs.Passes.{PassView}
-use Rattle.counted_calls.specs.Clients.{HasGiven}
 use Rattle.script_lines.specs.Numbers.{object_slots}
+use Rattle.share_bench.specs.Clients.{HasGiven}
 
 pub running-same : {D : Type 0} (w v : LoggedView D) → w ≡ v → v.failed ≡ None → w.failed ≡ None
 running-same {D} w v same running = ap (λ (x : LoggedView D). x.failed) same ∙ running

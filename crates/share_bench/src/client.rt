@@ -1,6 +1,6 @@
 //! Clients, and what they do.
-ghost use Rattle.counted_calls.specs.Clients.{IsClientOf, IsToCall};
 ghost use Rattle.shared_store.specs.Passes.{IsClient};
+ghost use Rattle.share_bench.specs.Clients.{IsClientOf, IsToCall};
 
 use crate::made::{MemoryJournal, MemoryPass, MemoryStore};
 use crate::order::Mix;
