@@ -13,11 +13,11 @@ use Rattle.store_opening.specs.Looks.{IsLookedAt}
 use Rattle.script_lines.specs.Numbers.{object_slots, number_of, pages_of}
 use Rattle.brahma_shell.specs.declared.commands.Command.{Command}
 use Rattle.brahma_shell.specs.declared.commands.Command.TheVariants.{Init, Replay, Run, Gen, Audit, ParAudit, Migrate, Backup, Ship, Log, Standby, Check, Map}
-use Rattle.gen_options.specs.declared.reading.Asked.{Asked}
+use Rattle.call_generator.specs.declared.options.Asked.{Asked}
 use Rattle.brahma_shell.specs.declared.ended.Ended.{Ended}
 use Rattle.brahma_shell.specs.declared.ended.Ended.TheVariants.{Shut, Kept}
 use Rattle.logged_journal.specs.View.{LoggedView}
-use Rattle.gen_options.specs.Options.{asked_of}
+use Rattle.call_generator.specs.Options.{asked_of}
 use Rattle.brahma_shell.specs.Commands.{AskOptions, command_of}
 use Rattle.brahma_shell.specs.Ended.{disk_in, shut_in}
 use Rattle.brahma_shell.specs.Top.{IsStatusOfReplay, GoesLater, Outside, Ends, AlwaysOpens, Unopened, Replayed, Audited, Generated, Made}

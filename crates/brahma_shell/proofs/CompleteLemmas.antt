@@ -23,7 +23,7 @@ use Rattle.journal_opening.specs.Making.{OpensToRoot}
 use Rattle.logged_journal.specs.View.{LoggedView}
 use Rattle.brahma_shell.specs.declared.ended.Ended.{Ended}
 use Rattle.brahma_shell.specs.declared.ended.Ended.TheVariants.{Kept}
-use Rattle.gen_options.specs.declared.reading.Asked.{Asked}
+use Rattle.call_generator.specs.declared.options.Asked.{Asked}
 use Rattle.brahma_shell.specs.Ended.{disk_in}
 use Rattle.brahma_shell.specs.ClientLines.{HasOnlyClients}
 use Rattle.brahma_shell.specs.Ran.{Ran}

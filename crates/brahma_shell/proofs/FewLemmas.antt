@@ -2,11 +2,11 @@
 use Rattle.std.proofs.Common.{◌≡◌, ℕ, ◌≤◌, Bool, true, false, List, [], ◌∷◌, Option, Some, None, subst}
 use Rattle.std.specs.Prelude.{IfSome, codes, bytes_eq, if◌then◌else◌, option_map}
 use Rattle.brahma_shell.specs.declared.commands.Command.TheVariants.{Init, Replay, Run, Gen, Audit, ParAudit, Migrate, Backup, Ship, Log, Standby, Check, Map}
-use Rattle.gen_options.specs.declared.reading.Asked.{Asked}
+use Rattle.call_generator.specs.declared.options.Asked.{Asked}
 use Rattle.brahma_shell.specs.Commands.{command_of}
 use Rattle.script_lines.specs.Numbers.{pages_of}
-use Rattle.gen_options.specs.Options.{asked_of}
-use Rattle.gen_options.proofs.FewClients.{asked-few}
+use Rattle.call_generator.specs.Options.{asked_of}
+use Rattle.call_generator.proofs.FewClients.{asked-few}
 
 of-more : (b : Bool) (o : Option Asked) (a : Asked) → IfSome o (λ x. x.clients ≤ 64) → (if b then option_map Gen o else None) ≡ Some (Gen a) → a.clients ≤ 64
 of-more true None a h e = absurd (cc (e))

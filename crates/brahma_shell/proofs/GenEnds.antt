@@ -20,7 +20,7 @@ use Rattle.call_generator.proofs.TurnLaws.{generator-inside, gives-turns}
 use Rattle.script_lines.specs.declared.grammar.Line.{Line}
 use Rattle.script_lines.specs.declared.grammar.Line.TheVariants as line
 use Rattle.script_lines.specs.Output.{AppendsFront}
-use Rattle.gen_options.specs.declared.reading.Asked.{Asked}
+use Rattle.call_generator.specs.declared.options.Asked.{Asked}
 use Rattle.brahma_shell.specs.declared.replay.Stop.{Stop}
 use Rattle.brahma_shell.specs.declared.replay.Stop.TheVariants as stop
 use Rattle.brahma_shell.specs.Generated.{lines_in, generated_lines, generated_text, GivesLines, GivesPart, GivesUpTo, DoesLines, StopsLines}

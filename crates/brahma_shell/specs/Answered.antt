@@ -11,7 +11,7 @@ use Rattle.brahma_shell.specs.declared.commands.Command.{Command}
 use Rattle.brahma_shell.specs.declared.commands.Command.TheVariants.{Init, Replay, Run, Gen, Audit, ParAudit, Migrate, Backup, Ship, Log, Standby, Check, Map}
 use Rattle.brahma_shell.specs.declared.ended.Ended.{Ended}
 use Rattle.brahma_shell.specs.declared.ended.Ended.TheVariants.{Shut, Kept}
-use Rattle.gen_options.specs.declared.reading.Asked.{Asked}
+use Rattle.call_generator.specs.declared.options.Asked.{Asked}
 use Rattle.brahma_shell.specs.Commands.{AskOptions, command_of}
 use Rattle.brahma_shell.specs.Ended.{disk_in}
 use Rattle.brahma_shell.specs.Top.{Tell, IsStatus, GoesLater, IsDoneOrFull, HasOnlyLines, Outside, Ends, Unopened, Replayed, Audited, Made, Generated, AlwaysOpens}

@@ -1,7 +1,7 @@
 -- What the words after the program's name ask.
 use Rattle.std.specs.Prelude.{◌≡◌, ℕ, if◌then◌else◌, List, [], ◌∷◌, Option, Some, None, bytes_eq, codes, option_map}
 use Rattle.script_lines.specs.Numbers.{pages_of}
-use Rattle.gen_options.specs.Options.{asked_of}
+use Rattle.call_generator.specs.Options.{asked_of}
 use Rattle.brahma_shell.specs.declared.commands.Command.{Command}
 use Rattle.brahma_shell.specs.declared.commands.Command.TheVariants.{Init, Replay, Run, Gen, Audit, ParAudit, Migrate, Backup, Ship, Log, Standby, Check, Map}
 

@@ -3,7 +3,7 @@ ghost use Rattle.std.specs.Prelude.{◌≡◌, IfOk, OnErr, Option, map, string_
 ghost use Rattle.brahma_shell.specs.Commands.{AskOptions, command_of, command_of_word, command_of_two, command_of_more};
 
 use crate::words::Words;
-use gen_options::{Asked, asked_of};
+use call_generator::{Asked, asked_of};
 use plain_model::Memory;
 use script_lines::pages_of;
 use std::alloc::Global;

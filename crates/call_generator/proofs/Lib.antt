@@ -1,3 +1,15 @@
+pub mod OptionNames
+pub mod WordViews
+pub mod OptionRows
+pub mod WordTurns
+pub mod WordEnds
+pub mod Decided
+pub mod LastWords
+pub mod NextWords
+pub mod ParseLaw
+pub mod Found
+pub mod FewClients
+pub mod Built
 pub mod WaitingLaws
 pub mod TurnLaws
 pub mod RangeLaws

@@ -1,2 +1,4 @@
+pub mod Options
+pub mod GenCommand
 pub mod Draws
 pub mod Generator

@@ -1,7 +1,7 @@
 use Rattle.std.proofs.Common.{◌∙◌, map, string_bytes}
 use Rattle.clap.specs.Words.{app_of}
-use Rattle.gen_options.proofs.Found.{taken-read, refused-read}
-use Rattle.gen_options.proofs.parsed.parsed.Goals as goal
+use Rattle.call_generator.proofs.Found.{taken-read, refused-read}
+use Rattle.call_generator.proofs.parsed.parsed.Goals as goal
 
 pub returns-in-Ok : goal.returns-in-Ok
 returns-in-Ok c = taken-read (app_of c.in_ok-gen_command.field-0) (map string_bytes c.args.words.now) c.in-Ok.matches c.in_ok-gen_command.ensures c.in-Ok.ensures.kinds c.in-Ok.ensures.matches

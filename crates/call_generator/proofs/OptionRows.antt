@@ -8,8 +8,8 @@ use Rattle.clap.specs.Simple.{built, filled}
 use Rattle.clap.specs.Takes.{is_given}
 use Rattle.clap.specs.Faults.{use_fault}
 use Rattle.clap.specs.declared.parser.matches.ValueSource.TheVariants.{CommandLine}
-use Rattle.gen_options.specs.GenCommand.{gen_app, option_rule}
-use Rattle.gen_options.proofs.Names.{Name, of_seed, of_clients, of_txns, id_of, Fields, no_fields, put}
+use Rattle.call_generator.specs.GenCommand.{gen_app, option_rule}
+use Rattle.call_generator.proofs.OptionNames.{Name, of_seed, of_clients, of_txns, id_of, Fields, no_fields, put}
 
 -- what the command makes of the option
 abbrev pub rule_at : Name → Rule

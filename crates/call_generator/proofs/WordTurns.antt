@@ -11,11 +11,11 @@ use Rattle.clap.specs.Faults.{bundle_fault, bundle_step_fault, check_fault, defa
 use Rattle.clap.specs.Kinds.{Kinds, or_else}
 use Rattle.clap.specs.declared.error.kind.ErrorKind.{ErrorKind}
 use Rattle.clap.specs.declared.error.kind.ErrorKind.TheVariants.{UnknownArgument}
-use Rattle.gen_options.specs.GenCommand.{gen_app}
-use Rattle.gen_options.specs.Options.{is_equals, is_name}
-use Rattle.gen_options.proofs.Names.{Name, of_seed, of_clients, of_txns, id_of}
-use Rattle.gen_options.proofs.Rows.{rule_at, rules, by-long, no-value}
-use Rattle.gen_options.proofs.WordViews.{IsOther}
+use Rattle.call_generator.specs.GenCommand.{gen_app}
+use Rattle.call_generator.specs.Options.{is_equals, is_name}
+use Rattle.call_generator.proofs.OptionNames.{Name, of_seed, of_clients, of_txns, id_of}
+use Rattle.call_generator.proofs.OptionRows.{rule_at, rules, by-long, no-value}
+use Rattle.call_generator.proofs.WordViews.{IsOther}
 
 abbrev pub Fails : Kinds → Type 0
 Fails kinds = kinds ≡ [] → ⊥

@@ -4,13 +4,13 @@ use Rattle.std.specs.List.{before_first}
 use Rattle.clap.specs.Words.{Row, Text}
 use Rattle.clap.specs.Walk.{Waiting, Walk, idle, option, walked, settled_rows}
 use Rattle.clap.specs.Faults.{settle_fault, walk_fault}
-use Rattle.gen_options.specs.Options.{Given, is_equals, only}
-use Rattle.gen_options.proofs.Names.{Name, of_seed, of_clients, of_txns, id_of, word_of, Fields, all_values, ask, ask-end}
-use Rattle.gen_options.proofs.WordViews.{IsOther, View, ends, long, short, plain, view}
-use Rattle.gen_options.proofs.Rows.{Have, found, row_at, rules}
-use Rattle.gen_options.proofs.Turns.{Fails, Known, known, unknown, Pending, at, end-fails, fails-as, held, known-fails, name-view, plain-fails, short-fails, total, total-fails, total-goes, trailing-fails, turn, unknown-fails}
-use Rattle.gen_options.proofs.Ends.{end-is, finished-is, missing, missing-fails, none-missing}
-use Rattle.gen_options.proofs.Decided.{Decided}
+use Rattle.call_generator.specs.Options.{Given, is_equals, only}
+use Rattle.call_generator.proofs.OptionNames.{Name, of_seed, of_clients, of_txns, id_of, word_of, Fields, all_values, ask, ask-end}
+use Rattle.call_generator.proofs.WordViews.{IsOther, View, ends, long, short, plain, view}
+use Rattle.call_generator.proofs.OptionRows.{Have, found, row_at, rules}
+use Rattle.call_generator.proofs.WordTurns.{Fails, Known, known, unknown, Pending, at, end-fails, fails-as, held, known-fails, name-view, plain-fails, short-fails, total, total-fails, total-goes, trailing-fails, turn, unknown-fails}
+use Rattle.call_generator.proofs.WordEnds.{end-is, finished-is, missing, missing-fails, none-missing}
+use Rattle.call_generator.proofs.Decided.{Decided}
 
 -- ---- where the walk stands
 

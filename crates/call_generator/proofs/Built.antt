@@ -4,7 +4,7 @@ use Rattle.clap.specs.Words.{App, Shape, app_of, new_app}
 use Rattle.clap.specs.Simple.{app_of_fields, on_top}
 use Rattle.clap.specs.declared.builder.command.Command.{Command}
 use Rattle.clap.specs.declared.builder.command.Command.TheViews.{out-Command as fields_of}
-use Rattle.gen_options.specs.GenCommand.{bare_app}
+use Rattle.call_generator.specs.GenCommand.{bare_app}
 
 abbrev unnamed : Shape → Shape
 unnamed s = record s { no_binary_name = true }

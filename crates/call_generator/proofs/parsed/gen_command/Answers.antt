@@ -1,9 +1,9 @@
 use Rattle.std.proofs.Common.{◌≡◌, ◌∙◌, ap₂, codes}
 use Rattle.std.proofs.lemmas.Result.{IfOk-weaker}
 use Rattle.clap.specs.Words.{rule_of, with_rule}
-use Rattle.gen_options.specs.GenCommand.{option_rule}
-use Rattle.gen_options.proofs.Built.{bare-is}
-use Rattle.gen_options.proofs.parsed.gen_command.Goals as goal
+use Rattle.call_generator.specs.GenCommand.{option_rule}
+use Rattle.call_generator.proofs.Built.{bare-is}
+use Rattle.call_generator.proofs.parsed.gen_command.Goals as goal
 
 pub returns : goal.returns
 returns c =

@@ -4,8 +4,8 @@ use Rattle.clap.specs.Words.{App, Rule, Text, new_app, new_rule, with_rule, firs
 use Rattle.clap.specs.Simple.{on_top}
 use Rattle.clap.specs.declared.builder.action.ArgAction.TheVariants.{Set}
 use Rattle.clap.specs.declared.parser.matches.ArgMatches.{ArgMatches}
-use Rattle.gen_options.specs.Options.{asked_for, asked_of}
-use Rattle.gen_options.specs.declared.reading.Asked.{Asked}
+use Rattle.call_generator.specs.Options.{asked_for, asked_of}
+use Rattle.call_generator.specs.declared.options.Asked.{Asked}
 
 -- an option that takes one value, and has to be given
 abbrev pub option_rule : Text → Rule

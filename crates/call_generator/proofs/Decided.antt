@@ -2,10 +2,10 @@
 use Rattle.std.proofs.Common.{◌≡◌, ◌∙◌, ◌⊎◌, inl, inr, ap, refl, sym, subst, true, List, [], ◌∷◌, Option, Some, None, option_map, unwrap_or}
 use Rattle.clap.specs.Words.{Text}
 use Rattle.clap.specs.Walk.{Walk}
-use Rattle.gen_options.specs.Options.{Given, only, options_of}
-use Rattle.gen_options.proofs.Names.{Name, word_of, named-more, Fields, put, are_named, all_values, ask, ask-put, values-put}
-use Rattle.gen_options.proofs.Rows.{found, row_at}
-use Rattle.gen_options.proofs.Turns.{Fails, end_rows, fails-as, total}
+use Rattle.call_generator.specs.Options.{Given, only, options_of}
+use Rattle.call_generator.proofs.OptionNames.{Name, word_of, named-more, Fields, put, are_named, all_values, ask, ask-put, values-put}
+use Rattle.call_generator.proofs.OptionRows.{found, row_at}
+use Rattle.call_generator.proofs.WordTurns.{Fails, end_rows, fails-as, total}
 
 -- ---- what is decided
 

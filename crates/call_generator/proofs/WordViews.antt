@@ -4,7 +4,7 @@ use Rattle.std.proofs.lemmas.Bool.Decides.{nat_tests}
 use Rattle.std.specs.List.{list_any, before_first, after_first, position_or_len}
 use Rattle.clap.specs.Words.{Text}
 use Rattle.clap.specs.Lexer.{long_of, short_of}
-use Rattle.gen_options.specs.Options.{is_equals, is_name, split}
+use Rattle.call_generator.specs.Options.{is_equals, is_name, split}
 
 -- ---- where the first `=` stands
 

@@ -4,13 +4,13 @@ use Rattle.std.specs.List.{before_first, after_first, list_any}
 use Rattle.clap.specs.Words.{Row, Text}
 use Rattle.clap.specs.Walk.{Waiting, idle, option, walked, settled_rows, used}
 use Rattle.clap.specs.Faults.{walk_fault}
-use Rattle.gen_options.specs.Options.{Given, is_equals, is_name, options_of, split}
-use Rattle.gen_options.proofs.Names.{Name, id_of, word_of, word-id, Fields, put, ask, ask-twice, ask-bad, ask-unknown, hyphen-bad, IsBad}
-use Rattle.gen_options.proofs.WordViews.{IsOther, View, ends, long, short, plain, view, split-long, all-before}
-use Rattle.gen_options.proofs.Rows.{Have, have-put, rule_at, rules, use-once, use-twice}
-use Rattle.gen_options.proofs.Turns.{Fails, Known, known, unknown, Pending, at, fails-as, flag-word-fails, flag_of, known-twice, name-turn, name-view, name-walk, pending-fails, pending-settles, pending-used, plain-fails, plain-turn, plain-walk, rows-go, short-fails, short-plain-turn, short-plain-walk, total, total-fails, total-goes, trailing-fails, turn, unknown-fails, value-turn, value-walk}
-use Rattle.gen_options.proofs.Decided.{Decided, pass-on, with_option, asks-none, no-options, asks-behind, carry}
-use Rattle.gen_options.proofs.LastWords.{Stage, between, behind, walk_at, awaited_at, Stands, law-end, trailing-after, ends-walk, ends-total, long-fails, doomed}
+use Rattle.call_generator.specs.Options.{Given, is_equals, is_name, options_of, split}
+use Rattle.call_generator.proofs.OptionNames.{Name, id_of, word_of, word-id, Fields, put, ask, ask-twice, ask-bad, ask-unknown, hyphen-bad, IsBad}
+use Rattle.call_generator.proofs.WordViews.{IsOther, View, ends, long, short, plain, view, split-long, all-before}
+use Rattle.call_generator.proofs.OptionRows.{Have, have-put, rule_at, rules, use-once, use-twice}
+use Rattle.call_generator.proofs.WordTurns.{Fails, Known, known, unknown, Pending, at, fails-as, flag-word-fails, flag_of, known-twice, name-turn, name-view, name-walk, pending-fails, pending-settles, pending-used, plain-fails, plain-turn, plain-walk, rows-go, short-fails, short-plain-turn, short-plain-walk, total, total-fails, total-goes, trailing-fails, turn, unknown-fails, value-turn, value-walk}
+use Rattle.call_generator.proofs.Decided.{Decided, pass-on, with_option, asks-none, no-options, asks-behind, carry}
+use Rattle.call_generator.proofs.LastWords.{Stage, between, behind, walk_at, awaited_at, Stands, law-end, trailing-after, ends-walk, ends-total, long-fails, doomed}
 
 -- ---- a word between two options
 

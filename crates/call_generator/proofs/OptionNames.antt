@@ -3,8 +3,8 @@ use Rattle.std.proofs.Common.{◌≡◌, ap, refl, sym, subst, ℕ, ◌^◌, Boo
 use Rattle.std.specs.List.{cons_option, list_all}
 use Rattle.clap.specs.Words.{Text}
 use Rattle.script_lines.specs.Numbers.{is_number, number_within, seed_of, clients_of, transactions_of}
-use Rattle.gen_options.specs.Options.{Given, is_name, values_of, only, asked_with, asked_for, asked_by}
-use Rattle.gen_options.specs.declared.reading.Asked.{Asked}
+use Rattle.call_generator.specs.Options.{Given, is_name, values_of, only, asked_with, asked_for, asked_by}
+use Rattle.call_generator.specs.declared.options.Asked.{Asked}
 
 pub data Name : Type 0 where
   of_seed : Name

@@ -5,9 +5,9 @@ use Rattle.clap.specs.Walk.{finished, has_row, settled_rows, with_default}
 use Rattle.clap.specs.Faults.{check_fault, default_fault, defaults_fault, settle_fault}
 use Rattle.clap.specs.Kinds.{Kinds}
 use Rattle.clap.specs.declared.error.kind.ErrorKind.TheVariants.{MissingRequiredArgument}
-use Rattle.gen_options.proofs.Names.{Name, of_seed, of_clients, of_txns, id_of, Fields}
-use Rattle.gen_options.proofs.Rows.{Have, rule_at, rules, given-field}
-use Rattle.gen_options.proofs.Turns.{Pending, end_fault, held, past, shape, some-fails, Fails}
+use Rattle.call_generator.proofs.OptionNames.{Name, of_seed, of_clients, of_txns, id_of, Fields}
+use Rattle.call_generator.proofs.OptionRows.{Have, rule_at, rules, given-field}
+use Rattle.call_generator.proofs.WordTurns.{Pending, end_fault, held, past, shape, some-fails, Fails}
 
 either : (b : Bool) (x : List Row) → (if b then x else x) ≡ x
 either true x = refl

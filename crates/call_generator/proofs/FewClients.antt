@@ -4,8 +4,8 @@ use Rattle.std.specs.Prelude.{IfSome}
 use Rattle.std.specs.List.{list_all}
 use Rattle.std.proofs.lemmas.Bool.{ltb-true}
 use Rattle.script_lines.specs.Numbers.{number_of, seed_of, clients_of, transactions_of}
-use Rattle.gen_options.specs.Options.{Given, asked_by, asked_for, asked_of, asked_with, is_name, only, options_of, values_of}
-use Rattle.gen_options.specs.declared.reading.Asked.{Asked}
+use Rattle.call_generator.specs.Options.{Given, asked_by, asked_for, asked_of, asked_with, is_name, only, options_of, values_of}
+use Rattle.call_generator.specs.declared.options.Asked.{Asked}
 
 both : (a b : Bool) → (a && b) ≡ true → b ≡ true
 both true b e = e

@@ -1,7 +1,7 @@
 //! The command `gen`, as clap parses it.
 ghost use Rattle.std.specs.Prelude.{◌≡◌, IfOk, false, map, string_bytes};
 ghost use Rattle.clap.specs.Words.{app_of, rule_of};
-ghost use Rattle.gen_options.specs.GenCommand.{option_rule, gen_app, HasRead};
+ghost use Rattle.call_generator.specs.GenCommand.{option_rule, gen_app, HasRead};
 
 use clap::error::ErrorKind;
 use clap::{Arg, ArgAction, ArgMatches, Command};

@@ -5,14 +5,14 @@ use Rattle.clap.specs.Walk.{idle, nothing_held}
 use Rattle.clap.specs.Simple.{built}
 use Rattle.clap.proofs.FaultLemmas.{leaf_fault}
 use Rattle.clap.proofs.OnLiterals.{clap_on_literals}
-use Rattle.gen_options.specs.GenCommand.{gen_app}
-use Rattle.gen_options.specs.Options.{Given, only, asked_for, asked_of, options_of}
-use Rattle.gen_options.proofs.Names.{Name, of_seed, of_clients, of_txns, id_of, word_of, Fields, no_fields, are_named, all_values, ask}
-use Rattle.gen_options.proofs.Rows.{have-none, found, row_at}
-use Rattle.gen_options.proofs.Turns.{Fails, at, end-fails, end_rows, pending-fails, total}
-use Rattle.gen_options.proofs.Decided.{Decided, no-options}
-use Rattle.gen_options.proofs.LastWords.{Stage, between, behind, walk_at, awaited_at, Stands, law-end}
-use Rattle.gen_options.proofs.NextWords.{law-between, law-behind}
+use Rattle.call_generator.specs.GenCommand.{gen_app}
+use Rattle.call_generator.specs.Options.{Given, only, asked_for, asked_of, options_of}
+use Rattle.call_generator.proofs.OptionNames.{Name, of_seed, of_clients, of_txns, id_of, word_of, Fields, no_fields, are_named, all_values, ask}
+use Rattle.call_generator.proofs.OptionRows.{have-none, found, row_at}
+use Rattle.call_generator.proofs.WordTurns.{Fails, at, end-fails, end_rows, pending-fails, total}
+use Rattle.call_generator.proofs.Decided.{Decided, no-options}
+use Rattle.call_generator.proofs.LastWords.{Stage, between, behind, walk_at, awaited_at, Stands, law-end}
+use Rattle.call_generator.proofs.NextWords.{law-between, law-behind}
 
 -- the words from any stage on
 law : (words : List Text) (stage : Stage) (rows : List Row) (f : Fields) → Stands stage rows f → Decided (walk_at stage rows) (awaited_at stage) words f

@@ -1,7 +1,7 @@
 //! What `gen` is asked.
 ghost use Rattle.std.specs.Prelude.{◌≡◌, IfOk, map, string_bytes};
-ghost use Rattle.gen_options.specs.Options.{asked_of};
-ghost use Rattle.gen_options.specs.GenCommand.{asked_in};
+ghost use Rattle.call_generator.specs.Options.{asked_of};
+ghost use Rattle.call_generator.specs.GenCommand.{asked_in};
 
 use crate::parsed::parsed;
 use clap::ArgMatches;

@@ -6,9 +6,9 @@ use Rattle.clap.proofs.WalkLemmas.{first_value-rows}
 use Rattle.clap.specs.declared.error.Error.{Error}
 use Rattle.clap.specs.declared.error.kind.ErrorKind.TheVariants.{OutOfMemory}
 use Rattle.clap.specs.declared.parser.matches.ArgMatches.{ArgMatches}
-use Rattle.gen_options.specs.GenCommand.{asked_in, gen_app}
-use Rattle.gen_options.specs.Options.{asked_of}
-use Rattle.gen_options.proofs.ParseLaw.{for-same, refused-asks, simple, simple_and_free, taken-asks}
+use Rattle.call_generator.specs.GenCommand.{asked_in, gen_app}
+use Rattle.call_generator.specs.Options.{asked_of}
+use Rattle.call_generator.proofs.ParseLaw.{for-same, refused-asks, simple, simple_and_free, taken-asks}
 
 -- the words were taken
 pub taken-read : (a : App) (words : List Text) (m : ArgMatches) → a ≡ gen_app → (is_simple_and_free a ≡ true → fault_of a words ≡ []) → HasMatchesOf a words m → asked_of words ≡ asked_in m
