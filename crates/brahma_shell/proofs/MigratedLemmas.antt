@@ -17,7 +17,7 @@ use Rattle.store_opening.specs.declared.open_refusal.Place.TheVariants as place
 use Rattle.store_opening.specs.Store.{Reads, Refuses}
 use Rattle.store_migration.specs.Migrated.{IsMigrated, narrow, wide, RefusesBoth, at_fourteen, at_six}
 use Rattle.store_migration.proofs.Widths.{one_width, not_wide}
-use Rattle.wide_cells.specs.Wider.{wider, all_wider}
+use Rattle.store_migration.specs.Wider.{wider, all_wider}
 use Rattle.brahma_shell.specs.declared.ended.Ended.{Ended}
 use Rattle.brahma_shell.specs.Ended.{disk_in}
 use Rattle.brahma_shell.specs.Top.{Tell, AlwaysOpens, IsDoneOrFull, Outside, status_of_refusal}

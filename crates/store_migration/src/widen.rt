@@ -14,13 +14,13 @@ ghost use Rattle.store_opening.specs.Looks.{IsLookedAt};
 ghost use Rattle.store_opening.specs.Store.{Reads, Refuses, HasOpenCause};
 ghost use Rattle.store_migration.specs.Migrated.{OpensNarrowOrWide, IsMigrated};
 
+use crate::images::wide_images;
 use cell_page::CELLS_OF_PAGE;
 use disk_model::Disk;
 use opened_store::open_store;
 use restart_store::first_body;
 use std::alloc::Global;
 use store_opening::{OpenRefusal, ReplayedLog};
-use wide_images::wide_images;
 
 /// Opens the store of six slots that the disk holds, and makes it one of fourteen, in which each cell has eight null slots more:
 /// its other log area is made anew with a first batch and one with an image of each page, and is then named. Answers how many

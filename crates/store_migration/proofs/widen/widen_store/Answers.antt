@@ -1,8 +1,8 @@
 use Rattle.std.proofs.Common.{◌≡◌, ℕ, ◌/◌, ◌*◌, ◌+◌, List, length, inl, inr, ⊎_elim, refl, sym, ap, subst, ◌∙◌, arith}
 use Rattle.cell_model.specs.Cells.{Cell}
 use Rattle.opened_images.specs.LogRecords.{body_of, first_records}
-use Rattle.wide_cells.specs.Wider.{all_wider}
-use Rattle.imaged_logs.specs.Images.{AreImagesOf}
+use Rattle.store_migration.specs.ImagedLogs.{AreImagesOf}
+use Rattle.store_migration.specs.Wider.{all_wider}
 use Rattle.store_migration.specs.Migrated.{narrow}
 use Rattle.store_migration.proofs.Turns.{IsMade, turned_opens, opened_and_turned}
 use Rattle.store_migration.proofs.widen.widen_store.Goals as goal
