@@ -10,7 +10,7 @@ use Rattle.log_record.specs.declared.record.Record.TheVariants.{OfCells, Image, 
 use Rattle.log_record.specs.Spelling.{cell_record_bytes, record_bytes}
 use Rattle.opened_images.specs.LogRecords.{body_of, all_of}
 use Rattle.ship_stream.specs.Reading.{shipped_bytes}
-use Rattle.commit_fold.specs.Commits.{is_commit, commit_count}
+use Rattle.log_checker.specs.Commits.{is_commit, commit_count}
 
 commit_bytes : (pass : ℕ) → length (cell_record_bytes (Commit pass)) ≡ 2
 unfolding cell_record_bytes

@@ -13,9 +13,9 @@ use Rattle.ship_stream.specs.declared.part.Part.TheVariants.{Pages, Page, Batch}
 use Rattle.ship_stream.specs.Runs.{RecordRun, AreRecords}
 use Rattle.ship_stream.specs.Reading.{Reading, Nothing, InBase, InLog, shipped_bytes, IsReading, AllFollow, Follows as IsNextBatch, with_page}
 use Rattle.ship_stream.specs.Feeding.{Adds}
-use Rattle.commit_fold.specs.Tallies.{Tallying, Tells}
 use Rattle.standby.specs.Following.{over_base, base_after, after_all, AllFit, Gathering, Has}
 use Rattle.standby.proofs.GatherLaws.{has_number, unboxed, page_awaited, has_page, page_next, batch_awaited, batch_took}
+use Rattle.log_checker.specs.Tallies.{Tallying, Tells}
 use Rattle.log_checker.specs.Checking.{Checked, HasTally, HasBoth}
 use Rattle.log_checker.specs.Taking.{IsBeside, TellsMore}
 use Rattle.log_checker.proofs.CountLaws.{few_commits}

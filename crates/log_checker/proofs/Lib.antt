@@ -1,3 +1,11 @@
+pub mod FoldLaws
+pub mod RowLaws
+pub mod WriteLaws
+pub mod GraphParts
+pub mod TallyLaws
+pub mod ListLaws
+pub mod TestLaws
+pub mod DifferenceLaws
 pub mod CountLaws
 pub mod RecordLaws
 pub mod GatherLaws

@@ -7,8 +7,8 @@ use Rattle.log_record.specs.declared.record.Record.{Record}
 use Rattle.log_record.specs.declared.record.Record.TheVariants.{OfCells, Image, Turn}
 use Rattle.log_replay.specs.Replays.{Replaying, FitsReplay, IsWithin, after_taking}
 use Rattle.ship_stream.specs.Runs.{RecordRun, AreRecords}
-use Rattle.commit_fold.specs.Tallies.{Tallying, Tells, IsWithinCells}
 use Rattle.standby.specs.Taking.{HasNone}
+use Rattle.log_checker.specs.Tallies.{Tallying, Tells, IsWithinCells}
 use Rattle.log_checker.specs.Taking.{IsBeside, TellsMore, TakesBoth}
 
 -- Of these records the tally told of the first ones, and those are left.

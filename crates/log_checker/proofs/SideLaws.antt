@@ -14,20 +14,20 @@ use Rattle.opened_images.specs.LogRecords.{all_of}
 use Rattle.ship_stream.specs.Reading.{Reading, Nothing, InBase, InLog, HasAllPages}
 use Rattle.ship_stream.specs.Feeding.{Feeding, HasTaken}
 use Rattle.ship_stream.specs.Laws.{IsRead}
-use Rattle.graph_difference.specs.Differences.{IsDifference}
-use Rattle.commit_fold.specs.Commits.{commit_count}
-use Rattle.commit_fold.specs.Tallies.{Tallying, Tells}
 use Rattle.standby.specs.Following.{base_after}
 use Rattle.standby.specs.Promoted.{LeadsTo, LacksBase, BreaksAt, IsUnsoundAt}
+use Rattle.ship_stream.specs.declared.refusal.FeedRefusal.{FeedRefusal}
+use Rattle.std.specs.Prelude.{Result, Err, IsErrOf}
+use Rattle.standby.proofs.Results.{error_is, is_error}
+use Rattle.log_checker.specs.Commits.{commit_count}
+use Rattle.log_checker.specs.Tallies.{Tallying, Tells}
+use Rattle.log_checker.specs.Differences.{IsDifference}
 use Rattle.log_checker.specs.declared.verdict.Verdict.{Verdict}
 use Rattle.log_checker.specs.declared.refusal.CheckRefusal.{CheckRefusal}
 use Rattle.log_checker.specs.declared.refusal.CheckRefusal.TheVariants.{NoBase}
 use Rattle.log_checker.specs.Checking.{Checked}
 use Rattle.log_checker.specs.Feeds.{HasRead, IsFedWith, FollowsAs}
 use Rattle.log_checker.specs.Verdicts.{stream_fold, IsVerdict, LeadsToBoth, IsRestoredGraph}
-use Rattle.ship_stream.specs.declared.refusal.FeedRefusal.{FeedRefusal}
-use Rattle.std.specs.Prelude.{Result, Err, IsErrOf}
-use Rattle.standby.proofs.Results.{error_is, is_error}
 
 -- a checker that wasn't refused was fed with them
 pub fed : {slots : ℕ} (bytes : List ℕ) (v : Feeding) (c : Checked slots) (refused : Option FeedRefusal) → refused ≡ None → FollowsAs refused bytes v c → IsFedWith bytes v c

@@ -5,8 +5,8 @@ use Rattle.opened_images.specs.LogRecords.{all_of}
 use Rattle.ship_stream.specs.declared.refusal.FeedRefusal.{FeedRefusal}
 use Rattle.ship_stream.specs.Reading.{Reading, InLog}
 use Rattle.ship_stream.specs.Feeding.{Feeding, HasTaken}
-use Rattle.commit_fold.specs.Tallies.{Tallying, Tells}
 use Rattle.standby.specs.Following.{Gathering, Has}
+use Rattle.log_checker.specs.Tallies.{Tallying, Tells}
 
 -- what is made of the parts of the stream that came whole
 pub record Checked (slots : ℕ) : Type 0 where

@@ -7,8 +7,8 @@ use Rattle.ship_stream.specs.declared.part.Part.{Part}
 use Rattle.ship_stream.specs.Reading.{Reading, IsReading}
 use Rattle.ship_stream.specs.Feeding.{Adds}
 use Rattle.ship_stream.specs.Runs.{RecordRun, AreRecords}
-use Rattle.commit_fold.specs.Tallies.{Tallying, Tells}
 use Rattle.standby.specs.Taking.{TakesNext}
+use Rattle.log_checker.specs.Tallies.{Tallying, Tells}
 use Rattle.log_checker.specs.Checking.{Checked, HasBoth}
 
 -- this part may come next

@@ -8,10 +8,10 @@ use Rattle.log_record.specs.declared.record.Record.{Record}
 use Rattle.log_replay.specs.Inside.{cells_of_pages}
 use Rattle.log_replay.specs.Replays.{Replaying}
 use Rattle.opened_images.specs.LogRecords.{all_of}
-use Rattle.graph_difference.specs.Differences.{IsDifference}
-use Rattle.commit_fold.specs.Commits.{folded, commit_count}
-use Rattle.commit_fold.specs.Tallies.{Tallying, Tells}
 use Rattle.standby.specs.Promoted.{LeadsTo, Restores}
+use Rattle.log_checker.specs.Commits.{folded, commit_count}
+use Rattle.log_checker.specs.Tallies.{Tallying, Tells}
+use Rattle.log_checker.specs.Differences.{IsDifference}
 use Rattle.log_checker.specs.declared.verdict.Verdict.{Verdict}
 use Rattle.log_checker.specs.declared.refusal.CheckRefusal.{CheckRefusal}
 use Rattle.log_checker.specs.declared.refusal.CheckRefusal.TheVariants.{NoBase, Unsound, Memory}

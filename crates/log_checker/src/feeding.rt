@@ -8,7 +8,7 @@ ghost use Rattle.standby.specs.Following.{AllFit, after_all, StopsFitting};
 ghost use Rattle.standby.specs.Taking.{StopsNext, HasNone};
 ghost use Rattle.log_checker.specs.Taking.{IsBeside, TellsMore, TakesBoth};
 
-use commit_fold::Tally;
+use crate::tally::Tally;
 use log_replay::{Replay, TakeRefusal};
 use ship_stream::{FeedRefusal, Records};
 

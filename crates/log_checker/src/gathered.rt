@@ -8,15 +8,15 @@ ghost use Rattle.ship_stream.specs.declared.refusal.FeedRefusal.TheVariants.{Dam
 ghost use Rattle.ship_stream.specs.Reading.{Reading, Nothing, IsReading, with_page};
 ghost use Rattle.ship_stream.specs.Feeding.{Adds};
 ghost use Rattle.ship_stream.specs.Runs.{AreRecords};
-ghost use Rattle.commit_fold.specs.Tallies.{Tallying, Tells};
 ghost use Rattle.standby.specs.Following.{AllFit, StopsFitting, over_base, after_all, Has};
 ghost use Rattle.standby.specs.Taking.{StopsIn};
+ghost use Rattle.log_checker.specs.Tallies.{Tallying, Tells};
 ghost use Rattle.log_checker.specs.Checking.{HasBoth};
 ghost use Rattle.log_checker.specs.Taking.{Awaits, IsBeside, TellsMore};
 
 use crate::feeding::take_records;
+use crate::tally::Tally;
 use cell_page::Page;
-use commit_fold::Tally;
 use log_replay::Replay;
 use ship_stream::{FeedRefusal, Part, Records};
 use std::alloc::Global;

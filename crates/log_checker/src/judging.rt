@@ -10,11 +10,11 @@ ghost use Rattle.log_checker.specs.Feeds.{Follows};
 ghost use Rattle.log_checker.specs.Verdicts.{IsVerdict, LeadsToBoth, IsOfBase};
 
 use crate::checker::Checker;
+use crate::difference::least_difference;
 use crate::gathered::Sides;
 use crate::refusal::CheckRefusal;
 use crate::settled::settled_graph;
 use crate::verdict::Verdict;
-use graph_difference::least_difference;
 
 impl<const SLOTS: usize> Checker<SLOTS> {
     /// What the whole batches made of the base, and their fold. No `feed` answered that the stream is damaged.

@@ -10,9 +10,9 @@ ghost use Rattle.log_checker.specs.declared.refusal.CheckRefusal.{CheckRefusal a
 ghost use Rattle.log_checker.specs.declared.refusal.CheckRefusal.TheVariants.{Unsound};
 ghost use Rattle.log_checker.specs.Verdicts.{IsRestoredGraph, IsOfCells};
 
+use crate::folded_objects::graph_of_replay;
 use crate::refusal::CheckRefusal;
 use cell_page::Page;
-use commit_fold::graph_of_replay;
 use log_replay::Replay;
 use plain_model::{Graph, Memory};
 use standby::{PromoteRefusal, settle};

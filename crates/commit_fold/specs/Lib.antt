@@ -1,3 +1,0 @@
-pub mod Commits
-pub mod Objects
-pub mod Tallies
