@@ -18,7 +18,7 @@ use Rattle.gate_log.specs.State.{other_log}
 use Rattle.logged_journal.specs.View.{LoggedView, OnlyTakesRoom}
 use Rattle.logged_journal.specs.Upkeep.{FailsUpkeep, IsTurned, IsPastLogToTurn}
 use Rattle.script_lines.specs.Numbers.{object_slots}
-use Rattle.store_backup.specs.Backups.{HasTurned}
+use Rattle.stream_writing.specs.Backups.{HasTurned}
 use Rattle.brahma_shell.specs.BackedUp.{LeavesStore, IsAtCheckpoint}
 
 -- in a store that was just opened no transaction is active

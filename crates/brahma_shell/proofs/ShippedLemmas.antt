@@ -15,7 +15,7 @@ use Rattle.store_opening.specs.declared.open_refusal.Place.TheVariants as place
 use Rattle.store_opening.specs.Looks.{IsLookedAt}
 use Rattle.store_opening.specs.Store.{Reads, Refuses, IsOfStore}
 use Rattle.current_log.specs.Current.{RefusesLog, IsOfLog}
-use Rattle.log_shipping.specs.Shipped.{AreLogBytes, IsLogFront}
+use Rattle.stream_writing.specs.Shipped.{AreLogBytes, IsLogFront}
 use Rattle.script_lines.specs.Output.{AppendsFront, EndsWith, open_refusal_line}
 use Rattle.script_lines.proofs.OutputLemmas.{Appends-trans}
 use Rattle.script_lines.specs.Numbers.{object_slots}

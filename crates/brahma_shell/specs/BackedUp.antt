@@ -13,7 +13,7 @@ use Rattle.logged_journal.specs.Upkeep.{IsTurned, FailsUpkeep, IsPastLogToTurn}
 use Rattle.journal_opening.specs.Openings.{ReadsAs}
 use Rattle.script_lines.specs.Numbers.{object_slots}
 use Rattle.script_lines.specs.Output.{AppendsFront}
-use Rattle.store_backup.specs.Backups.{IsBaseOf, HasTurned}
+use Rattle.stream_writing.specs.Backups.{IsBaseOf, HasTurned}
 use Rattle.brahma_shell.specs.declared.ended.Ended.{Ended}
 use Rattle.brahma_shell.specs.declared.ended.Ended.TheVariants.{Kept}
 use Rattle.brahma_shell.specs.Ended.{disk_in}

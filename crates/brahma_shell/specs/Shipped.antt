@@ -10,7 +10,7 @@ use Rattle.store_opening.specs.Store.{Reads, IsOfStore}
 use Rattle.script_lines.specs.Numbers.{object_slots}
 use Rattle.script_lines.specs.Output.{AppendsFront, open_refusal_line}
 use Rattle.current_log.specs.Current.{RefusesLog}
-use Rattle.log_shipping.specs.Shipped.{AreLogBytes, IsLogFront}
+use Rattle.stream_writing.specs.Shipped.{AreLogBytes, IsLogFront}
 use Rattle.brahma_shell.specs.declared.ended.Ended.{Ended}
 use Rattle.brahma_shell.specs.Ended.{shut_in, disk_in}
 use Rattle.brahma_shell.specs.Top.{Outside, Ends}

@@ -10,7 +10,7 @@ ghost use Rattle.logged_journal.specs.View.{history_of};
 ghost use Rattle.logged_journal.specs.Opens.{OpensAfter};
 ghost use Rattle.script_lines.specs.Numbers.{object_slots};
 ghost use Rattle.script_lines.specs.Output.{AppendsFront, EndsWith};
-ghost use Rattle.store_backup.specs.Backups.{IsBaseOf};
+ghost use Rattle.stream_writing.specs.Backups.{IsBaseOf};
 ghost use Rattle.brahma_shell.specs.Ended.{disk_in};
 ghost use Rattle.brahma_shell.specs.Top.{Unopened, outside};
 ghost use Rattle.brahma_shell.specs.BackedUp.{BackedUp, LeavesStore};
@@ -23,7 +23,7 @@ use disk_model::Disk;
 use outside_io::Sink;
 use script_lines::write_last;
 use std::alloc::Global;
-use store_backup::BackupRefusal;
+use stream_writing::BackupRefusal;
 
 /// Makes a backup of the store that was opened, and answers the status.
 fn tell_backup<W: Sink, D: Disk>(store: &mut OpenedStore<D>, out: &mut W) -> u8

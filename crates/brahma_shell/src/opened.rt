@@ -25,8 +25,8 @@ ghost use Rattle.brahma_shell.specs.Points.{entries_in};
 ghost use Rattle.brahma_shell.specs.Log.{WasLogFull};
 ghost use Rattle.script_lines.specs.Numbers.{object_slots};
 ghost use Rattle.script_lines.specs.Output.{AppendsFront};
-ghost use Rattle.store_backup.specs.declared.refusal.BackupRefusal.TheVariants.{Disk, LogFull, Memory as Starved, Write};
-ghost use Rattle.store_backup.specs.Backups.{IsBaseOf, HasTurned, HasSinkCause};
+ghost use Rattle.stream_writing.specs.declared.backup_refusal.BackupRefusal.TheVariants.{Disk, LogFull, Memory as Starved, Write};
+ghost use Rattle.stream_writing.specs.Backups.{IsBaseOf, HasTurned, HasSinkCause};
 
 use auditor::{Report, audit_journal};
 use cell_page::CELLS_OF_PAGE;
@@ -42,8 +42,8 @@ use script_lines::SLOTS;
 use std::alloc::Global;
 use std::marker::Model;
 use std::thread::Threads;
-use store_backup::{BackupRefusal, back_up};
 use store_opening::OpenRefusal;
+use stream_writing::{BackupRefusal, back_up};
 
 /// A store that was opened: a journal with its log and all its frames, on one thread.
 #[derive(Drop)]

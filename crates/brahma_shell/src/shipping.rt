@@ -8,10 +8,10 @@ use crate::ended::Ended;
 use crate::refusing::refuse;
 use crate::status::{DONE, WRITE_FAULT};
 use disk_model::Disk;
-use log_shipping::{ShipRefusal, ship};
 use outside_io::Sink;
 use script_lines::SLOTS;
 use std::alloc::Global;
+use stream_writing::{ShipRefusal, ship};
 
 /// Writes the bytes of the current log, up to and with its first closed commit byte, and answers the status. The store isn't
 /// opened, and nothing is written to the disk.

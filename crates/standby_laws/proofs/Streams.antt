@@ -18,12 +18,12 @@ use Rattle.opened_images.proofs.Bodies.{turn_spelled}
 use Rattle.opened_images.proofs.ImagesInLog.{all_both, no_image_of_both}
 use Rattle.restart_laws.specs.Restored.{restored}
 use Rattle.logged_journal.specs.Opens.{OpensAfter}
-use Rattle.log_shipping.specs.Shipped.{AreLogBytes}
+use Rattle.stream_writing.specs.Shipped.{AreLogBytes}
 use Rattle.ship_stream.specs.Reading.{InLog, IsReading, base_bytes, shipped_bytes}
 use Rattle.ship_stream.specs.Laws.{IsRead}
 use Rattle.standby.specs.Following.{over_base, after_all, base_after}
 use Rattle.standby.specs.Promoted.{Restores}
-use Rattle.store_backup.specs.Backups.{IsBaseOf}
+use Rattle.stream_writing.specs.Backups.{IsBaseOf}
 use Rattle.standby_laws.specs.Fronts.{HasGoneOn, IsOfFront, BeginLaw, LaterLaw, FrontLaw}
 use Rattle.standby_laws.proofs.Bases.{same_base}
 use Rattle.standby_laws.proofs.Batches.{each_spelled, front_batches}

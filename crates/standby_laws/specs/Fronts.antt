@@ -17,9 +17,9 @@ use Rattle.opened_images.specs.Marks.{StandsInPlace}
 use Rattle.opened_images.specs.WithImages.{AreSamePages}
 use Rattle.logged_journal.specs.Opens.{OpensAfter}
 use Rattle.logged_journal.specs.Upkeep.{IsTurned}
-use Rattle.log_shipping.specs.Shipped.{AreLogBytes}
+use Rattle.stream_writing.specs.Shipped.{AreLogBytes}
 use Rattle.standby.specs.Promoted.{PromotesTo}
-use Rattle.store_backup.specs.Backups.{IsBaseOf}
+use Rattle.stream_writing.specs.Backups.{IsBaseOf}
 
 -- ---- the store
 

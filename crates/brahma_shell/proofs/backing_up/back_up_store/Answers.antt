@@ -9,7 +9,7 @@ use Rattle.core_store.specs.Opening.{opened_history}
 use Rattle.logged_journal.specs.Opens.{OpensAfter}
 use Rattle.logged_journal.specs.Upkeep.{IsPastLogToTurn}
 use Rattle.script_lines.specs.Numbers.{object_slots}
-use Rattle.store_backup.specs.Backups.{IsBaseOf}
+use Rattle.stream_writing.specs.Backups.{IsBaseOf}
 use Rattle.brahma_shell.specs.BackedUp.{IsAtCheckpoint}
 use Rattle.brahma_shell.proofs.AuditLemmas.{opening-cells}
 use Rattle.brahma_shell.proofs.LogLemmas.{history-running}

@@ -1,6 +1,6 @@
 use Rattle.std.proofs.Common.{◌≡◌, [], ⊎_elim, sym, subst, ◌∙◌}
 use Rattle.std.specs.Prelude.{codes}
-use Rattle.store_backup.specs.declared.refusal.BackupRefusal.TheVariants.{Disk, LogFull, Write}
+use Rattle.stream_writing.specs.declared.backup_refusal.BackupRefusal.TheVariants.{Disk, LogFull, Write}
 use Rattle.script_lines.specs.Output.{EndsWith}
 use Rattle.brahma_shell.proofs.backing_up.tell_backup.Goals as goal
 

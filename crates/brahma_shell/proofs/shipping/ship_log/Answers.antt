@@ -1,7 +1,7 @@
 use Rattle.std.proofs.Common.{ℕ, [], Err, ⊎_elim, refl, sym, ap, subst, ◌∙◌}
 use Rattle.store_opening.specs.declared.open_refusal.OpenRefusal.{OpenRefusal}
 use Rattle.store_opening.specs.declared.open_refusal.OpenRefusal.TheVariants as refusal
-use Rattle.log_shipping.specs.declared.refusal.ShipRefusal.TheVariants.{Unread}
+use Rattle.stream_writing.specs.declared.ship_refusal.ShipRefusal.TheVariants.{Unread}
 use Rattle.script_lines.specs.Output.{EndsWith, open_refusal_line}
 use Rattle.brahma_shell.specs.declared.ended.Ended.TheVariants.{Shut}
 use Rattle.brahma_shell.specs.Top.{outside}

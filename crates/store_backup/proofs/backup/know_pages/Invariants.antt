@@ -1,5 +1,0 @@
-use Rattle.store_backup.proofs.BackupLaws.{AreTypedBelow}
-use Rattle.store_backup.proofs.backup.know_pages.Given as goal
-
-abbrev pub invariant-loop-number : goal.invariant-loop-number
-invariant-loop-number g l = AreTypedBelow l.frames l.number

@@ -1,0 +1,4 @@
+pub mod CopyLaws
+pub mod ShipLaws
+pub mod BaseLaws
+pub mod BackupLaws

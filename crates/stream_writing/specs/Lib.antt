@@ -1,0 +1,4 @@
+pub mod Copied
+pub mod Shipped
+pub mod Base
+pub mod Backups
