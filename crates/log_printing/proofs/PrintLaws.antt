@@ -9,9 +9,9 @@ use Rattle.log_record.specs.declared.record.Record.{Record}
 use Rattle.opened_images.specs.LogRecords.{log_bytes, IsRecordLog}
 use Rattle.script_lines.specs.Output.{AppendsFront}
 use Rattle.current_log.specs.Current.{HasCurrentLog}
-use Rattle.log_view.specs.Text.{text_of}
-use Rattle.log_view.specs.Lines.{GivesText}
-use Rattle.log_view.proofs.LineLaws.{first_place as gives_first}
+use Rattle.log_printing.specs.Text.{text_of}
+use Rattle.log_printing.specs.Lines.{GivesText}
+use Rattle.log_printing.proofs.LineLaws.{first_place as gives_first}
 use Rattle.log_printing.specs.Walks.{first_place, PrintsFront, PrintsAll, IsNoPlace}
 use Rattle.log_printing.specs.Printed.{IsLogText, IsTextFront}
 

@@ -14,9 +14,9 @@ use Rattle.log_record.proofs.ReadLaws.{some_bytes}
 use Rattle.gate_log.specs.Batches.{batch_bytes, batches_bytes}
 use Rattle.gate_log.proofs.Logs.{length-sized}
 use Rattle.opened_images.specs.LogRecords.{body_of, bodies_of}
-use Rattle.log_view.specs.Text.{lines_of, line_at}
-use Rattle.log_view.specs.Lines.{Place}
-use Rattle.log_view.proofs.LineLaws.{left_within, ends_there, batch_left, entered, head, line_next}
+use Rattle.log_printing.specs.Text.{lines_of, line_at}
+use Rattle.log_printing.specs.Lines.{Place}
+use Rattle.log_printing.proofs.LineLaws.{left_within, ends_there, batch_left, entered, head, line_next}
 use Rattle.log_printing.specs.Walks.{PrintsTo, PrintsFront, PrintsAll, IsNoPlace}
 
 -- ---- how long a record is

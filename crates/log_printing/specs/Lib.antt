@@ -1,3 +1,9 @@
+pub mod Text
+pub mod Lines
+pub mod Damage
+pub mod Fitting
+pub mod Testing
+pub mod Laws
 pub mod Window
 pub mod Walks
 pub mod Printed

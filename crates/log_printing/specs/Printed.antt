@@ -9,7 +9,7 @@ use Rattle.opened_images.specs.Opened.{IsLogRead}
 use Rattle.store_opening.specs.Store.{Reads}
 use Rattle.store_opening.specs.declared.open_refusal.OpenRefusal.{OpenRefusal}
 use Rattle.store_opening.specs.declared.open_refusal.OpenRefusal.TheVariants.{Disk, Memory}
-use Rattle.log_view.specs.Text.{text_of}
+use Rattle.log_printing.specs.Text.{text_of}
 use Rattle.log_printing.specs.declared.refusal.PrintRefusal.{PrintRefusal}
 use Rattle.log_printing.specs.declared.refusal.PrintRefusal.TheVariants.{Unread, Write}
 

@@ -1,7 +1,7 @@
 -- From one place of a log to another one.
 use Rattle.std.specs.Prelude.{◌≡◌, ℕ, ◌≤◌, List, ◌++◌, Result, IsErrOf}
 use Rattle.disk_model.specs.Causes.{Rose}
-use Rattle.log_view.specs.Lines.{Place, GivesText}
+use Rattle.log_printing.specs.Lines.{Place, GivesText}
 use Rattle.log_printing.specs.declared.walking.Span.{Span}
 use Rattle.log_printing.specs.declared.walking.WalkFault.{WalkFault}
 use Rattle.log_printing.specs.declared.walking.WalkFault.TheVariants.{Disk, Write}

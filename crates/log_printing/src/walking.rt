@@ -8,11 +8,11 @@ ghost use Rattle.log_printing.specs.declared.walking.WalkFault.TheVariants.{Disk
 ghost use Rattle.log_printing.specs.Window.{IsWindow};
 ghost use Rattle.log_printing.specs.Walks.{first_place, place_of, PrintsTo, PrintsFront, PrintsAll, IsNoPlace, HasWalkCause};
 
+use crate::record_lines::record_line;
 use crate::window::{Window, byte_at, find, size_at};
 use current_log::FoundLog;
 use disk_model::Disk;
 use log_record::Record;
-use log_view::record_line;
 use outside_io::Sink;
 use script_lines::write_all;
 

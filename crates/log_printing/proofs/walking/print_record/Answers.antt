@@ -1,7 +1,7 @@
 use Rattle.std.proofs.Common.{◌≡◌, ℕ, ◌+◌, ◌-◌, ◌≤◌, List, take, drop, length-take, sym, ap, subst, ◌∙◌, arith, rules}
 use Rattle.log_record.specs.Spelling.{BeginsWith}
 use Rattle.store_opening.proofs.WalkLaws.{some_more}
-use Rattle.log_view.specs.Lines.{Place}
+use Rattle.log_printing.specs.Lines.{Place}
 use Rattle.log_printing.specs.Walks.{PrintsTo, PrintsFront, IsNoPlace}
 use Rattle.log_printing.proofs.WalkLaws.{prints_line, prints_front, no_record_there, first_within}
 use Rattle.log_printing.proofs.walking.print_record.Goals as goal

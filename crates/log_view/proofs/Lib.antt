@@ -1,5 +1,0 @@
-mod AreaLaws
-mod TestLaws
-pub mod LineLaws
-mod PrintLaws
-mod ViewLaws

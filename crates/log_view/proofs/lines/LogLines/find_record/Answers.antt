@@ -1,4 +1,0 @@
-use Rattle.std.proofs.Common.{◌≡◌, ℕ, ◌<◌, ◌≤◌, List, length, refl, sym, ap, subst, ◌∙◌, arith, rules}
-use Rattle.log_view.specs.Lines.{Place, AreLeft}
-use Rattle.log_view.proofs.LineLaws.{place_within}
-use Rattle.log_view.proofs.lines.LogLines.find_record.Goals as goal
