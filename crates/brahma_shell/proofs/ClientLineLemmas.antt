@@ -3,12 +3,12 @@ use Rattle.std.proofs.Common.{◌≡◌, ℕ, ◌+◌, List, [], ◌∷◌, ◌+
 use Rattle.std.proofs.lemmas.List.{append-nil, take_at}
 use Rattle.std.specs.Io.KnownBytes.{prepend_known, Keeps}
 use Rattle.client_pass.specs.declared.script.ClientScript.{ClientScript}
-use Rattle.client_scripts.specs.Scripts.{AreOfLines}
 use Rattle.script_lines.specs.declared.grammar.Line.{Line}
 use Rattle.script_lines.specs.Lines.{lines_of, line_feeds, whole_lines_of}
 use Rattle.script_lines.specs.Grammar.{meaning_of}
 use Rattle.script_lines.specs.Reading.{IsWholeLine, TakesLine, TakesLastLine, BeginsWithLongLine, IsDone}
 use Rattle.script_lines.proofs.LineLemmas.{line_feeds-append}
+use Rattle.brahma_shell.specs.ClientScripts.{AreOfLines}
 use Rattle.brahma_shell.specs.declared.replay.Stop.{Stop}
 use Rattle.brahma_shell.specs.declared.replay.Stop.TheVariants as stop
 use Rattle.brahma_shell.specs.ClientLines.{MayComeNext, AreOfClientsFrom, AreOfClients, ReadsAll, ReadsSome, Refuses, HasOnlyClients, HasTakenLines, TakesLines, StopsTaking, StopsReading}

@@ -24,11 +24,11 @@ use Rattle.client_pass.specs.Workings.{calls_of}
 use Rattle.client_pass.specs.Runs.{IsNobody, IsNoteOfCollector, DoesScript, RunsScripts}
 use Rattle.client_pass.proofs.EndLemmas.{attempts-no_transaction, nobody-no_transaction}
 use Rattle.client_pass.proofs.KeptLemmas.{calls-of_log, nobody-calls, log-holds}
-use Rattle.client_scripts.specs.Scripts.{AreScripts, AreOfLines}
 use Rattle.script_lines.specs.declared.grammar.Line.{Line}
+use Rattle.script_lines.specs.Numbers.{object_slots}
+use Rattle.brahma_shell.specs.ClientScripts.{AreScripts, AreOfLines}
 use Rattle.brahma_shell.specs.Ran.{BeginAttempts, ClientsDo}
 use Rattle.brahma_shell.specs.Running.{OnlyPeeks}
-use Rattle.script_lines.specs.Numbers.{object_slots}
 
 -- ---- nobody is active
 

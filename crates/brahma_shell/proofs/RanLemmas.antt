@@ -27,7 +27,8 @@ use Rattle.shared_store.specs.Passes.{Known}
 use Rattle.script_lines.specs.declared.grammar.Line.{Line}
 use Rattle.script_lines.specs.Output.{AppendsFront}
 use Rattle.client_pass.specs.declared.script.ClientScript.{ClientScript}
-use Rattle.client_scripts.specs.Scripts.{AreScripts, AreOfLines}
+use Rattle.script_lines.specs.Numbers.{object_slots}
+use Rattle.brahma_shell.specs.ClientScripts.{AreScripts, AreOfLines}
 use Rattle.brahma_shell.specs.declared.replay.Stop.{Stop}
 use Rattle.brahma_shell.specs.declared.replay.Stop.TheVariants as stop
 use Rattle.brahma_shell.specs.ClientLines.{ReadsAll, StopsReading}
@@ -43,7 +44,6 @@ use Rattle.brahma_shell.proofs.ClientsLemmas.{clients-began, clients-did, client
 use Rattle.brahma_shell.proofs.PointLemmas.{moment_of_point}
 use Rattle.brahma_shell.proofs.RestingLemmas.{running-history, rests-behind}
 use Rattle.brahma_shell.proofs.SeenLemmas.{seen-stored}
-use Rattle.script_lines.specs.Numbers.{object_slots}
 
 -- no other status
 other-status : (status n : ℕ) → (status ≡ 0) ⊎ ((status ≡ 5) ⊎ ((status ≡ 6) ⊎ ((status ≡ 8) ⊎ (status ≡ 9)))) → n ≢ 0 → n ≢ 5 → n ≢ 6 → n ≢ 8 → n ≢ 9 → status ≡ n → ⊥

@@ -11,10 +11,10 @@ use Rattle.client_pass.specs.declared.ends.WorkEnd.TheVariants.{Finished}
 use Rattle.client_pass.specs.declared.script.ClientScript.{ClientScript}
 use Rattle.client_pass.specs.Runs.{IsCollected, MayRun, RunsScripts}
 use Rattle.client_pass.proofs.FewScripts.{few-scripts}
-use Rattle.client_scripts.specs.Scripts.{IsScript, AreScripts}
+use Rattle.script_lines.specs.Numbers.{object_slots}
+use Rattle.brahma_shell.specs.ClientScripts.{IsScript, AreScripts}
 use Rattle.brahma_shell.specs.Running.{OnlyPeeks, HasSeenLive, HasRun}
 use Rattle.brahma_shell.proofs.SeenLemmas.{peeks-none}
-use Rattle.script_lines.specs.Numbers.{object_slots}
 
 -- ---- the first pass
 

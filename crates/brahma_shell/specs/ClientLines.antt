@@ -4,8 +4,8 @@ use Rattle.script_lines.specs.declared.grammar.Line.{Line}
 use Rattle.script_lines.specs.Grammar.{meaning_of, IsAccepted}
 use Rattle.script_lines.specs.Lines.{lines_of, line_feeds, whole_lines_of}
 use Rattle.client_pass.specs.declared.script.ClientScript.{ClientScript}
-use Rattle.client_scripts.specs.Lines.{MayCome}
-use Rattle.client_scripts.specs.Scripts.{AreOfLines}
+use Rattle.brahma_shell.specs.LineOrder.{MayCome}
+use Rattle.brahma_shell.specs.ClientScripts.{AreOfLines}
 use Rattle.brahma_shell.specs.declared.replay.Stop.{Stop}
 use Rattle.brahma_shell.specs.declared.replay.Stop.TheVariants as stop
 

@@ -18,13 +18,13 @@ use Rattle.client_pass.specs.Attempts.{Deed, Attempts, Begun, calls_in}
 use Rattle.journal_chronicle.specs.Clients.{speaker_of}
 use Rattle.journal_chronicle.specs.View.{notes_of}
 use Rattle.client_pass.specs.Runs.{IsNobody, IsNoteOfCollector}
-use Rattle.client_scripts.specs.Scripts.{AreScripts, AreOfLines}
+use Rattle.script_lines.specs.Numbers.{object_slots}
+use Rattle.brahma_shell.specs.ClientScripts.{AreScripts, AreOfLines}
 use Rattle.brahma_shell.specs.ClientLines.{ReadsAll, ReadsSome, Refuses, HasOnlyClients}
 use Rattle.brahma_shell.specs.Log.{WasLogFull}
 use Rattle.brahma_shell.specs.Points.{point_of, MayRest, IsExactAt}
 use Rattle.brahma_shell.specs.Telling.{history_text, ending_text, IsUnmarked}
 use Rattle.brahma_shell.specs.Top.{IsJustOpened, IsOfReplay, IsDoneOrFull, Outside, Ends}
-use Rattle.script_lines.specs.Numbers.{object_slots}
 
 -- ---- the clients
 

@@ -24,13 +24,13 @@ use Rattle.client_pass.specs.declared.ends.WorkEnd.{WorkEnd}
 use Rattle.client_pass.specs.declared.ends.WorkEnd.TheVariants.{Finished}
 use Rattle.client_pass.specs.declared.script.ClientScript.{ClientScript}
 use Rattle.client_pass.specs.Runs.{IsCollected, RunsScripts}
-use Rattle.client_scripts.specs.Scripts.{AreOfLines}
+use Rattle.script_lines.specs.Numbers.{object_slots}
+use Rattle.brahma_shell.specs.ClientScripts.{AreOfLines}
 use Rattle.brahma_shell.specs.declared.replay.Stop.{Stop}
 use Rattle.brahma_shell.specs.declared.replay.Stop.TheVariants as stop
 use Rattle.brahma_shell.specs.ClientLines.{ReadsAll}
 use Rattle.brahma_shell.specs.Log.{WasLogFull}
 use Rattle.brahma_shell.specs.Points.{entries_in}
-use Rattle.script_lines.specs.Numbers.{object_slots}
 
 -- ---- why a run stopped
 

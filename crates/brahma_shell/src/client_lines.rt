@@ -2,12 +2,13 @@
 ghost use Rattle.std.specs.Prelude.{◌≡◌, ◌≤◌, ◌∷◌, ◌++◌, [], List, OnOk, IfOk, IfErr, IsErrOf};
 ghost use Rattle.disk_model.specs.Causes.{Rose};
 ghost use Rattle.script_lines.specs.declared.grammar.Line.{Line as ScriptLine};
-ghost use Rattle.client_scripts.specs.Scripts.{AreOfLines};
+ghost use Rattle.brahma_shell.specs.ClientScripts.{AreOfLines};
 ghost use Rattle.brahma_shell.specs.ClientLines.{MayComeNext, ReadsAll, StopsTaking, StopsReading};
 
+use crate::client_scripts::ClientScripts;
+use crate::line_refusal::LineRefusal;
 use crate::replay::Stop;
 use crate::script::Script;
-use client_scripts::{ClientScripts, LineRefusal};
 use outside_io::Source;
 use script_lines::{Found, accepted};
 use std::alloc::Global;

@@ -5,13 +5,13 @@ ghost use Rattle.latch_table.specs.Holds.{IsAlone};
 ghost use Rattle.script_lines.specs.declared.grammar.Line.{Line as ScriptLine};
 ghost use Rattle.journal_opening.specs.Openings.{ReadsAs};
 ghost use Rattle.client_pass.specs.Runs.{AreApart, MayRun};
-ghost use Rattle.client_scripts.specs.Scripts.{AreScripts};
+ghost use Rattle.script_lines.specs.Numbers.{object_slots};
+ghost use Rattle.brahma_shell.specs.ClientScripts.{AreScripts};
 ghost use Rattle.brahma_shell.specs.Ended.{disk_in};
 ghost use Rattle.brahma_shell.specs.Telling.{IsUnmarked, Tells, TellsStored, shown};
 ghost use Rattle.brahma_shell.specs.Running.{TellsStop, OnlyPeeks, HasSeen, HasSeenLive, HasRun, HasAsked, HoldsNow};
 ghost use Rattle.brahma_shell.specs.Ran.{Ran};
 ghost use Rattle.brahma_shell.specs.Top.{GoesLater, IsJustOpened, IsStatusOfReplay, Unopened, outside};
-ghost use Rattle.script_lines.specs.Numbers.{object_slots};
 
 use crate::client_lines::read_scripts;
 use crate::ended::Ended;

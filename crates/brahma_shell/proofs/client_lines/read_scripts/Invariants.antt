@@ -1,6 +1,6 @@
 use Rattle.std.proofs.Common.{◌≤◌, ◌-◌, List}
 use Rattle.script_lines.specs.declared.grammar.Line.{Line}
-use Rattle.client_scripts.specs.Scripts.{AreOfLines}
+use Rattle.brahma_shell.specs.ClientScripts.{AreOfLines}
 use Rattle.brahma_shell.specs.ClientLines.{TakesLines}
 use Rattle.brahma_shell.specs.Scripts.{left_in}
 use Rattle.brahma_shell.proofs.client_lines.read_scripts.Given as goal

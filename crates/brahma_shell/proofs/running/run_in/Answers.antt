@@ -1,7 +1,7 @@
 use Rattle.std.proofs.Common.{Err, List, refl, sym, ap, subst}
 use Rattle.client_pass.specs.declared.script.ClientScript.{ClientScript}
-use Rattle.client_scripts.specs.Scripts.{AreOfLines}
 use Rattle.logged_journal.specs.View.{LoggedView}
+use Rattle.brahma_shell.specs.ClientScripts.{AreOfLines}
 use Rattle.brahma_shell.specs.declared.replay.Stop.{Stop}
 use Rattle.brahma_shell.specs.ClientLines.{ReadsAll, StopsReading}
 use Rattle.brahma_shell.specs.Ran.{Ran}
