@@ -1,3 +1,4 @@
+pub mod LengthLaws
 pub mod OpenLaws
 pub mod ForceLaws
 pub mod RoomLaws

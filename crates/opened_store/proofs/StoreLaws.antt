@@ -10,14 +10,14 @@ use Rattle.disk_model.specs.Time.{LeavesOnlyImages}
 use Rattle.disk_model.proofs.Moments.{images_but, and_then}
 use Rattle.cell_page.specs.Format.{IsSlotCount}
 use Rattle.opened_images.proofs.OneOutcome.{one_outcome}
-use Rattle.opened_store.proofs.MomentLaws.{same-cells}
 use Rattle.gate_log.specs.State.{LogState}
 use Rattle.gate_log.specs.OnDisk.{IsOn}
 use Rattle.page_marks.specs.declared.marks.PageMark.{PageMark}
 use Rattle.page_marks.specs.Marks.{IsMarkedBegun}
 use Rattle.opened_images.specs.Opened.{Opened, OpensTo}
-use Rattle.page_lengths.specs.Lengths.{Extends, lengthened}
 use Rattle.store_opening.specs.Store.{Reads}
+use Rattle.opened_store.proofs.MomentLaws.{same-cells}
+use Rattle.opened_store.specs.Lengths.{Extends, lengthened}
 use Rattle.opened_store.proofs.BegunLaws.{told-image, reads-left}
 use Rattle.opened_store.proofs.LongerLaws.{longer, begun-longer}
 use Rattle.opened_store.proofs.OpenLaws.{pages-apart}

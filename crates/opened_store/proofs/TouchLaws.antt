@@ -9,9 +9,9 @@ use Rattle.disk_model.specs.Time.{LeavesOnlyImages}
 use Rattle.disk_model.proofs.Moments.{and_then}
 use Rattle.gate_log.specs.OnDisk.{named_by, IsOn}
 use Rattle.gate_log.specs.State.{LogState}
-use Rattle.page_lengths.specs.Lengths.{Extends}
 use Rattle.store_opening.specs.Looks.{IsLookedAt}
 use Rattle.store_opening.specs.Store.{Reads}
+use Rattle.opened_store.specs.Lengths.{Extends}
 use Rattle.opened_store.specs.Touched.{IsTouched, TouchesOnly}
 use Rattle.opened_store.proofs.BegunLaws.{keeps-then}
 use Rattle.opened_store.proofs.OpenLaws.{pages-apart}

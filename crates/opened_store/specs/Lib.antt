@@ -1,3 +1,4 @@
+pub mod Lengths
 pub mod Steps
 pub mod Longer
 pub mod Unopened

@@ -9,10 +9,10 @@ use Rattle.gate_log.specs.OnDisk.{named_by}
 use Rattle.gate_log.specs.State.{LogState, IsLogArea, batch_length, forced_area}
 use Rattle.log_record.specs.declared.record.Record.{Record}
 use Rattle.opened_images.specs.LogRecords.{log_bytes, unended_behind, IsRecordLog}
-use Rattle.page_lengths.specs.Lengths.{Extends}
 use Rattle.store_opening.specs.Looks.{IsLookedAt}
 use Rattle.store_opening.specs.Room.{undo_size}
 use Rattle.store_opening.specs.Store.{Reads}
+use Rattle.opened_store.specs.Lengths.{Extends}
 
 -- An image at a moment of an opening of this disk, which read so: the super area and the other log area are ones from before. The
 -- pages area is one from before, or what was read there with more bytes after.

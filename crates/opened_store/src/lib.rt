@@ -4,6 +4,7 @@
 
 mod force;
 mod laws;
+mod lengthening;
 mod open;
 mod store;
 mod tested;

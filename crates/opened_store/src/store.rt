@@ -12,20 +12,20 @@ ghost use Rattle.gate_log.specs.declared.stage.Stage.TheVariants.{Standing};
 ghost use Rattle.gate_log.specs.State.{used};
 ghost use Rattle.gate_log.specs.OnDisk.{IsOn};
 ghost use Rattle.opened_images.specs.Opened.{Opened, OpensTo};
-ghost use Rattle.opened_store.specs.Steps.{IsLate};
-ghost use Rattle.opened_store.specs.Touched.{TouchesOnly, Touches, GetsUndo};
-ghost use Rattle.opened_store.specs.Unopened.{OnlyLooksUnlessOpen};
 ghost use Rattle.page_marks.specs.Marks.{IsMarkedBegun};
-ghost use Rattle.page_lengths.specs.Lengths.{lengthened};
 ghost use Rattle.store_opening.specs.Looks.{IsLookedAt};
 ghost use Rattle.store_opening.specs.Room.{LacksRoom};
 ghost use Rattle.store_opening.specs.Store.{Reads, Refuses, IsOfStore, IsFinal, HasOpenCause};
+ghost use Rattle.opened_store.specs.Steps.{IsLate};
+ghost use Rattle.opened_store.specs.Touched.{TouchesOnly, Touches, GetsUndo};
+ghost use Rattle.opened_store.specs.Unopened.{OnlyLooksUnlessOpen};
+ghost use Rattle.opened_store.specs.Lengths.{lengthened};
 
+use crate::lengthening::{LengthRefusal, lengthen};
 use crate::open::open_cells;
 use cell_page::{CELLS_OF_PAGE, Page};
 use disk_model::Disk;
 use log_replay::Replay;
-use page_lengths::{LengthRefusal, lengthen};
 use std::alloc::Global;
 use store_opening::{OpenRefusal, ReplayedLog};
 

@@ -9,7 +9,7 @@ ghost use Rattle.disk_model.specs.Time.{LeavesOnlyImages};
 ghost use Rattle.opened_images.specs.Opened.{Opened, OpensTo};
 ghost use Rattle.opened_store.specs.Steps.{IsLate};
 ghost use Rattle.opened_store.specs.Unopened.{OnlyLooksUnlessOpen};
-ghost use Rattle.page_lengths.specs.Lengths.{lengthened};
+ghost use Rattle.opened_store.specs.Lengths.{lengthened};
 ghost use Rattle.store_opening.specs.Looks.{IsLookedAt};
 ghost use Rattle.store_opening.specs.Store.{Reads, Refuses, HasOpenCause};
 ghost use Rattle.store_migration.specs.Migrated.{OpensNarrowOrWide, IsMigrated};

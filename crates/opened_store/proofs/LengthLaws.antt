@@ -7,7 +7,7 @@ use Rattle.disk_model.specs.declared.area.Area.TheVariants.{Pages}
 use Rattle.disk_model.specs.Areas.{Bytes, in_area}
 use Rattle.disk_model.specs.Changes.{Torn}
 use Rattle.disk_model.specs.Told.{KeepsAll, KeepsOthers, Follows, IsSettled, Leaves, IsImageBut, EachImage}
-use Rattle.page_lengths.specs.Lengths.{Extends}
+use Rattle.opened_store.specs.Lengths.{Extends}
 
 pub prefix : (xs ys : List ℕ) → length xs ≤ length ys → ((i : ℕ) → i < length xs → get_or ys i 0 ≡ get_or xs i 0) → Extends xs ys
 prefix [] ys l h = record { rest = ys; are = refl }

@@ -4,14 +4,14 @@ ghost use Rattle.disk_model.specs.Causes.{HasCause};
 ghost use Rattle.disk_model.specs.Told.{KeepsAll, KeepsOthers, IsSettled, Leaves, IsImageBut};
 ghost use Rattle.disk_model.specs.Time.{LeavesOnlyImages};
 ghost use Rattle.disk_model.specs.declared.area.Area.TheVariants.{Pages};
-ghost use Rattle.page_lengths.specs.Lengths.{Extends, lengthened, HasLengthCause};
+ghost use Rattle.opened_store.specs.Lengths.{Extends, lengthened, HasLengthCause};
 
 use disk_model::{Area, Disk, DiskFailed};
 use std::alloc::Global;
 
 /// Why the area isn't lengthened.
 #[derive(Clone, Copy, Debug, PartialEq, Eq)]
-pub enum LengthRefusal {
+pub(crate) enum LengthRefusal {
     /// The disk failed a call. Its count of faults rose.
     Disk,
     /// Out of memory.
@@ -41,7 +41,11 @@ fn write_behind<D: Disk>(disk: &mut D, len: u64, bytes: &[u8]) -> Result<(), Dis
 ///
 /// At each moment a power loss leaves the bytes from before, and any after them. An area that has so many stays as it is,
 /// and a power loss leaves nothing new.
-pub fn lengthen<D: Disk>(alloc: Global, disk: &mut D, wanted: u64) -> Result<(), LengthRefusal>
+pub(crate) fn lengthen<D: Disk>(
+    alloc: Global,
+    disk: &mut D,
+    wanted: u64,
+) -> Result<(), LengthRefusal>
     requires few { wanted ≤ 2 ^ 24 }
     ensures left { (c : List ℕ) → IsSettled D.content D.may_leave disk.old Pages → D.content disk.old Pages ≡ Some c → Leaves D.may_leave disk.new Pages (Extends c) }
     ensures moments { (c : List ℕ) → IsSettled D.content D.may_leave disk.old Pages → D.content disk.old Pages ≡ Some c

@@ -1,8 +1,8 @@
 -- An area that was lengthened.
 use Rattle.std.specs.Prelude.{◌≡◌, ◌-◌, ◌≤◌, ℕ, List, ◌++◌, length, replicate, Result, Err}
 use Rattle.disk_model.specs.Causes.{Rose}
-use Rattle.page_lengths.specs.declared.behind.LengthRefusal.{LengthRefusal}
-use Rattle.page_lengths.specs.declared.behind.LengthRefusal.TheVariants.{Disk}
+use Rattle.opened_store.specs.declared.lengthening.LengthRefusal.{LengthRefusal}
+use Rattle.opened_store.specs.declared.lengthening.LengthRefusal.TheVariants.{Disk}
 
 -- these bytes, and any after them
 pub record Extends (before now : List ℕ) : Type 0 where

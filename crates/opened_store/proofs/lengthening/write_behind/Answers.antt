@@ -2,9 +2,9 @@ use Rattle.std.proofs.Common.{length}
 use Rattle.disk_model.specs.declared.area.Area.TheVariants.{Pages}
 use Rattle.disk_model.specs.Told.{IsImageBut}
 use Rattle.disk_model.proofs.Moments.{no_call, one_more, keeps_still}
-use Rattle.page_lengths.specs.Lengths.{Extends}
-use Rattle.page_lengths.proofs.LengthLaws.{left-settled, left-written, images-but, left-kept, told-len}
-use Rattle.page_lengths.proofs.behind.write_behind.Goals as goal
+use Rattle.opened_store.specs.Lengths.{Extends}
+use Rattle.opened_store.proofs.LengthLaws.{left-settled, left-written, images-but, left-kept, told-len}
+use Rattle.opened_store.proofs.lengthening.write_behind.Goals as goal
 
 pub returns-in_err-write_at-clause-left : goal.returns-in_err-write_at-clause-left
 returns-in_err-write_at-clause-left g c = λ b settled told. left-written g.D.Disk.content g.D.Disk.may_leave c.args.disk.now c.write_at.new.self b c.args.len (length c.args.bytes.now) settled told (told-len g.D.Disk.content g.D.Disk.may_leave (g.D.Disk.content c.args.disk.now Pages) c.args.len b c.requires.len told) c.write_at.ensures.left
