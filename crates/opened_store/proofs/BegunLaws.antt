@@ -23,7 +23,7 @@ use Rattle.std.proofs.lemmas.Grind.{flat_map-append}
 use Rattle.restart_laws.specs.Restored.{restored}
 use Rattle.restart_laws.specs.Unended.{Unended}
 use Rattle.store_opening.specs.Store.{Reads, AreCellsFound}
-use Rattle.store_undo.specs.Undone.{IsUndoneWithMarks}
+use Rattle.store_opening.specs.Undone.{IsUndoneWithMarks}
 use Rattle.opened_store.proofs.OpenLaws.{bodies-behind, ended-behind, ended-before}
 use Rattle.store_opening.specs.Room.{undo_size}
 use Rattle.opened_store.proofs.RoomLaws.{undo-sized-all}

@@ -20,7 +20,7 @@ use Rattle.store_opening.specs.declared.open_refusal.OpenRefusal.{OpenRefusal}
 use Rattle.store_opening.specs.declared.open_refusal.OpenRefusal.TheVariants.{Disk, Memory, LogFull}
 use Rattle.store_opening.specs.Room.{LacksRoom, undo_size, batch_size}
 use Rattle.store_opening.specs.Store.{Reads, Refuses, IsOfStore, AreCellsFound}
-use Rattle.store_undo.specs.Undone.{IsUndone}
+use Rattle.store_opening.specs.Undone.{IsUndone}
 use Rattle.opened_store.specs.Steps.{IsLate}
 use Rattle.opened_store.specs.Touched.{GetsUndo}
 use Rattle.opened_store.proofs.ForceLaws.{batch-sized}

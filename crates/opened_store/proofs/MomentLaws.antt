@@ -18,7 +18,7 @@ use Rattle.opened_images.specs.Opened.{Outcome, Opened, OpensTo}
 use Rattle.opened_images.proofs.OneOutcome.{one_outcome}
 use Rattle.page_marks.specs.declared.marks.PageMark.{PageMark}
 use Rattle.store_opening.specs.Store.{AreCellsFound}
-use Rattle.store_undo.specs.Undone.{IsUndone}
+use Rattle.store_opening.specs.Undone.{IsUndone}
 use Rattle.opened_store.proofs.OpenLaws.{opens-before, opens-after, opens-itself, pages-apart, same-pages}
 
 -- what holds of each moment, twice

@@ -27,7 +27,7 @@ use Rattle.store_opening.specs.Replayed.{IsReplayed}
 use Rattle.store_opening.specs.Walks.{CanTakeAll, taken_all, count_images}
 use Rattle.store_opening.proofs.ReplayLaws.{Matches, fits_all}
 use Rattle.store_opening.proofs.FoundLaws.{unended_all}
-use Rattle.store_undo.specs.Undone.{Finishes, IsUndone}
+use Rattle.store_opening.specs.Undone.{Finishes, IsUndone}
 use Rattle.opened_store.specs.Steps.{IsStoreOf, HasBatches}
 
 -- ---- the cells of the replay are those of the log

@@ -16,8 +16,8 @@ use Rattle.opened_images.specs.LogRecords.{body_of}
 use Rattle.restart_laws.specs.Unended.{Change, without_change}
 use Rattle.restart_laws.specs.Restored.{undo_of}
 use Rattle.store_opening.specs.Room.{undo_size}
-use Rattle.store_undo.specs.Undone.{Finishes}
-use Rattle.store_undo.proofs.UndoLaws.{EndsFirst, UndoesFirst, first-of, Step, step-of}
+use Rattle.store_opening.specs.Undone.{Finishes}
+use Rattle.store_opening.proofs.UndoLaws.{EndsFirst, UndoesFirst, first-of, Step, step-of}
 use Rattle.restart_laws.specs.Unended.{Unended}
 
 -- the bytes of a record of an undo

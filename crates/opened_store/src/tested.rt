@@ -6,14 +6,12 @@ ghost use Rattle.disk_model.specs.Areas.{Bytes};
 ghost use Rattle.log_replay.specs.Finishes.{AreNoneAwaited};
 ghost use Rattle.opened_store.specs.Steps.{IsStoreOf};
 ghost use Rattle.store_opening.specs.Store.{Refuses, IsNoDisk};
-ghost use Rattle.store_undo.specs.Undone.{IsUndone, IsUndoneWithMarks};
+ghost use Rattle.store_opening.specs.Undone.{IsUndone, IsUndoneWithMarks};
 
 use log_replay::Replay;
 use page_marks::PageMarks;
 use std::alloc::Global;
-use store_opening::OpenRefusal;
-use store_rules::first_broken;
-use store_undo::{UndoRefusal, undo_all};
+use store_opening::{OpenRefusal, UndoRefusal, first_broken, undo_all};
 
 /// Tests the first four store rules on the cells of a replayed log.
 ///

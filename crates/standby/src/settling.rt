@@ -20,8 +20,7 @@ use log_replay::Replay;
 use page_marks::PageMarks;
 use plain_model::Ids;
 use std::alloc::Global;
-use store_rules::first_broken;
-use store_undo::{UndoRefusal, undo_all};
+use store_opening::{UndoRefusal, first_broken, undo_all};
 
 /// The pages of a store in which nothing is open, and the ids of its objects.
 #[derive(Drop)]

@@ -1,3 +1,7 @@
+pub mod UndoLaws
+pub mod RuleLaws
+pub mod CountLaws
+pub mod MarkLaws
 pub mod TakeLaws
 pub mod WalkLaws
 pub mod LookLaws

@@ -1,3 +1,6 @@
+pub mod Undone
+pub mod Kept
+pub mod Marks
 pub mod Refusals
 pub mod Looks
 pub mod Walks

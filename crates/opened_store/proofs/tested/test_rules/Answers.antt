@@ -1,7 +1,7 @@
 use Rattle.std.proofs.Common.{subst}
 use Rattle.std.specs.Prelude.{Option, IfSome}
 use Rattle.restart_laws.specs.Rules.{IsFirstBroken}
-use Rattle.store_rules.specs.declared.first.BrokenRule.{BrokenRule}
+use Rattle.store_opening.specs.declared.rules.BrokenRule.{BrokenRule}
 use Rattle.opened_store.proofs.OpenLaws.{opens-unsound}
 use Rattle.opened_store.proofs.tested.test_rules.Goals as goal
 

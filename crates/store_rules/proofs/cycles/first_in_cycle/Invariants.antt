@@ -1,6 +1,0 @@
-use Rattle.std.proofs.Common.{ℕ, ◌<◌}
-use Rattle.restart_laws.specs.Rules.{BreaksRule}
-use Rattle.store_rules.proofs.cycles.first_in_cycle.Given as goal
-
-abbrev pub invariant-loop-id : goal.invariant-loop-id
-invariant-loop-id g l = (x : ℕ) → x < l.id → BreaksRule l.replay.cells 4 x → ⊥

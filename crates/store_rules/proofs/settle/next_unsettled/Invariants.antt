@@ -1,7 +1,0 @@
-use Rattle.std.proofs.Common.{ℕ, ◌<◌}
-use Rattle.cell_model.specs.Strong.{IsStrongAt}
-use Rattle.store_rules.specs.Marks.{IsMarked}
-use Rattle.store_rules.proofs.settle.next_unsettled.Given as goal
-
-abbrev pub invariant-loop-slot : goal.invariant-loop-slot
-invariant-loop-slot g l = (k to : ℕ) → k < l.slot → IsStrongAt l.replay.cells l.id k to → IsMarked l.settled to
