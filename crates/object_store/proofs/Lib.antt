@@ -6,3 +6,7 @@ pub mod BeginLaws
 pub mod CommitLaws
 pub mod StartLaws
 pub mod GetLaws
+pub mod CollectLaws
+pub mod TurnLaws
+pub mod UpkeepLaws
+pub mod TendLaws

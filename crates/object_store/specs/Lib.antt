@@ -3,3 +3,4 @@ pub mod Calls
 pub mod Handles
 pub mod Ends
 pub mod Steps
+pub mod Upkeep

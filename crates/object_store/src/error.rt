@@ -25,8 +25,8 @@ pub enum StoreError {
     /// The log is full.
     #[error("the log is full")]
     LogFull,
-    /// The disk failed the commit. The next opening finds all of it or nothing.
-    #[error("the disk failed the commit")]
+    /// The disk failed a call. Of a commit the next opening finds all or nothing, and a checkpoint loses nothing.
+    #[error("the disk failed a call")]
     Disk,
     /// The transaction has ended. One that `begin` gave is open until `commit` or `abort` takes it, so this never comes to it.
     #[error("the transaction has ended")]

@@ -19,23 +19,32 @@
 //! reference of an ended transaction is never used. Lifetimes don't tell two stores apart. So each call looks whether the register
 //! of the reference has its object, and answers [`StoreError::NotHeld`] where it hasn't; so it is with a reference that was released.
 //! What a call does it does to the object of this id that its own transaction holds.
+//!
+//! # Upkeep
+//!
+//! Objects that the root doesn't reach any more stay stored until the collector deletes them, and the log grows with each commit. Nothing is done
+//! about either by itself. Between two transactions [`Store::collect`] makes steps of the collector, and [`Store::checkpoint`] lets the log
+//! begin anew; [`Store::tend`] does both where it is time, and is meant to be called after each commit.
 #![tactic(auto)]
 
 mod asking;
 mod calls;
 mod ending;
 mod error;
+mod keeping;
 mod making;
 mod options;
 mod reference;
 mod store;
 mod table;
 mod transaction;
+mod upkeep;
 
 pub use disk_model::{Disk, MemoryDisk};
 pub use error::StoreError;
 pub use making::make;
 pub use options::Options;
+pub use plain_model::Ids;
 pub use reference::Ref;
 pub use restart_store::InitRefusal;
 pub use store::Store;
