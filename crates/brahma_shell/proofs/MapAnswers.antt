@@ -72,19 +72,19 @@ module _ {S D : Type 0} (content : D → Area → Option (List ℕ)) (may_leave 
   open_still tell ids opens m u = by_found m u
       (λ k. open_after ids k.ids (same_ids tell ids k.ids k.cells opens k.opened k.size) (λ image is. (let o = k.exit image is in (o.cells, o.opened, o.size))))
       (λ n. open_after ids n.ids (same_ids tell ids n.ids n.cells opens n.opened n.size) (λ image is. (let o = n.exit image is in (o.cells, o.opened, o.size))))
-      (λ r. open_after ids r.ids (same_ids tell ids r.ids r.cells opens r.opened r.size) (λ image is. (let o = r.exit tell image is in (o.1.cells, o.1.opened, o.1.size))))
+      (λ r. open_after ids r.ids (same_ids tell ids r.ids r.cells opens r.opened r.size) (λ image is. (let o = r.exit tell image is in (o.2.cells, o.2.opened, o.2.size ∙ ap (λ n. n + 1) o.1))))
 
   -- ---- what can be done is done
 
   keeps_open : (ids : ℕ) → AlwaysKeepsMap may_leave ids disk → AlwaysOpens may_leave ids disk
-  keeps_open ids keeps image is = (let o = keeps image is in (o.1.cells, o.1.opened, o.1.size))
+  keeps_open ids keeps image is = (let o = keeps image is in (o.2.cells, o.2.opened, o.2.size ∙ ap (λ n. n + 1) o.1))
 
   not_none : Tell content → (ids : ℕ) → AlwaysKeepsMap may_leave ids disk → NoMap → ⊥
   not_none tell ids keeps k =
       let read = read-image content tell disk in
       let o = keeps read.0 (read-left content may_leave stay disk read.0 read.1) in
-      let same = same-outcome read.0 o.1.cells k.cells o.1.opened (k.opened read.0 read.1) in
-      k.none o.0 (subst (λ (cs : List Cell). IsMap 13 (graph_of cs) o.0) same o.1.map)
+      let same = same-outcome read.0 o.2.cells k.cells o.2.opened (k.opened read.0 read.1) in
+      k.none o.0.pairs (subst (λ (cs : List Cell). IsMap 13 (graph_of cs) o.0.pairs) same o.2.map)
 
   pub asks-map : command_of words ≡ Some Map → IsStatusOfReplay status → (later ≡ script) × Unmapped content may_leave moment left_since disk before after status ended ⊎ Ran
       → Answered content may_leave moment left_since words script later disk before after status ended
@@ -114,7 +114,7 @@ module _ {S D : Type 0} (content : D → Area → Option (List ℕ)) (may_leave 
         (λ u. unopened-either content may_leave moment left_since disk before after status ended u stay counts tell ids opens)
         (λ k. at-either may_leave ids (disk_in ended) (open_after ids k.ids (same_ids tell ids k.ids k.cells opens k.opened k.size) (λ image at. (let o = k.exit image at in (o.cells, o.opened, o.size)))))
         (λ n. at-either may_leave ids (disk_in ended) (open_after ids n.ids (same_ids tell ids n.ids n.cells opens n.opened n.size) (λ image at. (let o = n.exit image at in (o.cells, o.opened, o.size)))))
-        (λ r. at-either may_leave ids (disk_in ended) (open_after ids r.ids (same_ids tell ids r.ids r.cells opens r.opened r.size) (λ image at. (let o = r.exit tell image at in (o.1.cells, o.1.opened, o.1.size)))));
+        (λ r. at-either may_leave ids (disk_in ended) (open_after ids r.ids (same_ids tell ids r.ids r.cells opens r.opened r.size) (λ image at. (let o = r.exit tell image at in (o.2.cells, o.2.opened, o.2.size ∙ ap (λ n. n + 1) o.1)))));
     migrates = λ tell ids opens e. absurd (cc (same-command (command_of words) Migrate Map e asked));
     complete = λ tell command e can reads writes faults.
         let c = subst (CanBeDone may_leave disk before.left) (same-command (command_of words) command Map e asked) can in

@@ -14,11 +14,10 @@ use Rattle.map_calls.specs.Maps.{MapState}
 use Rattle.map_calls.specs.Views.{StoreView, Leaving, LeavesOne, LeavesEither, status_of_failure, status_of_refusal}
 use Rattle.map_script.specs.declared.stop.Stop.{Stop}
 use Rattle.map_script.specs.declared.stop.Stop.TheVariants as stop
-use Rattle.map_script.specs.Machine.{Does, changed}
+use Rattle.map_script.specs.Machine.{Does, LeadsTo}
 use Rattle.map_script.specs.Following.{Follows, ComesTo, StopsAt}
 use Rattle.map_script.specs.Mapped.{Mapped, EndsWell, CutsEnd, EndsStopped, Streams}
 use Rattle.map_script.specs.Stopping.{StopsScript, LeavesAfter, HasCause, IsOfStreams, status_of}
-use Rattle.plain_map.specs.Pairs.{Pairs}
 use Rattle.brahma_shell.specs.MapRan.{HasOnlyMapLines}
 use Rattle.brahma_shell.specs.Top.{IsStatusOfReplay, IsDoneOrFull}
 
@@ -40,26 +39,38 @@ follows_ids told t number (l ∷ lines) m n text f = follows_ids told t (number 
 
 -- a store of so many ids that keeps a map
 abbrev Keeps : Leaving → Bytes → ℕ → Type 0
-Keeps l image ids = (pairs : Pairs) × l.keeps image ids pairs
+Keeps l image ids = (m : MapState) × (m.ids ≡ ids) × l.keeps image m
 
-keeps_one : (l : Leaving) (ids : ℕ) (pairs : Pairs) (image : Bytes) → LeavesOne l ids pairs → l.left image → Keeps l image ids
-keeps_one l ids pairs image h is = (pairs, h image is)
+keeps_one : (l : Leaving) (m : MapState) (image : Bytes) → LeavesOne l m → l.left image → Keeps l image m.ids
+keeps_one l m image h is = (m, refl, h image is)
 
-keeps_either : (l : Leaving) (ids : ℕ) (one other : Pairs) (image : Bytes) → LeavesEither l ids one other → l.left image → Keeps l image ids
-keeps_either l ids one other image h is = ⊎_elim (λ (k : l.keeps image ids one). (one, k)) (λ (k : l.keeps image ids other). (other, k)) (h image is)
+-- a line leads to a map in a store of as many ids
+leads_ids : (asked : Line) (m n : MapState) → LeadsTo asked m n → n.ids ≡ m.ids
+leads_ids line.Nothing m n d = ap (λ (x : MapState). x.ids) d
+leads_ids (line.Put key value) m n d = d.ids
+leads_ids (line.Get key) m n d = ap (λ (x : MapState). x.ids) d
+leads_ids (line.Delete key) m n d = d.ids
+leads_ids line.List m n d = ap (λ (x : MapState). x.ids) d
+leads_ids (line.Crash pick) m n d = ap (λ (x : MapState). x.ids) d
+
+keeps_either : (l : Leaving) (m : MapState) (asked : Line) (image : Bytes) → LeavesEither l m (LeadsTo asked m) → l.left image → Keeps l image m.ids
+keeps_either l m asked image h is = ⊎_elim
+    (λ (k : l.keeps image m). (m, refl, k))
+    (λ (k : (n : MapState) × LeadsTo asked m n × l.keeps image n). (k.0, leads_ids asked m k.0 k.1, k.2))
+    (h image is)
 
 keeps_after : (told : Type 0) → told → (s : Stop) (source : Option (List ℕ)) (done : List (List ℕ)) (reached : MapState) (l : Leaving) → LeavesAfter told s source done reached l → (image : Bytes) → l.left image → Keeps l image reached.ids
-keeps_after told t (stop.Line number) source done reached l h image is = keeps_one l reached.ids reached.pairs image h is
-keeps_after told t stop.Read source done reached l h image is = keeps_one l reached.ids reached.pairs image h is
-keeps_after told t stop.Write source done reached l h image is = keeps_one l reached.ids reached.pairs image h is
+keeps_after told t (stop.Line number) source done reached l h image is = keeps_one l reached image h is
+keeps_after told t stop.Read source done reached l h image is = keeps_one l reached image h is
+keeps_after told t stop.Write source done reached l h image is = keeps_one l reached image h is
 keeps_after told t (stop.Failed failure.Disk) source done reached l h image is = ⊎_elim
-    (λ (k : LeavesOne l reached.ids reached.pairs). keeps_one l reached.ids reached.pairs image k is)
-    (λ (k : (asked : Line) × ComesTo source done asked × LeavesEither l reached.ids reached.pairs (changed asked reached.pairs)). keeps_either l reached.ids reached.pairs (changed k.0 reached.pairs) image k.2 is)
+    (λ (k : LeavesOne l reached). keeps_one l reached image k is)
+    (λ (k : (asked : Line) × ComesTo source done asked × LeavesEither l reached (LeadsTo asked reached)). keeps_either l reached k.0 image k.2 is)
     h
-keeps_after told t (stop.Failed failure.HistoryFull) source done reached l h image is = keeps_one l reached.ids reached.pairs image h is
-keeps_after told t (stop.Failed failure.LogFull) source done reached l h image is = keeps_one l reached.ids reached.pairs image h is
-keeps_after told t (stop.Failed failure.Memory) source done reached l h image is = keeps_one l reached.ids reached.pairs image h is
-keeps_after told t (stop.Unopened cause) source done reached l h image is = keeps_one l reached.ids reached.pairs image (h t) is
+keeps_after told t (stop.Failed failure.HistoryFull) source done reached l h image is = keeps_one l reached image h is
+keeps_after told t (stop.Failed failure.LogFull) source done reached l h image is = keeps_one l reached image h is
+keeps_after told t (stop.Failed failure.Memory) source done reached l h image is = keeps_one l reached image h is
+keeps_after told t (stop.Unopened cause) source done reached l h image is = keeps_one l reached image (h t) is
 
 module _ (told : Type 0) (before after : Streams) (first now : StoreView) (l : Leaving) (status : ℕ) (m : Mapped told before after first now l status) where
   abbrev Well : Type 0
@@ -81,8 +92,8 @@ module _ (told : Type 0) (before after : Streams) (first now : StoreView) (l : L
       h.2.stops)
       m
     where
-      well : LeavesOne l now.map.ids now.map.pairs → now.map.ids ≡ first.map.ids → Keeps l image first.map.ids
-      well g e = subst (λ n. Keeps l image n) e (keeps_one l now.map.ids now.map.pairs image g is)
+      well : LeavesOne l now.map → now.map.ids ≡ first.map.ids → Keeps l image first.map.ids
+      well g e = subst (λ n. Keeps l image n) e (keeps_one l now.map image g is)
 
   -- ---- the statuses
 

@@ -24,10 +24,10 @@ use Rattle.map_lines.specs.Grammar.{IsRefused}
 use Rattle.map_lines.specs.Output.{no_map_line}
 use Rattle.map_calls.specs.declared.failure.Failure.{Failure}
 use Rattle.map_calls.specs.declared.failure.Failure.TheVariants as failure
+use Rattle.map_calls.specs.Maps.{MapState}
 use Rattle.map_calls.specs.Views.{StoreView, Leaving, status_of_failure, failure_line}
 use Rattle.map_script.specs.Mapped.{Mapped, streams}
 use Rattle.object_map.specs.Clients.{free_ids}
-use Rattle.plain_map.specs.Pairs.{Pairs}
 use Rattle.stored_map.specs.declared.kept.Released.{Released}
 use Rattle.stored_map.specs.declared.kept.Released.TheVariants as released
 use Rattle.stored_map.specs.Graphs.{KeepsMap, KeepsNone, BreaksFirst, map_of}
@@ -43,7 +43,7 @@ use Rattle.brahma_shell.specs.Top.{Tell, IsOfOpenedStore, IsStatusOfReplay, IsDo
 
 -- whatever a power loss leaves of the disk is a store of so many ids that opens and keeps a map
 abbrev pub AlwaysKeepsMap : {D : Type 0} → (D → Area → List ℕ → Type 0) → ℕ → D → Type 0
-AlwaysKeepsMap may_leave ids disk = EachImage may_leave disk (λ image. (pairs : Pairs) × OpensToMap image ids pairs)
+AlwaysKeepsMap may_leave ids disk = EachImage may_leave disk (λ image. (m : MapState) × (m.ids ≡ ids) × OpensToMap image m)
 
 -- the image opens to a store that keeps no map
 pub record OpensToNoMap (image : Bytes) : Type 0 where

@@ -12,7 +12,7 @@ use Rattle.map_calls.specs.declared.failure.Unopened.{Unopened}
 use Rattle.map_calls.specs.declared.failure.Unopened.TheVariants as unopened
 use Rattle.map_calls.specs.declared.put.Put.{Put}
 use Rattle.map_calls.specs.declared.put.Put.TheVariants.{Stored, NoRoom}
-use Rattle.plain_map.specs.Pairs.{Pairs, value_of}
+use Rattle.plain_map.specs.Pairs.{value_of}
 use Rattle.map_calls.specs.Maps.{MapState, needs, Puts}
 
 -- a store that keeps a map: the map of its commits, how many ids are free now, whether it is open and takes calls, how many calls
@@ -25,36 +25,37 @@ pub record StoreView : Type 0 where
   pub history_full : Bool
   pub log_full : Bool
 
--- what a power loss may leave of a disk: which bytes, and whether such bytes are a store of so many ids that opens and keeps this map
+-- What a power loss may leave of a disk: which bytes, and whether such bytes are a store that opens and keeps this map, with as many ids and
+-- the same objects that the root reaches.
 pub record Leaving : Type 1 where
   pub left : Bytes → Type 0
-  pub keeps : Bytes → ℕ → Pairs → Type 0
+  pub keeps : Bytes → MapState → Type 0
 
 -- whatever a power loss leaves keeps this map
-abbrev pub LeavesOne : Leaving → ℕ → Pairs → Type 0
-LeavesOne l ids pairs = (image : Bytes) → l.left image → l.keeps image ids pairs
+abbrev pub LeavesOne : Leaving → MapState → Type 0
+LeavesOne l m = (image : Bytes) → l.left image → l.keeps image m
 
--- whatever a power loss leaves keeps the one map or the other
-abbrev pub LeavesEither : Leaving → ℕ → Pairs → Pairs → Type 0
-LeavesEither l ids one other = (image : Bytes) → l.left image → l.keeps image ids one ⊎ l.keeps image ids other
+-- whatever a power loss leaves keeps this map, or one that is so
+abbrev pub LeavesEither : Leaving → MapState → (MapState → Type 0) → Type 0
+LeavesEither l m IsAsked = (image : Bytes) → l.left image → l.keeps image m ⊎ ((n : MapState) × IsAsked n × l.keeps image n)
 
 -- the store takes calls and isn't full, and a power loss now leaves its map
 pub record GoesOn (now : StoreView) (leaves : Leaving) : Type 0 where
   pub running : now.running ≡ true
   pub unmarked : (now.history_full ≡ false) × (now.log_full ≡ false)
-  pub left : LeavesOne leaves now.map.ids now.map.pairs
+  pub left : LeavesOne leaves now.map
 
--- a call that failed leaves the map of before; where the disk failed a commit, perhaps the one that was asked for
-abbrev pub LeavesThen : Failure → Leaving → MapState → Pairs → Type 0
-LeavesThen failure.Disk leaves before asked = LeavesEither leaves before.ids before.pairs asked
-LeavesThen _ leaves before asked = LeavesOne leaves before.ids before.pairs
+-- a call that failed leaves the map of before; where the disk failed a commit, perhaps one that the call was to lead to
+abbrev pub LeavesThen : Failure → Leaving → MapState → (MapState → Type 0) → Type 0
+LeavesThen failure.Disk leaves before IsAsked = LeavesEither leaves before IsAsked
+LeavesThen _ leaves before IsAsked = LeavesOne leaves before
 
 -- the call failed, and the store is marked as full exactly where that is the cause
-pub record Fails (cause : Failure) (before now : StoreView) (leaves : Leaving) (asked : Pairs) : Type 0 where
+pub record Fails (cause : Failure) (before now : StoreView) (leaves : Leaving) (IsAsked : MapState → Type 0) : Type 0 where
   pub disk : cause ≡ failure.Disk → Rose before.faults now.faults
   pub history : (cause ≡ failure.HistoryFull) ↔ (now.history_full ≡ true)
   pub log : (cause ≡ failure.LogFull) ↔ (now.log_full ≡ true)
-  pub left : LeavesThen cause leaves before.map asked
+  pub left : LeavesThen cause leaves before.map IsAsked
 
 -- one try to put a pair: it is stored, and this value was there; or fewer ids are free now than it needs, and the map stays
 abbrev pub Tries : ℕ → ℕ → Put → StoreView → StoreView → Type 0
@@ -110,4 +111,4 @@ pub record StaysShut (told : Type 0) (cause : Unopened) (before now : StoreView)
   pub history : (cause ≡ unopened.Unread failure.HistoryFull) ↔ (now.history_full ≡ true)
   pub log : (cause ≡ unopened.Unread failure.LogFull) ↔ (now.log_full ≡ true)
   pub sound : told → status_of_unopened cause ≡ 7 → ⊥
-  pub left : told → LeavesOne leaves before.map.ids before.map.pairs
+  pub left : told → LeavesOne leaves before.map

@@ -49,7 +49,7 @@ pub stops-end-after : (s : Stop) (old mid now : StoreView) (leaves : Leaving) (b
 stops-end-after (stop.Line k) old mid now leaves before written e le h = absurd h
 stops-end-after stop.Read old mid now leaves before written e le h = absurd h
 stops-end-after stop.Write old mid now leaves before written e le h = (h.0 ∙ e, h.1, h.2, subst (λ (m : MapState). AppendsFront before written (keys_line (length m.pairs))) e h.3)
-stops-end-after (stop.Failed cause) old mid now leaves before written e le h = (fails-after cause old mid now leaves (λ pairs. pairs) e le h.0, h.1)
+stops-end-after (stop.Failed cause) old mid now leaves before written e le h = (fails-after cause old mid now leaves (λ m n. n ≡ m) e le h.0, h.1)
 stops-end-after (stop.Unopened cause) old mid now leaves before written e le h = absurd h
 
 module _ (told : Type 0) (start left : Option (List ℕ)) (first old : StoreView) (held : Leaving) (before reached : Option (List ℕ)) (came : CameToEnd told start left first old held before reached) where
@@ -99,8 +99,8 @@ module _ (told : Type 0) (start left : Option (List ℕ)) (first old : StoreView
     there = first-all start left came.done came.all;
     printed = Appends-keeps before reached written came.text came.printed h.1;
     kept = failed-leaves-end told cause start came.done old now leaves h.0;
-    cause = failed-cause told cause first old now leaves old.map.pairs le h.0;
-    marks = failed-marks cause old now leaves old.map.pairs h.0;
+    cause = failed-cause told cause first old now leaves (λ n. n ≡ old.map) le h.0;
+    marks = failed-marks cause old now leaves (λ n. n ≡ old.map) h.0;
     goes = λ o. absurd o;
   })
   stops-end (stop.Unopened cause) now leaves written le h = absurd h

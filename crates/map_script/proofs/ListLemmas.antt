@@ -30,7 +30,7 @@ list-stops told stop.Write old new leaves before written pairs e same g h = (lis
 list-stops told (stop.Failed failure.Disk) old new leaves before written pairs e same g h = absurd h
 list-stops told (stop.Failed failure.HistoryFull) old new leaves before written pairs e same g h = absurd h
 list-stops told (stop.Failed failure.LogFull) old new leaves before written pairs e same g h = absurd h
-list-stops told (stop.Failed failure.Memory) old new leaves before written pairs e same g h = (starved old new leaves old.map.pairs same g, h)
+list-stops told (stop.Failed failure.Memory) old new leaves before written pairs e same g h = (starved old new leaves (λ n. n ≡ old.map) same g, h)
 list-stops told (stop.Unopened cause) old new leaves before written pairs e same g h = absurd h
 
 pub list-stopped : (told : Type 0) (r : Result (Unit {0}) Stop) (old new : StoreView) (leaves : Leaving) (before written : Option (List ℕ)) (pairs : Pairs) → pairs ≡ old.map.pairs → new.map ≡ old.map → GoesOn new leaves → IfErr r (λ s. StopsList s pairs before written) → IfErr r (λ s. StopsAnswer told s line.List old new leaves before written)

@@ -1,5 +1,5 @@
 -- A line goes on, or stops the script.
-use Rattle.std.proofs.Common.{◌≡◌, ⊎_elim, inl, inr, ◌≤◌, ℕ, ◌+◌, List, [], ◌∷◌, ◌++◌, length, length-append, Option, Ok, Err, refl, sym, ap, subst, ◌∙◌, arith}
+use Rattle.std.proofs.Common.{◌≡◌, inl, inr, ◌≤◌, ℕ, ◌+◌, List, [], ◌∷◌, ◌++◌, length, length-append, Option, Ok, Err, refl, sym, ap, subst, ◌∙◌, arith}
 use Rattle.std.specs.Prelude.{Result, OnOk, IfErr, IsErrOf}
 use Rattle.std.specs.Io.KnownBytes.{Keeps, prepend_known}
 use Rattle.script_lines.specs.Lines.{line_feeds}
@@ -14,32 +14,32 @@ use Rattle.map_calls.specs.declared.failure.Unopened.{Unopened}
 use Rattle.map_calls.specs.declared.failure.Unopened.TheVariants as unopened
 use Rattle.map_script.specs.declared.stop.Stop.{Stop}
 use Rattle.map_script.specs.declared.stop.Stop.TheVariants as stop
-use Rattle.plain_map.specs.Pairs.{Pairs}
-use Rattle.map_script.specs.Machine.{changed}
+use Rattle.map_calls.specs.Maps.{MapState}
+use Rattle.map_script.specs.Machine.{LeadsTo}
 use Rattle.map_script.specs.Following.{Asks, LineDoes, ComesTo}
 use Rattle.map_calls.specs.Views.{StoreView, Leaving, LeavesOne, GoesOn, Fails, StaysShut}
 use Rattle.map_script.specs.Stopping.{DoesLine, StopsLine, StandsAfter, CameToEnd, StopsScript, LeavesAfter, HasCause, IsOfHistory, IsOfLog, IsMarkedFor}
-use Rattle.map_script.proofs.StoreLemmas.{rose-from, no-mark}
+use Rattle.map_script.proofs.StoreLemmas.{rose-from, no-mark, keeps-one}
 use Rattle.map_script.proofs.FollowLemmas.{follows-more}
 use Rattle.map_script.proofs.TakenLemmas.{HasLine, taken-first, taken-more, all-last, all-end, read-fault, before-line, before-long, first-taken, first-line}
 
 -- the cause of a call that failed shows from the first call on
-pub failed-cause : (told : Type 0) (cause : Failure) (first old now : StoreView) (leaves : Leaving) (asked : Pairs) → first.faults ≤ old.faults → Fails cause old now leaves asked → HasCause told (stop.Failed cause) first now
+pub failed-cause : (told : Type 0) (cause : Failure) (first old now : StoreView) (leaves : Leaving) (IsAsked : MapState → Type 0) → first.faults ≤ old.faults → Fails cause old now leaves IsAsked → HasCause told (stop.Failed cause) first now
 failed-cause told failure.Disk first old now leaves asked le f = rose-from first.faults old.faults now.faults le (f.disk refl)
 failed-cause told failure.HistoryFull first old now leaves asked le f = tt
 failed-cause told failure.LogFull first old now leaves asked le f = tt
 failed-cause told failure.Memory first old now leaves asked le f = tt
 
 -- what it leaves, where the next line asked it
-failed-leaves : (told : Type 0) (cause : Failure) (source : Option (List ℕ)) (done : List (List ℕ)) (asked : Line) (old now : StoreView) (leaves : Leaving) → ComesTo source done asked → Fails cause old now leaves (changed asked old.map.pairs) → LeavesAfter told (stop.Failed cause) source done old.map leaves
+failed-leaves : (told : Type 0) (cause : Failure) (source : Option (List ℕ)) (done : List (List ℕ)) (asked : Line) (old now : StoreView) (leaves : Leaving) → ComesTo source done asked → Fails cause old now leaves (LeadsTo asked old.map) → LeavesAfter told (stop.Failed cause) source done old.map leaves
 failed-leaves told failure.Disk source done asked old now leaves c f = inr (asked, c, f.left)
 failed-leaves told failure.HistoryFull source done asked old now leaves c f = f.left
 failed-leaves told failure.LogFull source done asked old now leaves c f = f.left
 failed-leaves told failure.Memory source done asked old now leaves c f = f.left
 
 -- what it leaves, where the end asked it
-pub failed-leaves-end : (told : Type 0) (cause : Failure) (source : Option (List ℕ)) (done : List (List ℕ)) (old now : StoreView) (leaves : Leaving) → Fails cause old now leaves old.map.pairs → LeavesAfter told (stop.Failed cause) source done old.map leaves
-failed-leaves-end told failure.Disk source done old now leaves f = inl (λ image l. ⊎_elim (λ k. k) (λ k. k) (f.left image l))
+pub failed-leaves-end : (told : Type 0) (cause : Failure) (source : Option (List ℕ)) (done : List (List ℕ)) (old now : StoreView) (leaves : Leaving) → Fails cause old now leaves (λ n. n ≡ old.map) → LeavesAfter told (stop.Failed cause) source done old.map leaves
+failed-leaves-end told failure.Disk source done old now leaves f = inl (λ image l. keeps-one leaves old.map image (f.left image l))
 failed-leaves-end told failure.HistoryFull source done old now leaves f = f.left
 failed-leaves-end told failure.LogFull source done old now leaves f = f.left
 failed-leaves-end told failure.Memory source done old now leaves f = f.left
@@ -51,7 +51,7 @@ pub unmarked : (s : Stop) (now : StoreView) (leaves : Leaving) → (IsOfHistory 
 unmarked s now leaves h l g = record { history = no-mark (IsOfHistory s) now.history_full h g.unmarked.0; log = no-mark (IsOfLog s) now.log_full l g.unmarked.1 }
 
 -- a call that failed is marked just so
-pub failed-marks : (cause : Failure) (old now : StoreView) (leaves : Leaving) (asked : Pairs) → Fails cause old now leaves asked → IsMarkedFor (stop.Failed cause) now
+pub failed-marks : (cause : Failure) (old now : StoreView) (leaves : Leaving) (IsAsked : MapState → Type 0) → Fails cause old now leaves IsAsked → IsMarkedFor (stop.Failed cause) now
 failed-marks failure.Disk old now leaves asked f = record { history = ((λ n. absurd n), λ m. absurd (cc (f.history.1 m))); log = ((λ n. absurd n), λ m. absurd (cc (f.log.1 m))) }
 failed-marks failure.HistoryFull old now leaves asked f = record { history = ((λ n. f.history.0 refl), λ m. tt); log = ((λ n. absurd n), λ m. absurd (cc (f.log.1 m))) }
 failed-marks failure.LogFull old now leaves asked f = record { history = ((λ n. absurd n), λ m. absurd (cc (f.history.1 m))); log = ((λ n. f.log.0 refl), λ m. tt) }
@@ -113,7 +113,7 @@ module _ (told : Type 0) (start mid : Option (List ℕ)) (first old : StoreView)
     follows = s.follows;
     there = (h.0 ∙ place, before-line start mid done line (IsRefused k) s.taken l (subst (λ n. IsRefused n line) (sym h.0) h.1));
     printed = Appends-keeps before reached written s.text s.printed h.4;
-    kept = subst (λ (v : StoreView). LeavesOne leaves v.map.ids v.map.pairs) h.2 h.3.left;
+    kept = subst (λ (v : StoreView). LeavesOne leaves v.map) h.2 h.3.left;
     cause = tt;
     marks = unmarked (stop.Line k) now leaves (λ n. n) (λ n. n) h.3;
     goes = λ o. (h.3, ap (λ (v : StoreView). v.map) h.2);
@@ -143,8 +143,8 @@ module _ (told : Type 0) (start mid : Option (List ℕ)) (first old : StoreView)
         there = first-taken start mid done s.taken;
         printed = Appends-keeps before reached written s.text s.printed d.1;
         kept = failed-leaves told cause start done h.0 old now leaves (next-asks h.0 l h.1) d.0;
-        cause = failed-cause told cause first old now leaves (changed h.0 old.map.pairs) le d.0;
-        marks = failed-marks cause old now leaves (changed h.0 old.map.pairs) d.0;
+        cause = failed-cause told cause first old now leaves (LeadsTo h.0 old.map) le d.0;
+        marks = failed-marks cause old now leaves (LeadsTo h.0 old.map) d.0;
         goes = λ o. absurd o;
       }
   stops (stop.Unopened cause) left now leaves written l le h =

@@ -4,7 +4,7 @@ use Rattle.map_calls.specs.Maps.{MapState, needs, Puts, Deletes}
 use Rattle.map_lines.specs.declared.grammar.Line.{Line}
 use Rattle.map_lines.specs.declared.grammar.Line.TheVariants as line
 use Rattle.map_lines.specs.Output.{put_line, put_full_line, found_line, deleted_line, list_line, reopened_line}
-use Rattle.plain_map.specs.Pairs.{Pairs, value_of, with_pair, without_key}
+use Rattle.plain_map.specs.Pairs.{value_of}
 
 -- a `put` and its line: the key gets the value; or fewer ids are free than it needs, and the map stays
 abbrev pub AnswersPut : ℕ → ℕ → MapState → MapState → List ℕ → Type 0
@@ -22,8 +22,8 @@ Does told (line.Delete key) m n text = Deletes key m n × (text ≡ deleted_line
 Does told line.List m n text = (n ≡ m) × (text ≡ list_line m.pairs)
 Does told (line.Crash pick) m n text = (told → n ≡ m) × (text ≡ reopened_line (length n.pairs))
 
--- the pairs that a line asks for
-abbrev pub changed : Line → Pairs → Pairs
-changed (line.Put key value) pairs = with_pair key value pairs
-changed (line.Delete key) pairs = without_key key pairs
-changed _ pairs = pairs
+-- from the one map a line leads to the other, where it is done
+abbrev pub LeadsTo : Line → MapState → MapState → Type 0
+LeadsTo (line.Put key value) = Puts key value
+LeadsTo (line.Delete key) = Deletes key
+LeadsTo _ = λ m n. n ≡ m

@@ -12,7 +12,7 @@ use Rattle.map_calls.specs.declared.failure.Unopened.TheVariants.{Unread}
 use Rattle.map_script.specs.declared.stop.Stop.{Stop}
 use Rattle.map_script.specs.declared.stop.Stop.TheVariants as stop
 use Rattle.map_calls.specs.Maps.{MapState}
-use Rattle.map_script.specs.Machine.{Does, changed}
+use Rattle.map_script.specs.Machine.{Does, LeadsTo}
 use Rattle.map_script.specs.Following.{Asks, LineDoes, Follows, AreTaken, AreAll, AreRead, AreFirst, StopsAt, ComesTo}
 use Rattle.map_calls.specs.Views.{StoreView, Leaving, LeavesOne, LeavesEither, GoesOn, Fails, StaysShut, status_of_failure, failure_line, status_of_unopened, unopened_line}
 
@@ -25,7 +25,7 @@ Answers told line old new leaves before written = (text : List ℕ) × Does told
 -- what a line asks stops the script: the sink failed after what was done, the call failed, or the store isn't opened again
 abbrev pub StopsAnswer : Type 0 → Stop → Line → StoreView → StoreView → Leaving → Option (List ℕ) → Option (List ℕ) → Type 0
 StopsAnswer told stop.Write line old new leaves before written = (text : List ℕ) × Does told line old.map new.map text × GoesOn new leaves × AppendsFront before written text
-StopsAnswer told (stop.Failed cause) line old new leaves before written = Fails cause old new leaves (changed line old.map.pairs) × Keeps before written
+StopsAnswer told (stop.Failed cause) line old new leaves before written = Fails cause old new leaves (LeadsTo line old.map) × Keeps before written
 StopsAnswer told (stop.Unopened cause) line old new leaves before written = ((pick : ℕ) × (line ≡ Crash pick)) × StaysShut told cause old new leaves × Keeps before written
 StopsAnswer told _ line old new leaves before written = ⊥
 
@@ -75,10 +75,10 @@ StopsThere (stop.Unopened cause) source left done = (pick : ℕ) × ComesTo sour
 -- where the store isn't opened again, this is said of a disk of which it is told what it reads.
 abbrev pub LeavesAfter : Type 0 → Stop → Option (List ℕ) → List (List ℕ) → MapState → Leaving → Type 0
 LeavesAfter told (stop.Failed failure.Disk) source done reached leaves =
-    LeavesOne leaves reached.ids reached.pairs
-    ⊎ ((asked : Line) × ComesTo source done asked × LeavesEither leaves reached.ids reached.pairs (changed asked reached.pairs))
-LeavesAfter told (stop.Unopened cause) source done reached leaves = told → LeavesOne leaves reached.ids reached.pairs
-LeavesAfter told _ source done reached leaves = LeavesOne leaves reached.ids reached.pairs
+    LeavesOne leaves reached
+    ⊎ ((asked : Line) × ComesTo source done asked × LeavesEither leaves reached (LeadsTo asked reached))
+LeavesAfter told (stop.Unopened cause) source done reached leaves = told → LeavesOne leaves reached
+LeavesAfter told _ source done reached leaves = LeavesOne leaves reached
 
 -- what shows that the disk is the cause: it failed a call; and where it is told what it reads, it isn't refused as damaged
 abbrev pub HasCause : Type 0 → Stop → StoreView → StoreView → Type 0
@@ -126,7 +126,7 @@ pub record StopsScript (told : Type 0) (s : Stop) (source left : Option (List �
 -- the end stops the script: the sink failed the last line, or a call failed
 abbrev pub StopsEnd : Stop → StoreView → StoreView → Leaving → Option (List ℕ) → Option (List ℕ) → Type 0
 StopsEnd stop.Write old new leaves before written = (new.map ≡ old.map) × (new.room ≡ new.map.free) × GoesOn new leaves × AppendsFront before written (keys_line (length old.map.pairs))
-StopsEnd (stop.Failed cause) old new leaves before written = Fails cause old new leaves old.map.pairs × Keeps before written
+StopsEnd (stop.Failed cause) old new leaves before written = Fails cause old new leaves (λ n. n ≡ old.map) × Keeps before written
 StopsEnd _ old new leaves before written = ⊥
 
 -- the status of a script that stops so

@@ -1,6 +1,6 @@
 //! A pair is put, after a collection where ids are short.
 ghost use Rattle.std.specs.Prelude.{◌≡◌, ◌≤◌, true, IfOk, IfErr, OnOk};
-ghost use Rattle.plain_map.specs.Pairs.{with_pair};
+ghost use Rattle.map_calls.specs.Maps.{Puts};
 ghost use Rattle.map_calls.specs.Views.{GoesOn, Fails, Places};
 ghost use Rattle.stored_map.specs.Stores.{view_of, leaving};
 
@@ -17,7 +17,7 @@ fn place_after_collection<D: Disk>(
     requires running { (view_of D.faults store.old).running ≡ true }
     ensures placed { IfOk result (λ put. Places key value put (view_of D.faults store.old).map (view_of D.faults store.new).map) }
     ensures goes { OnOk result (GoesOn (view_of D.faults store.new) (leaving D.may_leave store.new)) }
-    ensures failed { IfErr result (λ f. Fails f (view_of D.faults store.old) (view_of D.faults store.new) (leaving D.may_leave store.new) (with_pair key value (view_of D.faults store.old).map.pairs)) }
+    ensures failed { IfErr result (λ f. Fails f (view_of D.faults store.old) (view_of D.faults store.new) (leaving D.may_leave store.new) (Puts key value (view_of D.faults store.old).map)) }
     ensures later { (view_of D.faults store.old).faults ≤ (view_of D.faults store.new).faults }
 {
     match store.collect() {
@@ -32,7 +32,7 @@ pub(crate) fn place<D: Disk>(store: &mut StoredMap<D>, key: u64, value: u64) -> 
     requires running { (view_of D.faults store.old).running ≡ true }
     ensures placed { IfOk result (λ put. Places key value put (view_of D.faults store.old).map (view_of D.faults store.new).map) }
     ensures goes { OnOk result (GoesOn (view_of D.faults store.new) (leaving D.may_leave store.new)) }
-    ensures failed { IfErr result (λ f. Fails f (view_of D.faults store.old) (view_of D.faults store.new) (leaving D.may_leave store.new) (with_pair key value (view_of D.faults store.old).map.pairs)) }
+    ensures failed { IfErr result (λ f. Fails f (view_of D.faults store.old) (view_of D.faults store.new) (leaving D.may_leave store.new) (Puts key value (view_of D.faults store.old).map)) }
     ensures later { (view_of D.faults store.old).faults ≤ (view_of D.faults store.new).faults }
 {
     match store.put(key, value) {

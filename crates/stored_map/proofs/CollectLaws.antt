@@ -30,12 +30,13 @@ use Rattle.logged_journal.specs.Calls.{KeepsDisk, GoesOn}
 use Rattle.map_calls.specs.declared.failure.Failure.TheVariants as failure
 use Rattle.map_calls.specs.Maps.{MapState}
 use Rattle.object_map.specs.Clients.{object_slots}
-use Rattle.stored_map.specs.Graphs.{KeepsMap, map_of, pairs_in, free_beside}
+use Rattle.stored_map.specs.Graphs.{KeepsMap, map_of, pairs_in, free_beside, reached_in}
 use Rattle.stored_map.specs.Stores.{state_in, IsQuiet}
 use Rattle.stored_map.specs.Steps.{KeepsMarks, IsMarkedBy, Collects, IsExact, entries_left}
 use Rattle.stored_map.proofs.GraphLaws.{map_same, map_read, keeps_map}
 use Rattle.stored_map.proofs.LeftLaws.{same_back}
 use Rattle.stored_map.proofs.ReachLaws.{free_reach}
+use Rattle.stored_map.proofs.ReachedLaws.{same_reached}
 use Rattle.stored_map.proofs.StepLaws.{unmarked_then, marked_none, marked_history, marked_log}
 
 -- the graph after the last commit is the same
@@ -51,11 +52,11 @@ collected_reach u v c a b =
     let last : graph_after n (length n.commits) ≡ graph_after m (length m.commits) = last_same m n (length n.commits) c.opened c.commits ∙ ap (λ (cs : List CommitPoint). graph_after m (length cs)) c.commits in
     same-same n.state.committed (graph_after m (length m.commits)) m.state.committed (subst (λ (g : List Object). SameReachable n.state.committed g) last b) (same_back m.state.committed (graph_after m (length m.commits)) a)
 
-abbrev pub state_with : List (ℕ × ℕ) → ℕ → ℕ → MapState
-state_with pairs ids free = record { pairs = pairs; ids = ids; free = free }
+abbrev pub state_with : List (ℕ × ℕ) → ℕ → ℕ → List Object → MapState
+state_with pairs ids free graph = record { pairs = pairs; ids = ids; free = free; graph = graph }
 
-pub state_is : (p q : List (ℕ × ℕ)) (i j a b : ℕ) → p ≡ q → i ≡ j → a ≡ b → state_with p i a ≡ state_with q j b
-state_is p q i j a b e f g = cc (e, f, g)
+pub state_is : (p q : List (ℕ × ℕ)) (i j a b : ℕ) (g h : List Object) → p ≡ q → i ≡ j → a ≡ b → g ≡ h → state_with p i a g ≡ state_with q j b h
+state_is p q i j a b g h d e f k = cc (d, e, f, k)
 
 -- and the map is the same
 pub collected_map : {D : Type 0} (u v : LoggedView D) → Collects u v → IsSettled (end_of u.journal.history) → IsSettled (end_of v.journal.history) → IsSoundState (state_in u) → IsSoundState (state_in v) → KeepsMap (state_in u).committed
@@ -67,7 +68,8 @@ collected_map u v c a b s t k =
     let map = map_same g h (pairs_in g) s.committed reach k in
     let pairs : pairs_in h ≡ pairs_in g = map_read h (pairs_in g) map in
     let free : free_beside (state_in v).ids h ≡ free_beside (state_in u).ids g = ap (λ n. free_beside n h) c.ids ∙ free_reach (state_in u).ids g h s.committed t.committed reach in
-    (keeps_map h (pairs_in g) map, state_is (pairs_in h) (pairs_in g) (state_in v).ids (state_in u).ids (free_beside (state_in v).ids h) (free_beside (state_in u).ids g) pairs c.ids free)
+    let graph : reached_in h ≡ reached_in g = same_reached g h s.committed t.committed reach in
+    (keeps_map h (pairs_in g) map, state_is (pairs_in h) (pairs_in g) (state_in v).ids (state_in u).ids (free_beside (state_in v).ids h) (free_beside (state_in u).ids g) (reached_in h) (reached_in g) pairs c.ids free graph)
 
 -- ---- one step
 

@@ -102,7 +102,7 @@ pub record Lost {D : Type 0} (content : D → Area → Option (List ℕ)) (may_l
 module _ {D : Type 0} (content : D → Area → Option (List ℕ)) (may_leave : D → Area → List ℕ → Type 0) (moment : D → ℕ) (left_since : D → ℕ → Bytes → Type 0) (faults : D → ℕ) (counts : (disk : D) (t : ℕ) (b : Bytes) → t ≤ moment disk → IsImage may_leave disk b → left_since disk t b)
     (before : StoreView) (old new : D) (l : Lost content may_leave faults before old new) where
   -- what is left of the disk of what is kept leaves the map of before
-  left_then : (kept : Kept D) (now : D) → disk_of kept ≡ Some now → OpensMeanwhile content may_leave moment left_since object_slots new now → Tell content → LeavesOne (leaving may_leave kept) before.map.ids before.map.pairs
+  left_then : (kept : Kept D) (now : D) → disk_of kept ≡ Some now → OpensMeanwhile content may_leave moment left_since object_slots new now → Tell content → LeavesOne (leaving may_leave kept) before.map
   left_then kept now e m tell = leaves_map may_leave kept now l.holds.ids l.holds.graph before.map e l.holds.sound l.holds.keeps l.holds.map (images_after content tell may_leave old new l.lost l.holds.ids l.holds.graph l.holds.images now moment left_since counts m)
 
   -- so much is told of a store that stays shut, with what is kept of it
@@ -216,17 +216,17 @@ module _ {D : Type 0} (content : D → Area → Option (List ℕ)) (may_leave : 
 
 -- ---- the keys aren't counted
 
-one_left : (f : Failure) (l : Leaving) (m : MapState) → LeavesThen f l m m.pairs → LeavesOne l m.ids m.pairs
-one_left failure.Disk l m h = λ image is. ⊎_elim (λ (a : l.keeps image m.ids m.pairs). a) (λ (b : l.keeps image m.ids m.pairs). b) (h image is)
+one_left : (f : Failure) (l : Leaving) (m : MapState) → LeavesThen f l m (λ n. n ≡ m) → LeavesOne l m
+one_left failure.Disk l m h = λ image is. ⊎_elim (λ (a : l.keeps image m). a) (λ (b : (n : MapState) × (n ≡ m) × l.keeps image n). subst (λ (n : MapState). l.keeps image n) b.1 b.2) (h image is)
 one_left failure.HistoryFull l m h = h
 one_left failure.LogFull l m h = h
 one_left failure.Memory l m h = h
 
-pub uncounted_shut : (told : Type 0) (f : Failure) (before mid now : StoreView) (l : Leaving) → before.faults ≤ mid.faults → (told → mid.map ≡ before.map) → Fails f mid now l mid.map.pairs → StaysShut told (unopened.Unread f) before now l
+pub uncounted_shut : (told : Type 0) (f : Failure) (before mid now : StoreView) (l : Leaving) → before.faults ≤ mid.faults → (told → mid.map ≡ before.map) → Fails f mid now l (λ n. n ≡ mid.map) → StaysShut told (unopened.Unread f) before now l
 uncounted_shut told f before mid now l le same h = record {
   disk = λ s. rose_from before.faults mid.faults now.faults le (h.disk (disk_failure f s));
   history = same_mark f failure.HistoryFull (now.history_full ≡ true) h.history;
   log = same_mark f failure.LogFull (now.log_full ≡ true) h.log;
   sound = λ t s. no_damage f s;
-  left = λ t. subst (λ (m : MapState). LeavesOne l m.ids m.pairs) (same t) (one_left f l mid.map h.left);
+  left = λ t. subst (λ (m : MapState). LeavesOne l m) (same t) (one_left f l mid.map h.left);
 }

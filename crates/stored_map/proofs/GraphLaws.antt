@@ -85,13 +85,13 @@ pub named_there : (o : Option Object) (k y : ℕ) → slot_of o k ≡ y → y �
 named_there None k y e n = absurd (n (sym e))
 named_there (Some x) k y e n = (x, refl, e)
 
-is_there : (o : Option Object) → is_some o ≡ true → (x : Object) × (o ≡ Some x)
+pub is_there : (o : Option Object) → is_some o ≡ true → (x : Object) × (o ≡ Some x)
 is_there None h = absurd (cc)
 is_there (Some x) h = (x, refl)
 
 -- a slot of an object that is reached leads on
-pub reach_on : (g : List Object) (x k y : ℕ) → Reachable g (root ∷ []) x → slot_of (object_at g x) k ≡ y → y ≢ 0 → is_some (object_at g y) ≡ true → Reachable g (root ∷ []) y
-reach_on g x k y r e n h =
+pub reach_on : {l : List ℕ} (g : List Object) (x k y : ℕ) → Reachable g l x → slot_of (object_at g x) k ≡ y → y ≢ 0 → is_some (object_at g y) ≡ true → Reachable g l y
+reach_on {l} g x k y r e n h =
     let o = named_there (object_at g x) k y e n in
     let p = is_there (object_at g y) h in
     step x y o.0 p.0 r o.1 (contains_slot o.0.slots k y o.2 n) n p.1
@@ -106,7 +106,7 @@ tree_there at (leaf id key cell value) o = some_slot (at id) 2 cell o.0.names o.
 tree_there at (inner id bit low high) o = some_slot (at id) 0 (id_of low) o.0.names_low o.0.low_named
 
 -- the objects of a tree that is reached are the same in a graph with the same reach
-same_tree : (g h : List Object) (t : Tree) → SameReachable h g → Reachable g (root ∷ []) (id_of t) → AreObjects (object_at g) t → AreObjects (object_at h) t
+pub same_tree : (g h : List Object) (t : Tree) → SameReachable h g → Reachable g (root ∷ []) (id_of t) → AreObjects (object_at g) t → AreObjects (object_at h) t
 same_tree g h (leaf id key cell value) s r o =
     let here : object_at g id ≡ object_at h id = sym (s.contents id r) in
     let down : Reachable g (root ∷ []) cell = reach_on g id 2 cell r o.0.names o.0.named o.1.there in

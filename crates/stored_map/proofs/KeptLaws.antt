@@ -18,7 +18,6 @@ use Rattle.object_map.specs.Seen.{Seen, held, HasOnly}
 use Rattle.object_map.specs.Clients.{ClientView, seen, free_ids, IsClient}
 use Rattle.stored_map.specs.declared.kept.Kept.{Kept}
 use Rattle.stored_map.specs.declared.kept.Kept.TheVariants.{Idle, Looking, Stopped, Shut, Taken}
-use Rattle.plain_map.specs.Pairs.{Pairs}
 use Rattle.stored_map.specs.Finding.{FindsMap, FindsNoMap}
 use Rattle.stored_map.specs.Graphs.{KeepsMap, map_of}
 use Rattle.stored_map.specs.Stores.{state_in, HasLimits, IsIdle, IsLooking, IsKept, IsKnown, is_running, view_at, view_of, leaving, OpensToSame}
@@ -74,12 +73,12 @@ looking_at faults before c l i =
 -- ---- the begin was refused
 
 pub begin_stops : {D : Type 0} (faults : D → ℕ) (may_leave : D → Area → List ℕ → Type 0) (f : Failure) (u v : LoggedView D) → IsIdle u → Refuses f u v → IsKnown (state_in v) → (v.failed ≡ None → EachImage may_leave v.disk (OpensToSame (state_in v).ids (state_in v).committed))
-    → (asked : Pairs) → StopsWith faults may_leave f (view_at faults true u) (Stopped v) asked
-begin_stops faults may_leave f u v i r k left asked =
+    → StopsWith faults may_leave f (view_at faults true u) (Stopped v) (λ n. ⊥)
+begin_stops faults may_leave f u v i r k left =
     let same : faults v.disk ≡ faults u.disk = ap faults r.stays.disk in
     let later : faults u.disk ≤ faults v.disk = omega (arith, same) in
     record {
-      fails = fails_refused faults may_leave f (view_at faults true u) u v asked refl (subst IsSoundGraph r.stays.committed k.sound.committed) i.map r (left r.stays.running);
+      fails = fails_refused faults may_leave f (view_at faults true u) u v (λ n. ⊥) refl (subst IsSoundGraph r.stays.committed k.sound.committed) i.map r (left r.stays.running);
       later = later;
       is_kept = r.stays.limits ∙ i.quiet.limits;
     }

@@ -12,8 +12,7 @@ use Rattle.plain_model.specs.declared.object.Object.{Object}
 use Rattle.plain_model.specs.declared.calls.Call.TheVariants.{Commit}
 use Rattle.plain_model.specs.declared.calls.Reply.TheVariants.{DiskFault}
 use Rattle.plain_model.specs.declared.calls.Entry.TheVariants.{Call}
-use Rattle.plain_model.specs.Machine.{step}
-use Rattle.plain_model.specs.Graphs.{has_object}
+use Rattle.plain_model.specs.Machine.{is_stored, step}
 use Rattle.plain_model.specs.History.{History, Moment, CommitPoint, IsCrashConsistent, IsId, SameReachable, graph_after, end_of, next, with_entry, is_stopped}
 use Rattle.plain_model.proofs.HistoryLemmas.{end_of-with_entry}
 use Rattle.plain_model.proofs.StepLaws.{end_of-ids}
@@ -164,11 +163,11 @@ module _ {D : Type 0} (may_leave : D → Area → List ℕ → Type 0) (v : Logg
       (λ s. inr (record { cells = o.cells; opened = o.opened; size = same_size image o; reach = s }))
       (lost_reach before after x g k.running k.settled refl refl at)
 
-  -- an object of the committed graph has an id of the store
-  within : (id : ℕ) → has_object (state_in v).committed id ≡ true → IsId (state_in v).ids id
+  -- what is stored has an id of the store
+  within : (id : ℕ) → is_stored (state_in v).stored id ≡ true → IsId (state_in v).ids id
   within id h =
       let c = core_of v.journal in
-      let live : is_live c.cells id ≡ true = sym (k.sound.stored id) ∙ k.sound.state.committed_stored id h in
+      let live : is_live c.cells id ≡ true = sym (k.sound.stored id) ∙ h in
       let below : id < length c.cells = live-within c.cells id live in
       let many : length c.cells ≡ suc (state_in v).ids = k.sound.consistent.sized in
       (some id live, omega (arith, below, many))
@@ -178,7 +177,7 @@ module _ {D : Type 0} (may_leave : D → Area → List ℕ → Type 0) (v : Logg
       some (suc n) l = omega arith
 
   pub known_state : IsKnown (state_in v)
-  known_state = record { sound = k.sound.state; ids = within }
+  known_state = record { sound = k.sound.state; ids = λ id h. within id (k.sound.state.committed_stored id h); stored = within }
 
 -- there is a cell of the opening for each id, and one more
 pub known_sized : {D : Type 0} (v w : LoggedView D) (j : JournalView) → w ≡ v → j ≡ w.journal → AreConsistent object_slots j.history.ids (cells_after_notes object_slots j.opening []) → length v.journal.opening ≡ (state_in v).ids + 1

@@ -4,6 +4,8 @@ pub mod CountLaws
 pub mod MapReachLaws
 pub mod ListLaws
 pub mod LeftLaws
+pub mod ReachedLaws
+pub mod BesideLaws
 pub mod StepLaws
 pub mod TransactionLaws
 pub mod AskLaws

@@ -20,11 +20,12 @@ use Rattle.store_opening.specs.Store.{Reads, Refuses}
 use Rattle.journal_opening.specs.Openings.{ReadsAs, OpensMeanwhile}
 use Rattle.map_calls.specs.Views.{status_of_refusal}
 use Rattle.object_map.specs.Clients.{object_slots}
-use Rattle.stored_map.specs.Graphs.{KeepsMap, map_of, pairs_in, free_beside}
+use Rattle.stored_map.specs.Graphs.{KeepsMap, map_of, pairs_in, free_beside, reached_in}
 use Rattle.stored_map.specs.Stores.{OpensToSame, Tell}
 use Rattle.stored_map.proofs.CollectLaws.{state_is}
 use Rattle.stored_map.proofs.GraphLaws.{map_same, map_read}
 use Rattle.stored_map.proofs.ReachLaws.{free_reach}
+use Rattle.stored_map.proofs.ReachedLaws.{same_reached}
 
 told : (o : Option (List ℕ)) (P : Type 0) → IsSome o → IfSome o (λ _. P) → P
 told None P some h = absurd (cc (some))
@@ -47,7 +48,7 @@ known_count = inr refl
 pub same_state : (ids : ℕ) (g h : List Object) → IsSoundGraph g → IsSoundGraph h → KeepsMap g → SameReachable h g → map_of ids h ≡ map_of ids g
 same_state ids g h s t k r =
     let pairs : pairs_in h ≡ pairs_in g = map_read h (pairs_in g) (map_same g h (pairs_in g) s r k) in
-    state_is (pairs_in h) (pairs_in g) ids ids (free_beside ids h) (free_beside ids g) pairs refl (free_reach ids g h s t r)
+    state_is (pairs_in h) (pairs_in g) ids ids (free_beside ids h) (free_beside ids g) (reached_in h) (reached_in g) pairs refl (free_reach ids g h s t r) (same_reached g h s t r)
 
 module _ {D : Type 0} (content : D → Area → Option (List ℕ)) (tell : Tell content) where
   -- it reads four areas

@@ -42,13 +42,13 @@ is_of x (inner id bit low high) = ⊎_elim
     (is_of x low))
     (cases_eq x id)
 
-tree_reached : (g : List Object) (t : Tree) → AreObjects (object_at g) t → Reachable g (root ∷ []) (id_of t) → (x : ℕ) → IsOf x t → Reachable g (root ∷ []) x
-tree_reached g (leaf id key cell value) o r x h = ⊎_elim
-    (λ (e : x ≡ id). subst (λ y. Reachable g (root ∷ []) y) (sym e) r)
-    (λ (e : x ≡ cell). subst (λ y. Reachable g (root ∷ []) y) (sym e) (reach_on g id 2 cell r o.0.names o.0.named o.1.there))
+pub tree_reached : {l : List ℕ} (g : List Object) (t : Tree) → AreObjects (object_at g) t → Reachable g l (id_of t) → (x : ℕ) → IsOf x t → Reachable g l x
+tree_reached {l} g (leaf id key cell value) o r x h = ⊎_elim
+    (λ (e : x ≡ id). subst (λ y. Reachable g l y) (sym e) r)
+    (λ (e : x ≡ cell). subst (λ y. Reachable g l y) (sym e) (reach_on g id 2 cell r o.0.names o.0.named o.1.there))
     h
-tree_reached g (inner id bit low high) o r x h = ⊎_elim
-    (λ (e : x ≡ id). subst (λ y. Reachable g (root ∷ []) y) (sym e) r)
+tree_reached {l} g (inner id bit low high) o r x h = ⊎_elim
+    (λ (e : x ≡ id). subst (λ y. Reachable g l y) (sym e) r)
     (λ (d : IsOf x low ⊎ IsOf x high). ⊎_elim
     (λ (a : IsOf x low). tree_reached g low o.1 (reach_on g id 0 (id_of low) r o.0.names_low o.0.low_named (tree_there (object_at g) low o.1)) x a)
     (λ (b : IsOf x high). tree_reached g high o.2 (reach_on g id 1 (id_of high) r o.0.names_high o.0.high_named (tree_there (object_at g) high o.2)) x b)
@@ -87,7 +87,7 @@ leads_within at (inner id bit low high) o x k y h e n = ⊎_elim
 pub map_reached : (g : List Object) → has_object g root ≡ true → (x : ℕ) → IsOfMap 13 (object_at g) x → Reachable g (root ∷ []) x
 map_reached g w x m = tree_reached g m.tree m.stands.objects (reach_on g root 13 (id_of m.tree) (root_reached g w) m.under m.named (tree_there (object_at g) m.tree m.stands.objects)) x m.within
 
-map_leads : (g : List Object) (x k y : ℕ) → IsOfMap 13 (object_at g) x → slot_of (object_at g x) k ≡ y → y ≢ 0 → IsOfMap 13 (object_at g) y
+pub map_leads : (g : List Object) (x k y : ℕ) → IsOfMap 13 (object_at g) x → slot_of (object_at g x) k ≡ y → y ≢ 0 → IsOfMap 13 (object_at g) y
 map_leads g x k y m e n = record { tree = m.tree; named = m.named; under = m.under; stands = m.stands; within = leads_within (object_at g) m.tree m.stands.objects x k y m.within e n }
 
 pub tree_of : (f : ℕ → Option Object) (ps : Pairs) (t : Tree) → StandsUnder f (slot_of (f root) 13) (Some t) → ps ≡ pairs_of_tree (Some t) → MapTree 13 f ps t
@@ -103,7 +103,7 @@ of_under f ps (Some t) s e x =
 pub is_of_map : (g : List Object) (ps : Pairs) → IsMap 13 g ps → (x : ℕ) → IsOfMap 13 (object_at g) x ⊎ (IsOfMap 13 (object_at g) x → ⊥)
 is_of_map g ps m x = of_under (object_at g) ps m.tree m.stands m.same x
 
-first_under : (f : ℕ → Option Object) (ps : Pairs) (o : Option Tree) → StandsUnder f (slot_of (f root) 13) o → ps ≡ pairs_of_tree o → slot_of (f root) 13 ≢ 0 → IsOfMap 13 f (slot_of (f root) 13)
+pub first_under : (f : ℕ → Option Object) (ps : Pairs) (o : Option Tree) → StandsUnder f (slot_of (f root) 13) o → ps ≡ pairs_of_tree o → slot_of (f root) 13 ≢ 0 → IsOfMap 13 f (slot_of (f root) 13)
 first_under f ps None s e n = absurd (n s)
 first_under f ps (Some t) s e n = subst (λ y. IsOfMap 13 f y) s.1 (in_tree (id_of t) (tree_of f ps t s e) (is_first t))
 
@@ -117,7 +117,7 @@ pub record Alike (a b : List Object) : Type 0 where
 pub reached_there : (g : List Object) (x : ℕ) → Reachable g (root ∷ []) x → has_object g x ≡ true
 reached_there g x r = Reachable-least g (root ∷ []) (λ y. has_object g y ≡ true) (record { starts = λ y o c e. ap is_some e; steps = λ y z o p h e c n f. ap is_some f }) r
 
-leads_on : (g : List Object) → IsSoundGraph g → (x k y : ℕ) → Reachable g (root ∷ []) x → slot_of (object_at g x) k ≡ y → y ≢ 0 → Reachable g (root ∷ []) y
+pub leads_on : (g : List Object) → IsSoundGraph g → (x k y : ℕ) → Reachable g (root ∷ []) x → slot_of (object_at g x) k ≡ y → y ≢ 0 → Reachable g (root ∷ []) y
 leads_on g w x k y r e n =
     let o = named_there (object_at g x) k y e n in
     reach_on g x k y r e n (w.closed x y k o.0 r o.1 o.2 n)

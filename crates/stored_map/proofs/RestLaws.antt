@@ -60,8 +60,8 @@ module _ {D : Type 0} (faults : D → ℕ) (may_leave : D → Area → List ℕ 
   pub all_room : IsExact v → (view_of faults (Idle v)).room ≡ (view_of faults (Idle v)).map.free
   all_room e = exact_room (state_in v) n.sound.committed e
 
-  pub all_fails : (f : Failure) → (f ≡ failure.Disk → ⊥) → IsMarkedBy f v → Fails f before (view_of faults (Stopped v)) (leaving may_leave (Stopped v)) before.map.pairs
-  all_fails f d m = fails_marked faults may_leave f before v before.map.pairs d m (leaves_map may_leave (Stopped v) v.disk (state_in v).ids (state_in v).committed before.map refl n.sound.committed both.0 map_kept (left c.running))
+  pub all_fails : (f : Failure) → (f ≡ failure.Disk → ⊥) → IsMarkedBy f v → Fails f before (view_of faults (Stopped v)) (leaving may_leave (Stopped v)) (λ n. n ≡ before.map)
+  all_fails f d m = fails_marked faults may_leave f before v (λ n. n ≡ before.map) d m (leaves_map may_leave (Stopped v) v.disk (state_in v).ids (state_in v).committed before.map refl n.sound.committed both.0 map_kept (left c.running))
 
   pub all_limits : HasLimits v
   all_limits = c.limits ∙ i.quiet.limits

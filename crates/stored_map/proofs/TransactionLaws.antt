@@ -1,5 +1,5 @@
 -- The begin and the end of the client's transaction.
-use Rattle.std.proofs.Common.{◌≡◌, ℕ, false, List, [], ◌∷◌, Option, Some, None, refl, sym, ap, ◌∙◌, subst}
+use Rattle.std.proofs.Common.{◌≡◌, ℕ, true, false, List, [], ◌∷◌, Option, Some, None, refl, sym, ap, ◌∙◌, subst}
 use Rattle.std.specs.Option.{option_map_or}
 use Rattle.std.specs.Ordering.{nat_cmp}
 use Rattle.std.specs.BTreeMap.{is_at}
@@ -7,9 +7,9 @@ use Rattle.std.specs.Map.{lookup}
 use Rattle.plain_model.specs.declared.calls.Call.TheVariants as call
 use Rattle.plain_model.specs.declared.calls.Reply.{Reply}
 use Rattle.plain_model.specs.declared.calls.Reply.TheVariants as reply
-use Rattle.plain_model.specs.Graphs.{root}
+use Rattle.plain_model.specs.Graphs.{root, has_object}
 use Rattle.plain_model.specs.ActiveTransaction.{ActiveTransaction}
-use Rattle.plain_model.specs.Machine.{State, step, transaction_of, new_transaction, with_transaction, without_transaction, after_commit_of}
+use Rattle.plain_model.specs.Machine.{State, is_stored, step, transaction_of, new_transaction, with_transaction, without_transaction, after_commit_of}
 use Rattle.plain_model.proofs.StepLemmas.{step-begin, step-commit}
 use Rattle.plain_laws.specs.Sound.{IsSoundGraph}
 use Rattle.plain_laws.proofs.States.{sound-commit}
@@ -85,6 +85,11 @@ asked_graph s a = ap (λ (x : Reply × State). x.1.committed) (step_commits s a.
 pub asked_sound : (s : State) (a : IsAlone s 1) → IsSoundGraph (step s 1 call.Commit).1.committed
 asked_sound s a =
     subst (λ (x : Reply × State). IsSoundGraph x.1.committed) (sym (step_commits s a.transaction a.active a.running)) (sound-commit s 1 a.transaction a.sound (only_at s a.transaction a.active)).committed
+
+-- each object there is stored now
+pub asked_stored : (s : State) (a : IsAlone s 1) (id : ℕ) → has_object (step s 1 call.Commit).1.committed id ≡ true → is_stored s.stored id ≡ true
+asked_stored s a id h =
+    (sound-commit s 1 a.transaction a.sound (only_at s a.transaction a.active)).committed_stored id (subst (λ (x : Reply × State). has_object x.1.committed id ≡ true) (step_commits s a.transaction a.active a.running) h)
 
 pub free_same : (s n : State) → n.ids ≡ s.ids → n.stored ≡ s.stored → free_ids n ≡ free_ids s
 free_same s n i e = ap (λ (l : List ℕ). free_ids (record n { stored = l })) e ∙ ap (λ k. free_ids (record s { ids = k })) i

@@ -1,5 +1,5 @@
--- The map of a graph, read from the root down, and how many ids the root doesn't reach.
-use Rattle.std.specs.Prelude.{ℕ, zero, suc, ◌+◌, Bool, not, ◌&&◌, ◌||◌, ◌==◌, if◌then◌else◌, List, [], ◌∷◌, ◌++◌, length, Option}
+-- The map of a graph, read from the root down, and which objects the root reaches.
+use Rattle.std.specs.Prelude.{ℕ, zero, suc, ◌+◌, Bool, not, ◌&&◌, ◌||◌, ◌==◌, if◌then◌else◌, List, [], ◌∷◌, ◌++◌, length, filter, Option}
 use Rattle.std.specs.List.{list_any}
 use Rattle.plain_model.specs.declared.object.Object.{Object}
 use Rattle.plain_model.specs.Graphs.{root, object_at, has_object}
@@ -61,6 +61,10 @@ count_beside test id (suc n) = if test id then count_beside test (id + 1) n else
 unfoldable pub free_beside : ℕ → List Object → ℕ
 free_beside ids g = count_beside (is_reached g) 1 ids
 
+-- the objects that the root reaches
+unfoldable pub reached_in : List Object → List Object
+reached_in g = filter (λ o. is_reached g o.id) g
+
 -- the map of a graph, in a store of so many ids
 abbrev pub map_of : ℕ → List Object → MapState
-map_of ids g = record { pairs = pairs_in g; ids = ids; free = free_beside ids g }
+map_of ids g = record { pairs = pairs_in g; ids = ids; free = free_beside ids g; graph = reached_in g }

@@ -4,10 +4,10 @@ use Rattle.plain_model.specs.declared.object.Object.{Object}
 use Rattle.plain_model.specs.declared.calls.Call.TheVariants.{Commit}
 use Rattle.plain_model.specs.declared.calls.Reply.{Reply}
 use Rattle.plain_model.specs.declared.calls.Reply.TheVariants as reply
-use Rattle.plain_model.specs.Graphs.{root}
+use Rattle.plain_model.specs.Graphs.{root, has_object}
 use Rattle.plain_model.specs.Machine.{is_stored}
 use Rattle.plain_model.specs.Reachable.{Reachable}
-use Rattle.plain_model.specs.History.{end_of}
+use Rattle.plain_model.specs.History.{IsId, end_of}
 use Rattle.plain_laws.specs.Sound.{IsSoundGraph}
 use Rattle.disk_model.specs.declared.area.Area.{Area}
 use Rattle.disk_model.specs.Causes.{Rose}
@@ -131,6 +131,7 @@ pub record FailsOn {D : Type 0} (faults : D → ℕ) (may_leave : D → Area →
   pub disk : cause ≡ failure.Disk → Rose (faults c.store.disk) (faults now.disk)
   pub marked : IsMarkedBy cause now
   pub sound : IsSoundGraph (seen c).graph
+  pub within : cause ≡ failure.Disk → (id : ℕ) → has_object (seen c).graph id ≡ true → IsId (state_of c).ids id
   pub left : LeavesSameThen may_leave cause now.disk (state_of c).ids (state_of c).committed (seen c).graph
 
 -- ---- a loss of power

@@ -2,7 +2,7 @@
 use Rattle.std.specs.Prelude.{◌≡◌, ℕ, ◌+◌, Bool, true, false, List, [], length, Option, Some, None, IsSome}
 use Rattle.plain_model.specs.declared.object.Object.{Object}
 use Rattle.plain_model.specs.Graphs.{root, has_object}
-use Rattle.plain_model.specs.Machine.{State}
+use Rattle.plain_model.specs.Machine.{State, is_stored}
 use Rattle.plain_model.specs.History.{SameReachable, IsId, end_of}
 use Rattle.plain_laws.specs.Sound.{IsSoundState}
 use Rattle.disk_model.specs.declared.area.Area.{Area}
@@ -12,10 +12,10 @@ use Rattle.cell_model.specs.Cells.{Cell}
 use Rattle.cell_model.specs.Graph.{graph_of}
 use Rattle.opened_images.specs.Opened.{Opened, OpensTo}
 use Rattle.logged_journal.specs.View.{LoggedView}
-use Rattle.plain_map.specs.Pairs.{Pairs}
 use Rattle.object_map.specs.Maps.{IsMap}
 use Rattle.object_map.specs.Seen.{held}
 use Rattle.object_map.specs.Clients.{object_slots, client_at, seen, IsClient, free_ids}
+use Rattle.map_calls.specs.Maps.{MapState}
 use Rattle.map_calls.specs.Views.{StoreView, Leaving}
 use Rattle.stored_map.specs.declared.kept.Kept.{Kept}
 use Rattle.stored_map.specs.declared.kept.Kept.TheVariants.{Idle, Looking, Stopped, Shut, Taken}
@@ -77,10 +77,11 @@ is_running _ = false
 
 -- ---- what is known of the state
 
--- the state is sound, and each object of the committed graph has an id of the store
+-- the state is sound; each object of the committed graph has an id of the store, and so has what is stored
 pub record IsKnown (s : State) : Type 0 where
   pub sound : IsSoundState s
   pub ids : (id : ℕ) → has_object s.committed id ≡ true → IsId s.ids id
+  pub stored : (id : ℕ) → is_stored s.stored id ≡ true → IsId s.ids id
 
 -- ---- what a script sees of it
 
@@ -97,7 +98,7 @@ view_at faults running v = record {
 
 -- a store that isn't open, over a disk of which so many calls failed
 abbrev pub shut_view : ℕ → StoreView
-shut_view faults = record { map = record { pairs = []; ids = 0; free = 0 }; room = 0; running = false; faults = faults; history_full = false; log_full = false }
+shut_view faults = record { map = record { pairs = []; ids = 0; free = 0; graph = [] }; room = 0; running = false; faults = faults; history_full = false; log_full = false }
 
 -- what a script sees of what is kept
 abbrev pub view_of : {D : Type 0} → (D → ℕ) → Kept D → StoreView
@@ -124,12 +125,13 @@ pub record OpensToSame (ids : ℕ) (g : List Object) (image : Bytes) : Type 0 wh
   pub size : length cells ≡ ids + 1
   pub reach : SameReachable (graph_of cells) g
 
--- the bytes are a store of so many ids that opens, and keeps this map
-pub record OpensToMap (image : Bytes) (ids : ℕ) (pairs : Pairs) : Type 0 where
+-- the bytes are a store that opens and keeps this map: it has as many ids, and the root reaches the same there
+pub record OpensToMap (image : Bytes) (m : MapState) : Type 0 where
   pub cells : List Cell
   pub opened : Opened object_slots image (OpensTo cells)
-  pub size : length cells ≡ ids + 1
-  pub map : IsMap 13 (graph_of cells) pairs
+  pub size : length cells ≡ m.ids + 1
+  pub map : IsMap 13 (graph_of cells) m.pairs
+  pub reach : SameReachable (graph_of cells) m.graph
 
 -- a power loss may leave these bytes of what is kept
 abbrev pub left_of : {D : Type 0} → (D → Area → List ℕ → Type 0) → Kept D → Bytes → Type 0

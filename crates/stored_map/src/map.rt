@@ -1,7 +1,7 @@
 //! A store that keeps an ordered map.
 ghost use Rattle.std.specs.Prelude.{◌≡◌, ◌≤◌, true, length, IfOk, IfErr, OnOk};
-ghost use Rattle.plain_map.specs.Pairs.{value_of, with_pair, without_key};
-ghost use Rattle.map_calls.specs.Maps.{Deletes};
+ghost use Rattle.plain_map.specs.Pairs.{value_of};
+ghost use Rattle.map_calls.specs.Maps.{Puts, Deletes};
 ghost use Rattle.map_calls.specs.Views.{GoesOn, Fails, StaysShut, Tries};
 ghost use Rattle.stored_map.specs.Stores.{IsKept, Releases, HasOwnLimits, view_of, leaving, Tell};
 ghost use Rattle.stored_map.specs.Finding.{FindsMap, FindsNoMap};
@@ -85,7 +85,7 @@ impl<D: Disk> StoredMap<D> {
         ensures value { IfOk result (λ value. value ≡ value_of key (view_of D.faults self.old).map.pairs) }
         ensures same { OnOk result ((view_of D.faults self.new).map ≡ (view_of D.faults self.old).map) }
         ensures goes { OnOk result (GoesOn (view_of D.faults self.new) (leaving D.may_leave self.new)) }
-        ensures failed { IfErr result (λ f. Fails f (view_of D.faults self.old) (view_of D.faults self.new) (leaving D.may_leave self.new) (view_of D.faults self.old).map.pairs) }
+        ensures failed { IfErr result (λ f. Fails f (view_of D.faults self.old) (view_of D.faults self.new) (leaving D.may_leave self.new) (λ n. n ≡ (view_of D.faults self.old).map)) }
         ensures later { (view_of D.faults self.old).faults ≤ (view_of D.faults self.new).faults }
     {
         looking::get(&mut self.kept, key)
@@ -97,7 +97,7 @@ impl<D: Disk> StoredMap<D> {
         ensures pairs { IfOk result (λ pairs. pairs.items ≡ (view_of D.faults self.old).map.pairs) }
         ensures same { OnOk result ((view_of D.faults self.new).map ≡ (view_of D.faults self.old).map) }
         ensures goes { OnOk result (GoesOn (view_of D.faults self.new) (leaving D.may_leave self.new)) }
-        ensures failed { IfErr result (λ f. Fails f (view_of D.faults self.old) (view_of D.faults self.new) (leaving D.may_leave self.new) (view_of D.faults self.old).map.pairs) }
+        ensures failed { IfErr result (λ f. Fails f (view_of D.faults self.old) (view_of D.faults self.new) (leaving D.may_leave self.new) (λ n. n ≡ (view_of D.faults self.old).map)) }
         ensures later { (view_of D.faults self.old).faults ≤ (view_of D.faults self.new).faults }
     {
         looking::list(alloc, &mut self.kept)
@@ -110,7 +110,7 @@ impl<D: Disk> StoredMap<D> {
         ensures same { OnOk result ((view_of D.faults self.new).map ≡ (view_of D.faults self.old).map) }
         ensures room { OnOk result ((view_of D.faults self.new).room ≡ (view_of D.faults self.old).room) }
         ensures goes { OnOk result (GoesOn (view_of D.faults self.new) (leaving D.may_leave self.new)) }
-        ensures failed { IfErr result (λ f. Fails f (view_of D.faults self.old) (view_of D.faults self.new) (leaving D.may_leave self.new) (view_of D.faults self.old).map.pairs) }
+        ensures failed { IfErr result (λ f. Fails f (view_of D.faults self.old) (view_of D.faults self.new) (leaving D.may_leave self.new) (λ n. n ≡ (view_of D.faults self.old).map)) }
         ensures later { (view_of D.faults self.old).faults ≤ (view_of D.faults self.new).faults }
     {
         looking::count(self.alloc, &mut self.kept)
@@ -121,7 +121,7 @@ impl<D: Disk> StoredMap<D> {
         requires running { (view_of D.faults self.old).running ≡ true }
         ensures put { IfOk result (λ put. Tries key value put (view_of D.faults self.old) (view_of D.faults self.new)) }
         ensures goes { OnOk result (GoesOn (view_of D.faults self.new) (leaving D.may_leave self.new)) }
-        ensures failed { IfErr result (λ f. Fails f (view_of D.faults self.old) (view_of D.faults self.new) (leaving D.may_leave self.new) (with_pair key value (view_of D.faults self.old).map.pairs)) }
+        ensures failed { IfErr result (λ f. Fails f (view_of D.faults self.old) (view_of D.faults self.new) (leaving D.may_leave self.new) (Puts key value (view_of D.faults self.old).map)) }
         ensures later { (view_of D.faults self.old).faults ≤ (view_of D.faults self.new).faults }
     {
         changing::put(&mut self.kept, key, value)
@@ -133,7 +133,7 @@ impl<D: Disk> StoredMap<D> {
         ensures value { IfOk result (λ value. value ≡ value_of key (view_of D.faults self.old).map.pairs) }
         ensures removed { OnOk result (Deletes key (view_of D.faults self.old).map (view_of D.faults self.new).map) }
         ensures goes { OnOk result (GoesOn (view_of D.faults self.new) (leaving D.may_leave self.new)) }
-        ensures failed { IfErr result (λ f. Fails f (view_of D.faults self.old) (view_of D.faults self.new) (leaving D.may_leave self.new) (without_key key (view_of D.faults self.old).map.pairs)) }
+        ensures failed { IfErr result (λ f. Fails f (view_of D.faults self.old) (view_of D.faults self.new) (leaving D.may_leave self.new) (Deletes key (view_of D.faults self.old).map)) }
         ensures later { (view_of D.faults self.old).faults ≤ (view_of D.faults self.new).faults }
     {
         changing::remove(&mut self.kept, key)
@@ -145,7 +145,7 @@ impl<D: Disk> StoredMap<D> {
         ensures same { OnOk result ((view_of D.faults self.new).map ≡ (view_of D.faults self.old).map) }
         ensures room { OnOk result ((view_of D.faults self.new).room ≡ (view_of D.faults self.new).map.free) }
         ensures goes { OnOk result (GoesOn (view_of D.faults self.new) (leaving D.may_leave self.new)) }
-        ensures failed { IfErr result (λ f. Fails f (view_of D.faults self.old) (view_of D.faults self.new) (leaving D.may_leave self.new) (view_of D.faults self.old).map.pairs) }
+        ensures failed { IfErr result (λ f. Fails f (view_of D.faults self.old) (view_of D.faults self.new) (leaving D.may_leave self.new) (λ n. n ≡ (view_of D.faults self.old).map)) }
         ensures later { (view_of D.faults self.old).faults ≤ (view_of D.faults self.new).faults }
     {
         resting::collect_all(&mut self.kept)

@@ -3,7 +3,6 @@ ghost use Rattle.std.specs.Prelude.{◌≡◌, ◌≤◌, true, IfOk, IfErr, OnO
 ghost use Rattle.disk_model.specs.Told.{EachImage};
 ghost use Rattle.logged_journal.specs.View.{LoggedView};
 ghost use Rattle.map_calls.specs.Views.{GoesOn, Fails};
-ghost use Rattle.plain_map.specs.Pairs.{Pairs};
 ghost use Rattle.object_map.specs.Clients.{seen, state_of, free_ids};
 ghost use Rattle.stored_map.specs.Graphs.{KeepsMap};
 ghost use Rattle.stored_map.specs.Stores.{state_in, IsIdle, IsKept, IsKnown, is_running, view_at, view_of, leaving, OpensToSame};
@@ -22,7 +21,7 @@ use std::mem;
 fn begin_at<D: Disk>(kept: &mut Kept<D>, store: LoneStore<SLOTS, D>) -> Result<Client<D>, Failure>
     requires idle { IsIdle store }
     ensures looked { IfOk result (λ c. IsLooked D.faults (view_at D.faults true store) c) }
-    ensures failed { IfErr result (λ f. (asked : Pairs) → Fails f (view_at D.faults true store) (view_of D.faults kept.new) (leaving D.may_leave kept.new) asked) }
+    ensures failed { IfErr result (λ f. Fails f (view_at D.faults true store) (view_of D.faults kept.new) (leaving D.may_leave kept.new) (λ n. ⊥)) }
     ensures later { OnErr result (D.faults store.disk ≤ (view_of D.faults kept.new).faults) }
     ensures kept { OnErr result (IsKept kept.new) }
 {
@@ -42,7 +41,7 @@ pub(crate) fn begin<D: Disk>(kept: &mut Kept<D>) -> Result<Client<D>, Failure>
     requires kept { IsKept kept.old }
     requires running { is_running kept.old ≡ true }
     ensures looked { IfOk result (λ c. IsLooked D.faults (view_of D.faults kept.old) c) }
-    ensures failed { IfErr result (λ f. (asked : Pairs) → Fails f (view_of D.faults kept.old) (view_of D.faults kept.new) (leaving D.may_leave kept.new) asked) }
+    ensures failed { IfErr result (λ f. Fails f (view_of D.faults kept.old) (view_of D.faults kept.new) (leaving D.may_leave kept.new) (λ n. ⊥)) }
     ensures later { OnErr result ((view_of D.faults kept.old).faults ≤ (view_of D.faults kept.new).faults) }
     ensures kept { OnErr result (IsKept kept.new) }
 {

@@ -1,5 +1,5 @@
 use Rattle.std.proofs.lemmas.Result.{IfOk-weaker, IfErr-weaker}
-use Rattle.plain_map.specs.Pairs.{with_pair}
+use Rattle.map_calls.specs.Maps.{Puts}
 use Rattle.stored_map.specs.Stores.{view_of, leaving}
 use Rattle.map_script.proofs.StoreLemmas.{fails-after, fails-kept, places-again}
 use Rattle.map_script.proofs.placing.place_after_collection.Goals as goal
@@ -12,9 +12,9 @@ returns-in-Ok-clause-placed g c =
 pub returns-in-Ok-clause-failed : goal.returns-in-Ok-clause-failed
 returns-in-Ok-clause-failed g c =
     let view = view_of g.D.Disk.faults in
-    IfErr-weaker c.put.result _ _ (λ f h. fails-after f (view c.args.store.now) (view c.collect.new.self) (view c.put.new.self) (leaving g.D.Disk.may_leave c.put.new.self) (with_pair c.args.key c.args.value) c.in-Ok.ensures.same c.in-Ok.ensures.later h) c.put.ensures.failed
+    IfErr-weaker c.put.result _ _ (λ f h. fails-after f (view c.args.store.now) (view c.collect.new.self) (view c.put.new.self) (leaving g.D.Disk.may_leave c.put.new.self) (Puts c.args.key c.args.value) c.in-Ok.ensures.same c.in-Ok.ensures.later h) c.put.ensures.failed
 
 pub returns-in-Err-clause-failed : goal.returns-in-Err-clause-failed
 returns-in-Err-clause-failed g c =
     let view = view_of g.D.Disk.faults in
-    fails-kept c.in-Err.failure (view c.args.store.now) (view c.collect.new.self) (leaving g.D.Disk.may_leave c.collect.new.self) (with_pair c.args.key c.args.value (view c.args.store.now).map.pairs) c.in-Err.ensures.failed
+    fails-kept c.in-Err.failure (view c.args.store.now) (view c.collect.new.self) (leaving g.D.Disk.may_leave c.collect.new.self) (Puts c.args.key c.args.value (view c.args.store.now).map) c.in-Err.ensures.failed

@@ -4,7 +4,7 @@ use Rattle.stored_map.specs.Stores.{view_of}
 use Rattle.stored_map.proofs.LookLaws.{looked_looks}
 use Rattle.stored_map.proofs.ViewLaws.{looked_keeps, looked_pairs}
 use Rattle.stored_map.proofs.KeptLaws.{counted}
-use Rattle.stored_map.proofs.CallLaws.{looks_done, looks_failed, stops_with}
+use Rattle.stored_map.proofs.CallLaws.{looks_done, looks_failed, looks_unbegun, stops_with}
 use Rattle.stored_map.proofs.looking.count.Goals as goal
 
 pub all_pairs-requires-clause-rooted : goal.all_pairs-requires-clause-rooted
@@ -20,7 +20,7 @@ pub all_pairs-requires-clause-unmarked : goal.all_pairs-requires-clause-unmarked
 all_pairs-requires-clause-unmarked g c κs within = c.in-Ok.ensures.looked.working.at_work.unmarked
 
 pub returns-in-Err-clause-looks : goal.returns-in-Err-clause-looks
-returns-in-Err-clause-looks g c = looks_failed _ _ _ _ _ (c.in-Err.ensures.failed _) c.in-Err.ensures.later
+returns-in-Err-clause-looks g c = looks_unbegun _ _ _ _ _ c.in-Err.ensures.failed c.in-Err.ensures.later
 
 pub returns-in-Ok-all_pairs-clause-looks : goal.returns-in-Ok-all_pairs-clause-looks
 returns-in-Ok-all_pairs-clause-looks g c =
@@ -45,10 +45,10 @@ returns-in-Ok-all_pairs-clause-kept g c =
 pub returns-in-Err-all_pairs-clause-looks : goal.returns-in-Err-all_pairs-clause-looks
 returns-in-Err-all_pairs-clause-looks g c =
     let before = view_of g.D.Disk.faults c.args.kept.now in
-    let s = stops_with g.D.Disk.faults g.D.Disk.may_leave c.in-Err-all_pairs.failure before c.in-Ok.client c.all_pairs.new.client c.stop.new.kept before.map.pairs c.in-Ok.ensures.looked.working c.in-Err-all_pairs.ensures.refused c.stop.ensures.kept c.stop.ensures.left in
+    let s = stops_with g.D.Disk.faults g.D.Disk.may_leave c.in-Err-all_pairs.failure before c.in-Ok.client c.all_pairs.new.client c.stop.new.kept (λ n. n ≡ before.map) c.in-Ok.ensures.looked.working c.in-Err-all_pairs.ensures.refused c.stop.ensures.kept c.stop.ensures.left in
     looks_failed _ _ _ _ _ s.fails s.later
 
 pub returns-in-Err-all_pairs-clause-kept : goal.returns-in-Err-all_pairs-clause-kept
 returns-in-Err-all_pairs-clause-kept g c =
     let before = view_of g.D.Disk.faults c.args.kept.now in
-    (stops_with g.D.Disk.faults g.D.Disk.may_leave c.in-Err-all_pairs.failure before c.in-Ok.client c.all_pairs.new.client c.stop.new.kept before.map.pairs c.in-Ok.ensures.looked.working c.in-Err-all_pairs.ensures.refused c.stop.ensures.kept c.stop.ensures.left).is_kept
+    (stops_with g.D.Disk.faults g.D.Disk.may_leave c.in-Err-all_pairs.failure before c.in-Ok.client c.all_pairs.new.client c.stop.new.kept (λ n. n ≡ before.map) c.in-Ok.ensures.looked.working c.in-Err-all_pairs.ensures.refused c.stop.ensures.kept c.stop.ensures.left).is_kept

@@ -1,7 +1,6 @@
 use Rattle.std.proofs.Common.{sym, subst, ◌∙◌, ◌≤◌}
 use Rattle.std.specs.Prelude.{IfOk, IfErr, OnErr}
 use Rattle.map_calls.specs.Views.{Fails}
-use Rattle.plain_map.specs.Pairs.{Pairs}
 use Rattle.object_map.specs.Clients.{ClientView}
 use Rattle.stored_map.specs.declared.kept.Kept.{Kept}
 use Rattle.stored_map.specs.Stores.{view_of, leaving}
@@ -36,7 +35,7 @@ returns-in-Idle-clause-looked g c =
 
 pub returns-in-Idle-clause-failed : goal.returns-in-Idle-clause-failed
 returns-in-Idle-clause-failed g c =
-    subst (λ (k : Kept _). IfErr c.begin_at.result (λ f. (asked : Pairs) → Fails f (view_of g.D.Disk.faults k) (view_of g.D.Disk.faults c.begin_at.new.kept) (leaving g.D.Disk.may_leave c.begin_at.new.kept) asked)) (sym c.in-Idle.is ∙ c.replace.ensures.value) c.begin_at.ensures.failed
+    subst (λ (k : Kept _). IfErr c.begin_at.result (λ f. Fails f (view_of g.D.Disk.faults k) (view_of g.D.Disk.faults c.begin_at.new.kept) (leaving g.D.Disk.may_leave c.begin_at.new.kept) (λ n. ⊥))) (sym c.in-Idle.is ∙ c.replace.ensures.value) c.begin_at.ensures.failed
 
 pub returns-in-Idle-clause-later : goal.returns-in-Idle-clause-later
 returns-in-Idle-clause-later g c =

@@ -1,4 +1,4 @@
-use Rattle.std.proofs.Common.{[], true, sym, subst}
+use Rattle.std.proofs.Common.{true, sym, subst}
 use Rattle.object_map.specs.Clients.{ClientView}
 use Rattle.stored_map.specs.Stores.{view_at}
 use Rattle.stored_map.specs.Steps.{IsLooked}
@@ -22,10 +22,10 @@ returns-in-Ok-clause-looked g c =
     (begun_looked g.D.Disk.faults c.args.store c.begin.new.store c.requires.idle e.stays e.begun.client.alone.sound.committed e.begun.unmarked e.begun.rooted e.begun.same e.free)
 
 pub returns-in-Err-clause-failed : goal.returns-in-Err-clause-failed
-returns-in-Err-clause-failed g c asked = (begin_stops g.D.Disk.faults g.D.Disk.may_leave c.in-Err.failure c.args.store c.begin.new.store c.requires.idle c.in-Err.ensures.refused c.know_left.ensures.known c.know_left.ensures.left asked).fails
+returns-in-Err-clause-failed g c = (begin_stops g.D.Disk.faults g.D.Disk.may_leave c.in-Err.failure c.args.store c.begin.new.store c.requires.idle c.in-Err.ensures.refused c.know_left.ensures.known c.know_left.ensures.left).fails
 
 pub returns-in-Err-clause-later : goal.returns-in-Err-clause-later
-returns-in-Err-clause-later g c = (begin_stops g.D.Disk.faults g.D.Disk.may_leave c.in-Err.failure c.args.store c.begin.new.store c.requires.idle c.in-Err.ensures.refused c.know_left.ensures.known c.know_left.ensures.left []).later
+returns-in-Err-clause-later g c = (begin_stops g.D.Disk.faults g.D.Disk.may_leave c.in-Err.failure c.args.store c.begin.new.store c.requires.idle c.in-Err.ensures.refused c.know_left.ensures.known c.know_left.ensures.left).later
 
 pub returns-in-Err-clause-kept : goal.returns-in-Err-clause-kept
-returns-in-Err-clause-kept g c = (begin_stops g.D.Disk.faults g.D.Disk.may_leave c.in-Err.failure c.args.store c.begin.new.store c.requires.idle c.in-Err.ensures.refused c.know_left.ensures.known c.know_left.ensures.left []).is_kept
+returns-in-Err-clause-kept g c = (begin_stops g.D.Disk.faults g.D.Disk.may_leave c.in-Err.failure c.args.store c.begin.new.store c.requires.idle c.in-Err.ensures.refused c.know_left.ensures.known c.know_left.ensures.left).is_kept

@@ -40,7 +40,7 @@ returns-in-Ok-clause-kept g c =
 pub returns-in-Err-clause-failed : goal.returns-in-Err-clause-failed
 returns-in-Err-clause-failed g c =
     let lost = subst (λ (u : LoggedView _). LosesCommit g.D.Disk.faults c.in-Err.failure u c.commit.new.store) c.into_store-store.ensures.store c.in-Err.ensures.lost in
-    (c.commit.new.store, refl, fails_on g.D.Disk.faults g.D.Disk.may_leave c.args.client c.commit.new.store c.requires.at_work.number c.into_store-store.ensures.client c.requires.at_work.unmarked c.in-Err.failure lost c.know_left-in-Err.ensures.left c.know_left-in-Err.ensures.either)
+    (c.commit.new.store, refl, fails_on g.D.Disk.faults g.D.Disk.may_leave c.args.client c.commit.new.store c.requires.at_work.number c.into_store-store.ensures.client c.requires.at_work.unmarked c.in-Err.failure c.know_left-in-Err.ensures.known lost c.know_left-in-Err.ensures.left c.know_left-in-Err.ensures.either)
 
 pub returns-in-Err-clause-later : goal.returns-in-Err-clause-later
 returns-in-Err-clause-later g c = subst (λ (u : LoggedView _). g.D.Disk.faults u.disk ≤ g.D.Disk.faults c.commit.new.store.disk) c.into_store-store.ensures.store c.commit.ensures.later

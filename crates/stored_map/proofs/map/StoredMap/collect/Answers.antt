@@ -25,7 +25,7 @@ pub returns-clause-goes : goal.returns-clause-goes
 returns-clause-goes g c = c.collect_all.ensures.looks.goes
 
 pub returns-clause-failed : goal.returns-clause-failed
-returns-clause-failed g c = subst (λ (k : Kept _). IfErr c.collect_all.result (λ f. Fails f (view_of g.D.Disk.faults k) (view_of g.D.Disk.faults c.collect_all.new.kept) (leaving g.D.Disk.may_leave c.collect_all.new.kept) (view_of g.D.Disk.faults k).map.pairs)) c.self.view_is c.collect_all.ensures.looks.failed
+returns-clause-failed g c = subst (λ (k : Kept _). IfErr c.collect_all.result (λ f. Fails f (view_of g.D.Disk.faults k) (view_of g.D.Disk.faults c.collect_all.new.kept) (leaving g.D.Disk.may_leave c.collect_all.new.kept) (λ n. n ≡ (view_of g.D.Disk.faults k).map))) c.self.view_is c.collect_all.ensures.looks.failed
 
 pub returns-clause-later : goal.returns-clause-later
 returns-clause-later g c = subst (λ (k : Kept _). (view_of g.D.Disk.faults k).faults ≤ (view_of g.D.Disk.faults c.collect_all.new.kept).faults) c.self.view_is c.collect_all.ensures.looks.later

@@ -26,7 +26,7 @@ pub returns-clause-goes : goal.returns-clause-goes
 returns-clause-goes g c = c.get.ensures.looks.goes
 
 pub returns-clause-failed : goal.returns-clause-failed
-returns-clause-failed g c = subst (λ (k : Kept _). IfErr c.get.result (λ f. Fails f (view_of g.D.Disk.faults k) (view_of g.D.Disk.faults c.get.new.kept) (leaving g.D.Disk.may_leave c.get.new.kept) (view_of g.D.Disk.faults k).map.pairs)) c.self.view_is c.get.ensures.looks.failed
+returns-clause-failed g c = subst (λ (k : Kept _). IfErr c.get.result (λ f. Fails f (view_of g.D.Disk.faults k) (view_of g.D.Disk.faults c.get.new.kept) (leaving g.D.Disk.may_leave c.get.new.kept) (λ n. n ≡ (view_of g.D.Disk.faults k).map))) c.self.view_is c.get.ensures.looks.failed
 
 pub returns-clause-later : goal.returns-clause-later
 returns-clause-later g c = subst (λ (k : Kept _). (view_of g.D.Disk.faults k).faults ≤ (view_of g.D.Disk.faults c.get.new.kept).faults) c.self.view_is c.get.ensures.looks.later

@@ -28,7 +28,7 @@ pub returns-clause-goes : goal.returns-clause-goes
 returns-clause-goes g c = c.count.ensures.looks.goes
 
 pub returns-clause-failed : goal.returns-clause-failed
-returns-clause-failed g c = subst (λ (k : Kept _). IfErr c.count.result (λ f. Fails f (view_of g.D.Disk.faults k) (view_of g.D.Disk.faults c.count.new.kept) (leaving g.D.Disk.may_leave c.count.new.kept) (view_of g.D.Disk.faults k).map.pairs)) c.self.view_is c.count.ensures.looks.failed
+returns-clause-failed g c = subst (λ (k : Kept _). IfErr c.count.result (λ f. Fails f (view_of g.D.Disk.faults k) (view_of g.D.Disk.faults c.count.new.kept) (leaving g.D.Disk.may_leave c.count.new.kept) (λ n. n ≡ (view_of g.D.Disk.faults k).map))) c.self.view_is c.count.ensures.looks.failed
 
 pub returns-clause-later : goal.returns-clause-later
 returns-clause-later g c = subst (λ (k : Kept _). (view_of g.D.Disk.faults k).faults ≤ (view_of g.D.Disk.faults c.count.new.kept).faults) c.self.view_is c.count.ensures.looks.later

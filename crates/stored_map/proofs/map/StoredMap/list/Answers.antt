@@ -25,7 +25,7 @@ pub returns-clause-goes : goal.returns-clause-goes
 returns-clause-goes g c = c.list.ensures.looks.goes
 
 pub returns-clause-failed : goal.returns-clause-failed
-returns-clause-failed g c = subst (λ (k : Kept _). IfErr c.list.result (λ f. Fails f (view_of g.D.Disk.faults k) (view_of g.D.Disk.faults c.list.new.kept) (leaving g.D.Disk.may_leave c.list.new.kept) (view_of g.D.Disk.faults k).map.pairs)) c.self.view_is c.list.ensures.looks.failed
+returns-clause-failed g c = subst (λ (k : Kept _). IfErr c.list.result (λ f. Fails f (view_of g.D.Disk.faults k) (view_of g.D.Disk.faults c.list.new.kept) (leaving g.D.Disk.may_leave c.list.new.kept) (λ n. n ≡ (view_of g.D.Disk.faults k).map))) c.self.view_is c.list.ensures.looks.failed
 
 pub returns-clause-later : goal.returns-clause-later
 returns-clause-later g c = subst (λ (k : Kept _). (view_of g.D.Disk.faults k).faults ≤ (view_of g.D.Disk.faults c.list.new.kept).faults) c.self.view_is c.list.ensures.looks.later

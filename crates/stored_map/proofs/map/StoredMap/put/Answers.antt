@@ -1,6 +1,6 @@
 use Rattle.std.proofs.Common.{◌≡◌, true, sym, subst}
 use Rattle.std.specs.Prelude.{◌≤◌, IfOk, IfErr}
-use Rattle.plain_map.specs.Pairs.{with_pair}
+use Rattle.map_calls.specs.Maps.{Puts}
 use Rattle.map_calls.specs.Views.{Fails, Tries}
 use Rattle.stored_map.specs.declared.kept.Kept.{Kept}
 use Rattle.stored_map.specs.Stores.{view_of, leaving}
@@ -23,7 +23,7 @@ pub returns-clause-goes : goal.returns-clause-goes
 returns-clause-goes g c = c.put.ensures.puts.goes
 
 pub returns-clause-failed : goal.returns-clause-failed
-returns-clause-failed g c = subst (λ (k : Kept _). IfErr c.put.result (λ f. Fails f (view_of g.D.Disk.faults k) (view_of g.D.Disk.faults c.put.new.kept) (leaving g.D.Disk.may_leave c.put.new.kept) (with_pair c.args.key c.args.value (view_of g.D.Disk.faults k).map.pairs))) c.self.view_is c.put.ensures.puts.failed
+returns-clause-failed g c = subst (λ (k : Kept _). IfErr c.put.result (λ f. Fails f (view_of g.D.Disk.faults k) (view_of g.D.Disk.faults c.put.new.kept) (leaving g.D.Disk.may_leave c.put.new.kept) (Puts c.args.key c.args.value (view_of g.D.Disk.faults k).map))) c.self.view_is c.put.ensures.puts.failed
 
 pub returns-clause-later : goal.returns-clause-later
 returns-clause-later g c = subst (λ (k : Kept _). (view_of g.D.Disk.faults k).faults ≤ (view_of g.D.Disk.faults c.put.new.kept).faults) c.self.view_is c.put.ensures.puts.later

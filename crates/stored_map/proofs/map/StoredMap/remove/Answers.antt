@@ -1,6 +1,6 @@
 use Rattle.std.proofs.Common.{◌≡◌, true, sym, subst}
 use Rattle.std.specs.Prelude.{◌≤◌, IfOk, IfErr, OnOk}
-use Rattle.plain_map.specs.Pairs.{value_of, without_key}
+use Rattle.plain_map.specs.Pairs.{value_of}
 use Rattle.map_calls.specs.Maps.{Deletes}
 use Rattle.map_calls.specs.Views.{Fails}
 use Rattle.stored_map.specs.declared.kept.Kept.{Kept}
@@ -27,7 +27,7 @@ pub returns-clause-goes : goal.returns-clause-goes
 returns-clause-goes g c = c.remove.ensures.removes.goes
 
 pub returns-clause-failed : goal.returns-clause-failed
-returns-clause-failed g c = subst (λ (k : Kept _). IfErr c.remove.result (λ f. Fails f (view_of g.D.Disk.faults k) (view_of g.D.Disk.faults c.remove.new.kept) (leaving g.D.Disk.may_leave c.remove.new.kept) (without_key c.args.key (view_of g.D.Disk.faults k).map.pairs))) c.self.view_is c.remove.ensures.removes.failed
+returns-clause-failed g c = subst (λ (k : Kept _). IfErr c.remove.result (λ f. Fails f (view_of g.D.Disk.faults k) (view_of g.D.Disk.faults c.remove.new.kept) (leaving g.D.Disk.may_leave c.remove.new.kept) (Deletes c.args.key (view_of g.D.Disk.faults k).map))) c.self.view_is c.remove.ensures.removes.failed
 
 pub returns-clause-later : goal.returns-clause-later
 returns-clause-later g c = subst (λ (k : Kept _). (view_of g.D.Disk.faults k).faults ≤ (view_of g.D.Disk.faults c.remove.new.kept).faults) c.self.view_is c.remove.ensures.removes.later
