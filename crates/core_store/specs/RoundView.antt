@@ -65,11 +65,12 @@ asked_by_walk red.Verdict = Judge
 abbrev pub asked_by_test : ℕ → Test → RoundAt → RoundAt
 asked_by_test slots t over = if t.slot == slots then over else TestOf t.id t.slot
 
--- what a seed and a slot of a green object ask for, with the test that is in hand there, if one is
+-- what a seed asks for, with the test that is in hand there, if one is
 abbrev pub asked_at_seed : ℕ → ℕ → Option Test → RoundAt
 asked_at_seed slots id None = Seed id
 asked_at_seed slots id (Some t) = asked_by_test slots t (Flip id)
 
+-- what a slot of a green object asks for, with the test that is in hand there, if one is
 abbrev pub asked_at_slot : ℕ → ℕ → ℕ → Option Test → RoundAt
 asked_at_slot slots «from» slot None = Out «from» slot
 asked_at_slot slots «from» slot (Some t) = asked_by_test slots t (Strengthen «from» slot t.id)

@@ -46,6 +46,7 @@ bytes_at (at.Free id) = 5
 bytes_at (at.Flip id) = 5
 bytes_at _ = 0
 
+-- how many bytes the event that the collector makes next adds to the log at most
 abbrev pub bytes_to_collect : RoundView → ℕ
 bytes_to_collect round = bytes_at (asked round)
 

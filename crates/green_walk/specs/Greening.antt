@@ -284,6 +284,7 @@ work_at g AtSeed = length g.seeds * seed_work g - test_work g.test
 work_at g (AtInto flipped rest) = length (drop 1 g.seeds) * seed_work g + (length rest + 2 + walk_work g)
 work_at g (AtOut place slot) = length (drop 1 g.seeds) * seed_work g + (1 + (length g.live * g.slots - (place * g.slots + slot)) * (g.slots + 2) - test_work g.test)
 
+-- how much work the walk has left at most, where it stands
 abbrev pub work_left : Greening → ℕ
 work_left g = work_at g g.stage
 

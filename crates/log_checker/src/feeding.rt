@@ -40,6 +40,26 @@ fn take_of_any_kind<const SLOTS: usize>(
     }
 }
 
+/// Does the next record of a batch to the base and to the tally, where it is none of single cells. Tells whether there was one: behind
+/// the last one it moves no page either.
+#[inline(always)]
+fn take_other<const SLOTS: usize>(
+    replay: &mut Replay<SLOTS>,
+    tally: &mut Tally<SLOTS>,
+    records: &mut Records<SLOTS>,
+) -> Result<bool, FeedRefusal>
+    requires count { IsSlotCount SLOTS }
+    requires beside { IsBeside replay.old tally.old records.old }
+    ensures took { result ≡ Ok true → TakesBoth SLOTS replay.old replay.new tally.old tally.new records.old records.new }
+    ensures none { result ≡ Ok false → HasNone SLOTS records.old × (replay.new ≡ replay.old) × (tally.new ≡ tally.old) }
+    ensures damaged { (at : ℕ) → IsErrOf result (Damaged at) → StopsNext SLOTS replay.old records.old at }
+{
+    if records.is_empty() {
+        return Ok(false);
+    }
+    take_of_any_kind(replay, tally, records)
+}
+
 /// Does the next record of a batch to the base and to the tally. Tells whether there was one. Most are of single cells, and for these it
 /// moves no page.
 #[inline(always)]
@@ -66,7 +86,7 @@ fn take_next<const SLOTS: usize>(
                 Err(_) => Err(FeedRefusal::Memory),
             }
         }
-        None => take_of_any_kind(replay, tally, records),
+        None => take_other(replay, tally, records),
     }
 }
 

@@ -11,7 +11,7 @@ use Rattle.restart_laws.specs.Local.{effect, FitsAt, is_in_page, cell_in}
 use Rattle.cell_page.specs.declared.cell.Cell.{Cell}
 use Rattle.cell_page.specs.Stored.{cell_of}
 use Rattle.log_replay.specs.Replays.{is_skipped, FitsUnskippedCells, each_after, after_cells, after_image}
-use Rattle.log_replay.specs.Steps.{FitsCell, AreConcerned}
+use Rattle.log_replay.specs.Steps.{FitsCell, AreConcerned, IsUnconcerned}
 use Rattle.log_replay.specs.declared.concerned.ThreeIds.{ThreeIds}
 
 pub same_or_apart : (p q : ℕ) → (p ≡ q) ⊎ (p ≢ q)
@@ -71,6 +71,11 @@ kept-after_cells slots skips r x c e = by ((x == 0) || is_skipped skips x)
     by : (b : Bool) → (if b then c else effect slots r x c) ≡ c
     by true = refl
     by false = e
+
+-- a record that concerns no cell leaves all as they are
+pub alone_after : (slots : ℕ) (skips : List ℕ) (r : StoredRecord) (cells : List StoredCell) → ((x : ℕ) → IsUnconcerned slots r x) → cells ≡ each_after (after_cells slots skips r) cells
+alone_after slots skips r cells alone =
+    is-each_after (after_cells slots skips r) cells cells refl (λ (x : ℕ) (below : x < length cells). sym (kept-after_cells slots skips r x (cell_at cells x) (alone x (cell_at cells x)).1))
 
 -- three steps are the whole record
 pub three-done : (slots : ℕ) (skips : List ℕ) (r : StoredRecord) (ids : ThreeIds) (cells : List StoredCell) → AreConcerned slots r ids → ids.own < length cells → ids.«from» < length cells → ids.to < length cells

@@ -22,10 +22,8 @@ impl<const SLOTS: usize> Replay<SLOTS> {
         ensures yes { result ≡ true → FitsAt (record_of r.now) id (cell_at self.now.cells id) }
         ensures unless { result ≡ false → FitsAt (record_of r.now) id (cell_at self.now.cells id) → ⊥ }
     {
-        match cell_steps::step(r, self.pages.get(id)) {
-            Some(_) => true,
-            None => false,
-        }
+        let mut next = *self.pages.get(id);
+        cell_steps::step(r, &mut next)
     }
 
     /// Whether the record fits the cell of an id, which may be 0 for none, unless an image of its page is still to come.

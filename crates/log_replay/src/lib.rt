@@ -3,6 +3,7 @@
 #![tactic(auto)]
 
 mod cell_steps;
+mod cell_tests;
 mod cells;
 mod change;
 mod concerned;

@@ -1,6 +1,6 @@
 //! The replay of a log.
 
-ghost use Rattle.std.specs.Prelude.{◌≡◌, ◌≢◌, ◌↔◌, ◌+◌, ◌*◌, ◌<◌, ◌≤◌, [], true, Err, length, OnOk, OnErr};
+ghost use Rattle.std.specs.Prelude.{◌≡◌, ◌≢◌, ◌↔◌, ◌+◌, ◌*◌, ◌<◌, ◌≤◌, ℕ, [], true, Err, length, OnOk, OnErr};
 ghost use Rattle.cell_page.specs.Format.{IsSlotCount, IsPage};
 ghost use Rattle.cell_model.specs.Cells.{cell_at};
 ghost use Rattle.cell_page.specs.Stored.{HoldsPage};
@@ -11,7 +11,7 @@ ghost use Rattle.restart_laws.specs.Local.{FitsAt};
 ghost use Rattle.restart_laws.specs.Unended.{FitsUnended};
 ghost use Rattle.log_replay.specs.Inside.{cells_of_pages, AreStorePages};
 ghost use Rattle.log_replay.specs.Replays.{IsReplaying, IsWithin, is_skipped, NotesNothing, FitsUnskippedCells, FitsReplay, after_taking};
-ghost use Rattle.log_replay.specs.Steps.{FitsCell, changed_in, effect_at, with_cells_after, taken_of_cells, taken_image};
+ghost use Rattle.log_replay.specs.Steps.{FitsCell, IsUnconcerned, changed_in, effect_at, with_cells_after, taken_of_cells, taken_image};
 ghost use Rattle.log_replay.specs.declared.refusals.TakeRefusal.TheVariants.{Unfit};
 
 use crate::concerned::concerned;
@@ -20,7 +20,7 @@ use crate::refusals::TakeRefusal;
 use crate::transactions::Transactions;
 use crate::{cell_steps, unended};
 use cell_page::{CELLS_OF_PAGE, Page, page_of};
-use log_record::{CellRecord, Record};
+use log_record::{CellRecord, PayloadChange, Record};
 use std::alloc::Global;
 use std::marker::Model;
 
@@ -84,6 +84,7 @@ impl<const SLOTS: usize> Replay<SLOTS> {
     }
 
     /// Takes the next record of the log, which is one of single cells, as [`Replay::take`] does.
+    #[inline(always)]
     pub fn take_of_cells(&mut self, r: &CellRecord) -> Result<(), TakeRefusal>
         requires { HasCellSpelling SLOTS r.now }
         ensures ok { OnOk result (self.new ≡ after_taking {slots = SLOTS} (OfCells r.now) self.old) }
@@ -92,11 +93,52 @@ impl<const SLOTS: usize> Replay<SLOTS> {
         // `Unfit` is the answer exactly where the record doesn't fit.
         ensures unfit { (result ≢ Err Unfit) ↔ FitsReplay {slots = SLOTS} self.old (OfCells r.now) }
     {
+        match *r {
+            CellRecord::Begin { .. } | CellRecord::Commit { .. } | CellRecord::AbortEnd { .. } => {
+                self.take_alone(r)
+            }
+            CellRecord::Pay {
+                pass,
+                id,
+                old_value,
+                new_value,
+            } => self.take_change(PayloadChange {
+                pass,
+                id,
+                old_value,
+                new_value,
+            }),
+            _ => self.take_in_cells(r),
+        }
+    }
+
+    /// Takes the next record of the log, which is one of single cells, and may concern some.
+    #[inline(always)]
+    fn take_in_cells(&mut self, r: &CellRecord) -> Result<(), TakeRefusal>
+        requires { HasCellSpelling SLOTS r.now }
+        ensures ok { OnOk result (self.new ≡ after_taking {slots = SLOTS} (OfCells r.now) self.old) }
+        ensures err { OnErr result (self.new ≡ self.old) }
+        ensures unfit { (result ≢ Err Unfit) ↔ FitsReplay {slots = SLOTS} self.old (OfCells r.now) }
+    {
         let _few = self.ids();
         if !self.fits(r) {
             return Err(TakeRefusal::Unfit);
         }
         self.take_fitting(r)
+    }
+
+    /// Takes a record that concerns no cell. An error changes nothing.
+    #[tactic(auto, using(crate::proofs::PlacedLaws::placed_after, crate::proofs::TakenLaws::alone_after))]
+    #[inline(always)]
+    fn take_alone(&mut self, r: &CellRecord) -> Result<(), TakeRefusal>
+        requires spelled { HasCellSpelling SLOTS r.now }
+        requires alone { (x : ℕ) → IsUnconcerned SLOTS (record_of r.now) x }
+        requires within { IsWithin (8 * length self.old.skips) r.now }
+        ensures ok { OnOk result (self.new ≡ taken_of_cells SLOTS (record_of r.now) self.old) }
+        ensures err { OnErr result (self.new ≡ self.old) }
+        ensures unfit { (result ≢ Err Unfit) ↔ FitsUnended self.old.unended (record_of r.now) }
+    {
+        unended::take(&mut self.unended, self.alloc, r)
     }
 
     /// The greatest id.
@@ -190,7 +232,8 @@ impl<const SLOTS: usize> Replay<SLOTS> {
         requires fits { FitsAt (record_of r.now) id (cell_at self.old.cells id) }
         ensures { self.new ≡ effect_at SLOTS (record_of r.now) id self.old }
     {
-        if let Some(next) = cell_steps::step(r, self.pages.get(id)) {
+        let mut next = *self.pages.get(id);
+        if cell_steps::step(r, &mut next) {
             self.pages.put(&next);
         }
     }

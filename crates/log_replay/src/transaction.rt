@@ -40,7 +40,7 @@ impl Model for Transaction {
 }
 
 /// For so many writes a transaction takes memory once.
-const ROOM: usize = 64;
+const ROOM: usize = 40;
 
 impl Transaction {
     /// It changed nothing yet.

@@ -11,7 +11,7 @@ ghost use Rattle.log_replay.specs.Placed.{IsStoreChange};
 ghost use Rattle.log_replay.specs.Replays.{IsWithin, NotesNothing};
 ghost use Rattle.log_replay.specs.Steps.{change_by};
 
-use crate::cell_steps::target_in;
+use crate::cell_tests::target_in;
 use crate::pages::Pages;
 use crate::transaction::Write;
 use log_record::{CellRecord, PAYLOAD_PLACE};

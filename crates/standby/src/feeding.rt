@@ -30,6 +30,24 @@ fn take_of_any_kind<const SLOTS: usize>(
     }
 }
 
+/// Does the next record of a batch to the base, where it is none of single cells. Tells whether there was one: behind the last one
+/// it moves no page either.
+#[inline(always)]
+fn take_other<const SLOTS: usize>(
+    replay: &mut Replay<SLOTS>,
+    records: &mut Records<SLOTS>,
+) -> Result<bool, FeedRefusal>
+    requires count { IsSlotCount SLOTS }
+    ensures took { result ≡ Ok true → TakesNext SLOTS replay.old replay.new records.old records.new }
+    ensures none { result ≡ Ok false → HasNone SLOTS records.old × (replay.new ≡ replay.old) }
+    ensures damaged { (at : ℕ) → IsErrOf result (Damaged at) → StopsNext SLOTS replay.old records.old at }
+{
+    if records.is_empty() {
+        return Ok(false);
+    }
+    take_of_any_kind(replay, records)
+}
+
 /// Does the next record of a batch to the base. Tells whether there was one. Most are of single cells, and for these it moves no page.
 #[inline(always)]
 fn take_next<const SLOTS: usize>(
@@ -47,7 +65,7 @@ fn take_next<const SLOTS: usize>(
             Err(TakeRefusal::Unfit) => Err(FeedRefusal::Damaged { at }),
             Err(TakeRefusal::Memory) => Err(FeedRefusal::Memory),
         },
-        None => take_of_any_kind(replay, records),
+        None => take_other(replay, records),
     }
 }
 

@@ -31,5 +31,5 @@ returns-in-Err-Unfit-clause-damaged g c at is =
 
 pub returns-in-None-clause-took : goal.returns-in-None-clause-took
 returns-in-None-clause-took g c is =
-    subst (λ (v : RecordRun). TakesBoth g.row.SLOTS c.args.replay.now c.take_of_any_kind.new.replay c.args.tally.now c.take_of_any_kind.new.tally v c.take_of_any_kind.new.records) c.in-None.ensures.kept
-    (c.take_of_any_kind.ensures.took is)
+    subst (λ (v : RecordRun). TakesBoth g.row.SLOTS c.args.replay.now c.take_other.new.replay c.args.tally.now c.take_other.new.tally v c.take_other.new.records) c.in-None.ensures.kept
+    (c.take_other.ensures.took is)

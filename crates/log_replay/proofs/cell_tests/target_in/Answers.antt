@@ -1,5 +1,5 @@
 use Rattle.log_replay.proofs.StepLaws.{slot_below, slot_target}
-use Rattle.log_replay.proofs.cell_steps.target_in.Goals as goal
+use Rattle.log_replay.proofs.cell_tests.target_in.Goals as goal
 
 pub returns-clause-value : goal.returns-clause-value
 returns-clause-value g c = slot_target c.args.cell.now c.args.slot
