@@ -18,7 +18,7 @@ use Rattle.latch_table.specs.Rule.{Facts, facts_of, AreTold, NoneHas, station_of
 use Rattle.latch_table.specs.Steps.{Mine, renames}
 use Rattle.latch_table.proofs.Frames.{if_same, if_other}
 use Rattle.latch_table.proofs.Kept.{at_length}
-use Rattle.latch_table.proofs.Meets.{met_on}
+use Rattle.latch_table.proofs.Histories.{history_on}
 use Rattle.latch_table.proofs.Pages.{alone}
 use Rattle.latch_table.proofs.Alone.{one_out}
 use Rattle.latch_table.proofs.Stations.{no_true, out_set}
@@ -130,7 +130,7 @@ module _ {E X F J : Type 0} (a : Account E X F J) (key : J) where
             (λ j g e lives. let h = map_at facts_of s.views j g e in alone ss j id h.0.station v.station (at_map station_of s.views j h.0 h.1) (at_map station_of s.views id v at) (ap (λ (z : Facts E). z.0.alive) h.2 ∙ lives) out one)
             (λ j g e m. let h = map_at facts_of s.views j g e in r.ranked.main_one j id h.0.station v.station (at_map station_of s.views j h.0 h.1) (at_map station_of s.views id v at) (ap (λ (z : Facts E). z.0.main) h.2 ∙ m) lone.0)
             (refl, refl));
-        met = met_on r.pages s.views id v w at r.met (λ own. record { page = own.page; log = own.log }) refl refl;
+        happenings = history_on r.pages (slice_index s.words) (slice_index s.words) s.views id v w at r.happenings (λ k low. refl) refl refl;
       }
 
   pub renames_goes : (slots pages id name : ℕ) (me : Mine E X F J) → slots ≡ pages + 1 → me.0.station.alive ≡ true → IsAlone me.0

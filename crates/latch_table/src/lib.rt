@@ -21,4 +21,4 @@ mod view;
 pub use chronicle::Chronicle;
 pub use hold::{Held, Hold};
 pub use table::Latches;
-pub use view::{Hands, Knowledge, Station, Story, View};
+pub use view::{Hands, Happening, Knowledge, Station, Story, View};

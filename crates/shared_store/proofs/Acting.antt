@@ -25,7 +25,8 @@ use Rattle.journal_chronicle.proofs.Goings.{marks-same, marks-disk, stays-goes_o
 use Rattle.journal_chronicle.proofs.Tables.{in-hand, is-next}
 use Rattle.shared_store.specs.declared.refused.Refused.{Refused}
 use Rattle.shared_store.specs.Passes.{Known, IsPass}
-use Rattle.shared_store.specs.Acts.{met_if, Acts, IsToDrop, Takes}
+use Rattle.shared_store.specs.Acts.{Acts, IsToDrop, Takes}
+use Rattle.shared_store.proofs.Meetings.{met_if, as-met}
 use Rattle.shared_store.specs.Holding.{pairs_onto, pairs_of, with_pages, HasJournal}
 use Rattle.shared_store.proofs.Pairs.{with_none, both-false}
 
@@ -55,33 +56,33 @@ within-pages ids (h ∷ hs) (k ∷ ks) same within =
 
 -- ---- a claim that found another
 
-hands-met : {slots : ℕ} (v : Known slots) (found : Option (ℕ × ℕ)) → (met_if v found).hands ≡ v.hands
-hands-met v None = refl
-hands-met v (Some f) = refl
+hands-met : {slots : ℕ} (v : Known slots) (place : ℕ) (found : Option (ℕ × ℕ)) → (met_if v place found).hands ≡ v.hands
+hands-met v place None = refl
+hands-met v place (Some f) = refl
 
-station-met : {slots : ℕ} (v : Known slots) (found : Option (ℕ × ℕ)) → (met_if v found).station ≡ v.station
-station-met v None = refl
-station-met v (Some f) = refl
+station-met : {slots : ℕ} (v : Known slots) (place : ℕ) (found : Option (ℕ × ℕ)) → (met_if v place found).station ≡ v.station
+station-met v place None = refl
+station-met v place (Some f) = refl
 
-seen-met : {slots : ℕ} (v : Known slots) (found : Option (ℕ × ℕ)) → (met_if v found).knowledge.seen ≡ v.knowledge.seen
-seen-met v None = refl
-seen-met v (Some f) = refl
+seen-met : {slots : ℕ} (v : Known slots) (place : ℕ) (found : Option (ℕ × ℕ)) → (met_if v place found).knowledge.seen ≡ v.knowledge.seen
+seen-met v place None = refl
+seen-met v place (Some f) = refl
 
-hand-met : {D : Type 0} (slots : ℕ) (v : Known slots) (found : Option (ℕ × ℕ)) (cs : List (Option ℕ × ℕ)) (ps : List (ℕ × Frame slots)) (j : LoggedView D) → IsInHand (account D slots) v j → IsInHand (account D slots) (met_if (with_pages (with_claims v cs) ps) found) j
-hand-met slots v None cs ps j h = record { fixed = h.fixed; log = h.log }
-hand-met slots v (Some f) cs ps j h = record { fixed = h.fixed; log = h.log }
+hand-met : {D : Type 0} (slots : ℕ) (v : Known slots) (place : ℕ) (found : Option (ℕ × ℕ)) (cs : List (Option ℕ × ℕ)) (ps : List (ℕ × Frame slots)) (j : LoggedView D) → IsInHand (account D slots) v j → IsInHand (account D slots) (met_if (with_pages (with_claims v cs) ps) place found) j
+hand-met slots v place None cs ps j h = record { fixed = h.fixed; log = h.log }
+hand-met slots v place (Some f) cs ps j h = record { fixed = h.fixed; log = h.log }
 
 -- ---- the journal after the work
 
 module _ {D : Type 0} (slots pages : ℕ) (v w : Known slots) (j k : LoggedView D) (held : List (HeldFrame slots)) (marked : Flags) (found : Option (ℕ × ℕ)) (has : HasJournal slots pages v j) where
   act-hand : (entered : Option Entry) → Acts slots v w j k held entered marked found → IsInHand (account D slots) w j
-  act-hand entered a = subst (λ (z : Known slots). IsInHand (account D slots) z j) (sym a.view.1) (hand-met slots v found a.view.0 (pairs_of a.first) j has.in_hand)
+  act-hand entered a = let m = as-met (with_pages (with_claims v a.view.0) (pairs_of a.first)) w found a.view.1 in subst (λ (z : Known slots). IsInHand (account D slots) z j) (sym m.1) (hand-met slots v m.0 found a.view.0 (pairs_of a.first) j has.in_hand)
 
   act-pages : (entered : Option Entry) → (a : Acts slots v w j k held entered marked found) → w.hands.pages ≡ pairs_of a.first
-  act-pages entered a = ap (λ (z : Known slots). z.hands.pages) a.view.1 ∙ ap (λ h. h.pages) (hands-met (with_pages (with_claims v a.view.0) (pairs_of a.first)) found)
+  act-pages entered a = let u : Known slots = with_pages (with_claims v a.view.0) (pairs_of a.first) in let m = as-met u w found a.view.1 in ap (λ (z : Known slots). z.hands.pages) m.1 ∙ ap (λ h. h.pages) (hands-met u m.0 found)
 
   pub act-station : (entered : Option Entry) → Acts slots v w j k held entered marked found → w.station ≡ v.station
-  act-station entered a = ap (λ (z : Known slots). z.station) a.view.1 ∙ station-met (with_pages (with_claims v a.view.0) (pairs_of a.first)) found
+  act-station entered a = let u : Known slots = with_pages (with_claims v a.view.0) (pairs_of a.first) in let m = as-met u w found a.view.1 in ap (λ (z : Known slots). z.station) m.1 ∙ station-met u m.0 found
 
   act-next : (entered : Option Entry) → Acts slots v w j k held entered marked found → IsSome entered → IfSome entered (λ e. (speaker_of e ≡ None) ⊎ (speaker_of e ≡ Some v.station.name)) → IsNext (account D slots) pages w k
   act-next None a some speaks = absurd (cc)
@@ -98,7 +99,7 @@ module _ {D : Type 0} (slots pages : ℕ) (v w : Known slots) (j k : LoggedView 
   to-drop entered b a iff speaks = record {
     first = a.first;
     hands = act-pages entered a;
-    idle = ap (λ (z : Known slots). z.hands.moving) a.view.1 ∙ ap (λ h. h.moving) (hands-met (with_pages (with_claims v a.view.0) (pairs_of a.first)) found);
+    idle = let u : Known slots = with_pages (with_claims v a.view.0) (pairs_of a.first) in let m = as-met u w found a.view.1 in ap (λ (z : Known slots). z.hands.moving) m.1 ∙ ap (λ h. h.moving) (hands-met u m.0 found);
     same = a.pages;
     once = a.once;
     frames = a.frames;
@@ -107,7 +108,7 @@ module _ {D : Type 0} (slots pages : ℕ) (v w : Known slots) (j k : LoggedView 
   }
 
 pub acts-seen : {D : Type 0} (slots : ℕ) (v w : Known slots) (j k : LoggedView D) (held : List (HeldFrame slots)) (entered : Option Entry) (marked : Flags) (found : Option (ℕ × ℕ)) → Acts slots v w j k held entered marked found → w.knowledge.seen ≡ v.knowledge.seen
-acts-seen slots v w j k held entered marked found a = ap (λ (z : Known slots). z.knowledge.seen) a.view.1 ∙ seen-met (with_pages (with_claims v a.view.0) (pairs_of a.first)) found
+acts-seen slots v w j k held entered marked found a = let u : Known slots = with_pages (with_claims v a.view.0) (pairs_of a.first) in let m = as-met u w found a.view.1 in ap (λ (z : Known slots). z.knowledge.seen) m.1 ∙ seen-met u m.0 found
 
 -- ---- how the work may end
 

@@ -12,16 +12,17 @@ use Rattle.core_store.specs.declared.three.HeldFrame.{HeldFrame}
 use Rattle.logged_journal.specs.View.{LoggedView}
 use Rattle.latch_table.specs.declared.view.Station.{Station}
 use Rattle.latch_table.specs.Account.{Marks, Sizes}
-use Rattle.latch_table.specs.Views.{KeepMarks, joined_marks, log_of, log_claimed, log_dropped, met, story, truth_of, with_claims}
+use Rattle.latch_table.specs.Views.{KeepMarks, joined_marks, log_of, log_claimed, log_dropped, story, truth_of, with_claims}
 use Rattle.latch_table.specs.Holds.{HoldView, HasNone, IsAnother}
-use Rattle.latch_table.specs.Rule.{IsLater}
+use Rattle.latch_table.specs.Rule.{HasMet, IsLater, LieBelow}
 use Rattle.latch_table.specs.Steps.{told_of}
 use Rattle.journal_chronicle.specs.Clients.{has_after}
 use Rattle.journal_chronicle.specs.Steps.{Flags}
 use Rattle.journal_chronicle.specs.View.{Origin, account, notes_of, marks_of, sizes_of, has_transaction}
 use Rattle.shared_store.specs.declared.refused.Refused.{Refused}
 use Rattle.shared_store.specs.Passes.{Known, IsPass, AreMarked}
-use Rattle.shared_store.specs.Acts.{met_if, Acts}
+use Rattle.shared_store.specs.Acts.{Acts}
+use Rattle.shared_store.proofs.Meetings.{met_if, as-met}
 use Rattle.shared_store.specs.Calls.{GoesOnAs, Keeps, KeepsNoted}
 use Rattle.shared_store.specs.Holding.{pairs_of, with_pages}
 
@@ -63,23 +64,23 @@ pub record Comes {D : Type 0} {slots : ℕ} (v z : Known slots) (j k : LoggedVie
   pub noted : KeepsNoted v z j k entered
 
 module _ {D : Type 0} (slots : ℕ) (v z : Known slots) (j k : LoggedView D) (cs : List (Option ℕ × ℕ)) (ps : List (ℕ × Frame slots)) where
-  none-entered : (found : Option (ℕ × ℕ)) → notes_of k ≡ notes_of j → z ≡ log_dropped (with_pages (met_if (with_pages (with_claims (log_claimed v (notes_of j) (marks_of j) (sizes_of j)) cs) ps) found) []) (marks_of k) → IfSome found (λ f. IsAnother v f.1) → Comes v z j k None found
-  none-entered None still e other = subst (λ (u : Known slots). Comes v u j k None None) (sym e) (record {
+  none-entered : (place : ℕ) (found : Option (ℕ × ℕ)) → notes_of k ≡ notes_of j → z ≡ log_dropped (with_pages (met_if (with_pages (with_claims (log_claimed v (notes_of j) (marks_of j) (sizes_of j)) cs) ps) place found) []) (marks_of k) → IfSome found (λ f. LieBelow place v.knowledge.meets) → IfSome found (λ f. IsAnother v f.1) → Comes v z j k None found
+  none-entered place None still e below other = subst (λ (u : Known slots). Comes v u j k None None) (sym e) (record {
     goes = record { station = refl; none = (refl, refl); fixed = refl; peeks = refl; marks = within-joined v.knowledge.marks (marks_of k); entries = record { kept = refl; seen = refl; has = refl }; meets = refl };
     marks = refl;
     stories = refl;
     noted = still;
   })
-  none-entered (Some f) still e other = subst (λ (u : Known slots). Comes v u j k None (Some f)) (sym e) (record {
-    goes = record { station = refl; none = (refl, refl); fixed = refl; peeks = refl; marks = within-joined v.knowledge.marks (marks_of k); entries = record { kept = refl; seen = refl; has = refl }; meets = (refl, other) };
+  none-entered place (Some f) still e below other = subst (λ (u : Known slots). Comes v u j k None (Some f)) (sym e) (record {
+    goes = record { station = refl; none = (refl, refl); fixed = refl; peeks = refl; marks = within-joined v.knowledge.marks (marks_of k); entries = record { kept = refl; seen = refl; has = refl }; meets = ((place, below, refl), other) };
     marks = refl;
     stories = refl;
     noted = still;
   })
 
-  some-entered : (found : Option (ℕ × ℕ)) (note : Note) (entry : Entry) → note.entry ≡ entry → notes_of k ≡ notes_of j ++ note ∷ [] → IsLater (account D slots) v j
-      → z ≡ log_dropped (with_pages (told_of (account D slots) (met_if (with_pages (with_claims (log_claimed v (notes_of j) (marks_of j) (sizes_of j)) cs) ps) found) k note) []) (marks_of k) → IfSome found (λ f. IsAnother v f.1) → Comes v z j k (Some entry) found
-  some-entered None note entry of more later e other = subst (λ (u : Known slots). Comes v u j k (Some entry) None) (sym e) (record {
+  some-entered : (place : ℕ) (found : Option (ℕ × ℕ)) (note : Note) (entry : Entry) → note.entry ≡ entry → notes_of k ≡ notes_of j ++ note ∷ [] → IsLater (account D slots) v j
+      → z ≡ log_dropped (with_pages (told_of (account D slots) (met_if (with_pages (with_claims (log_claimed v (notes_of j) (marks_of j) (sizes_of j)) cs) ps) place found) k note) []) (marks_of k) → IfSome found (λ f. LieBelow place v.knowledge.meets) → IfSome found (λ f. IsAnother v f.1) → Comes v z j k (Some entry) found
+  some-entered place None note entry of more later e below other = subst (λ (u : Known slots). Comes v u j k (Some entry) None) (sym e) (record {
     goes = record {
       station = refl;
       none = (refl, refl);
@@ -93,7 +94,7 @@ module _ {D : Type 0} (slots : ℕ) (v z : Known slots) (j k : LoggedView D) (cs
     stories = refl;
     noted = (note, more, refl);
   })
-  some-entered (Some f) note entry of more later e other = subst (λ (u : Known slots). Comes v u j k (Some entry) (Some f)) (sym e) (record {
+  some-entered place (Some f) note entry of more later e below other = subst (λ (u : Known slots). Comes v u j k (Some entry) (Some f)) (sym e) (record {
     goes = record {
       station = refl;
       none = (refl, refl);
@@ -101,16 +102,16 @@ module _ {D : Type 0} (slots : ℕ) (v z : Known slots) (j k : LoggedView D) (cs
       peeks = refl;
       marks = within-joined v.knowledge.marks (marks_of k);
       entries = record { note = note; of_entry = of; before = notes_of j; later = later.seen; kept = refl; seen = refl; had = later.truth; has = ap (λ (ns : List Note). has_transaction ns v.station.name) more };
-      meets = (refl, other);
+      meets = ((place, below, refl), other);
     };
     marks = refl;
     stories = refl;
     noted = (note, more, refl);
   })
 
-log-met : {slots : ℕ} (v : Known slots) (ns : List Note) (m : Marks) (s : Sizes) (cs : List (Option ℕ × ℕ)) (ps : List (ℕ × Frame slots)) (found : Option (ℕ × ℕ)) → log_of (met_if (with_pages (with_claims (log_claimed v ns m s) cs) ps) found) ≡ ns
-log-met v ns m s cs ps None = refl
-log-met v ns m s cs ps (Some f) = refl
+log-met : {slots : ℕ} (v : Known slots) (ns : List Note) (m : Marks) (s : Sizes) (cs : List (Option ℕ × ℕ)) (ps : List (ℕ × Frame slots)) (place : ℕ) (found : Option (ℕ × ℕ)) → log_of (met_if (with_pages (with_claims (log_claimed v ns m s) cs) ps) place found) ≡ ns
+log-met v ns m s cs ps place None = refl
+log-met v ns m s cs ps place (Some f) = refl
 
 is-false : (b : Bool) → (b ≡ true → ⊥) → b ≡ false
 is-false true n = absurd (n refl)
@@ -124,33 +125,41 @@ pub comes : {D : Type 0} (slots : ℕ) (v v1 w z : Known slots) (j k : LoggedVie
 comes {D} slots v v1 w z j k held None marked found b claim later a iff told same =
     let cs : List (Option ℕ × ℕ) = a.view.0 in
     let ps = pairs_of a.first in
-    let is : w ≡ met_if (with_pages (with_claims (log_claimed v (notes_of j) (marks_of j) (sizes_of j)) cs) ps) found = a.view.1 ∙ ap (λ (u : Known slots). met_if (with_pages (with_claims u cs) ps) found) claim in
-    none-entered slots v z j k cs ps found a.goes_on.notes
+    let met = as-met (with_pages (with_claims v1 cs) ps) w found a.view.1 in
+    let place : ℕ = met.0 in
+    let is : w ≡ met_if (with_pages (with_claims (log_claimed v (notes_of j) (marks_of j) (sizes_of j)) cs) ps) place found = met.1 ∙ ap (λ (u : Known slots). met_if (with_pages (with_claims u cs) ps) place found) claim in
+    let below : IfSome found (λ f. LieBelow place v.knowledge.meets) = subst (λ (u : Known slots). IfSome found (λ f. LieBelow place u.knowledge.meets)) claim met.2 in
+    none-entered slots v z j k cs ps place found a.goes_on.notes
     (same (is-false b (λ t. absurd (let s = iff.0 t in cc))) ∙ ap (λ (u : Known slots). log_dropped (with_pages u []) (marks_of k)) is)
+    below
     (subst (λ (u : Known slots). IfSome found (λ f. IsAnother u f.1)) claim a.another)
 comes {D} slots v v1 w z j k held (Some entry) marked found b claim later a iff told same =
     let cs : List (Option ℕ × ℕ) = a.view.0 in
     let ps = pairs_of a.first in
-    let is : w ≡ met_if (with_pages (with_claims (log_claimed v (notes_of j) (marks_of j) (sizes_of j)) cs) ps) found = a.view.1 ∙ ap (λ (u : Known slots). met_if (with_pages (with_claims u cs) ps) found) claim in
+    let met = as-met (with_pages (with_claims v1 cs) ps) w found a.view.1 in
+    let place : ℕ = met.0 in
+    let is : w ≡ met_if (with_pages (with_claims (log_claimed v (notes_of j) (marks_of j) (sizes_of j)) cs) ps) place found = met.1 ∙ ap (λ (u : Known slots). met_if (with_pages (with_claims u cs) ps) place found) claim in
+    let below : IfSome found (λ f. LieBelow place v.knowledge.meets) = subst (λ (u : Known slots). IfSome found (λ f. LieBelow place u.knowledge.meets)) claim met.2 in
     let t = told (iff.1 refl) in
     let n = a.goes_on.notes in
-    let log : log_of w ≡ notes_of j = ap (λ (u : Known slots). log_of u) is ∙ log-met v (notes_of j) (marks_of j) (sizes_of j) cs ps found in
+    let log : log_of w ≡ notes_of j = ap (λ (u : Known slots). log_of u) is ∙ log-met v (notes_of j) (marks_of j) (sizes_of j) cs ps place found in
     let more : notes_of k ≡ notes_of j ++ t.0 ∷ [] = t.1 ∙ ap (λ (ns : List Note). ns ++ t.0 ∷ []) log in
     let same_note : n.note ≡ t.0 = same-last (notes_of j) n.note t.0 (sym n.notes ∙ more) in
-    some-entered slots v z j k cs ps found t.0 entry (ap (λ (x : Note). x.entry) (sym same_note) ∙ n.of_entry) more later
+    some-entered slots v z j k cs ps place found t.0 entry (ap (λ (x : Note). x.entry) (sym same_note) ∙ n.of_entry) more later
     (t.2 ∙ ap (λ (u : Known slots). log_dropped (with_pages (told_of (account D slots) u k t.0) []) (marks_of k)) is)
+    below
     (subst (λ (u : Known slots). IfSome found (λ f. IsAnother u f.1)) claim a.another)
 
 -- another hold had the log word
-pub found-log : {slots : ℕ} (v z : Known slots) (word seat : ℕ) → HasNone v → z ≡ met v word seat → IsAnother v seat → GoesOnAs v z None (Some (word, seat))
-found-log {slots} v z word seat none e other = subst (λ (u : Known slots). GoesOnAs v u None (Some (word, seat))) (sym e) (record {
+pub found-log : {slots : ℕ} (v z : Known slots) (word seat : ℕ) → HasNone v → HasMet v z word seat → IsAnother v seat → GoesOnAs v z None (Some (word, seat))
+found-log {slots} v z word seat none e other = subst (λ (u : Known slots). GoesOnAs v u None (Some (word, seat))) (sym e.2) (record {
   station = refl;
   none = none;
   fixed = refl;
   peeks = refl;
   marks = (λ n e. e, λ e. e, λ e. e);
   entries = record { kept = refl; seen = refl; has = refl };
-  meets = (refl, other);
+  meets = ((e.0, e.1, refl), other);
 })
 
 -- whether the client has a transaction by an entry more

@@ -17,7 +17,8 @@ use Rattle.journal_chronicle.specs.Clients.{speaker_of}
 use Rattle.journal_chronicle.specs.Steps.{Flags, GoesOnWith, no_mark, no_page, marks_with}
 use Rattle.shared_store.specs.declared.refused.Refused.{Refused}
 use Rattle.shared_store.specs.Passes.{Known, AreMarked}
-use Rattle.shared_store.specs.Acts.{met_if, Acts, Takes}
+use Rattle.shared_store.specs.Acts.{Acts, Takes}
+use Rattle.shared_store.proofs.Meetings.{met_if, as-met}
 use Rattle.shared_store.specs.Calls.{GoesOnAs}
 use Rattle.shared_store.specs.Holding.{pairs_of, with_pages}
 use Rattle.shared_store.specs.Upkeep.{entered_by_upkeep_of, marked_by_upkeep_of, refused_by_upkeep_of}
@@ -80,9 +81,9 @@ dropped-alone {slots} v w z page frame none claimed dropped = (
 )
 
 -- what was seen stays while a call works
-seen-met : {slots : ℕ} (v : Known slots) (found : Option (ℕ × ℕ)) → (met_if v found).knowledge.seen ≡ v.knowledge.seen
-seen-met v None = refl
-seen-met v (Some f) = refl
+seen-met : {slots : ℕ} (v : Known slots) (place : ℕ) (found : Option (ℕ × ℕ)) → (met_if v place found).knowledge.seen ≡ v.knowledge.seen
+seen-met v place None = refl
+seen-met v place (Some f) = refl
 
 pub act-seen : {D : Type 0} (slots : ℕ) (v w : Known slots) (j k : LoggedView D) (held : List (HeldFrame slots)) (entered : Option Entry) (marked : Flags) (found : Option (ℕ × ℕ)) → Acts slots v w j k held entered marked found → w.knowledge.seen ≡ v.knowledge.seen
-act-seen slots v w j k held entered marked found a = ap (λ (z : Known slots). z.knowledge.seen) a.view.1 ∙ seen-met (with_pages (with_claims v a.view.0) (pairs_of a.first)) found
+act-seen slots v w j k held entered marked found a = let u : Known slots = with_pages (with_claims v a.view.0) (pairs_of a.first) in let m = as-met u w found a.view.1 in ap (λ (z : Known slots). z.knowledge.seen) m.1 ∙ seen-met u m.0 found

@@ -1,4 +1,5 @@
 mod Pairs
+mod Meetings
 mod Acting
 mod Active
 mod Looks

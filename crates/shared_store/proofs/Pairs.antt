@@ -12,9 +12,9 @@ use Rattle.core_store.specs.Frames.{is_held, AreOnce}
 use Rattle.core_store.proofs.PageLaws.{Agree-put}
 use Rattle.framed_journal.specs.Holding.{AreHeldOf}
 use Rattle.logged_journal.specs.View.{LoggedView}
-use Rattle.latch_table.specs.Views.{frame_of, without, met, page_claimed, page_dropped, with_claims}
+use Rattle.latch_table.specs.Views.{frame_of, without, page_claimed, page_dropped, with_claims}
 use Rattle.latch_table.specs.Holds.{IsAnother}
-use Rattle.latch_table.specs.Rule.{AgreesWithLog}
+use Rattle.latch_table.specs.Rule.{AgreesWithLog, HasMet}
 use Rattle.latch_table.proofs.Frames.{if_same, if_other, none_some, frame_new}
 use Rattle.journal_chronicle.specs.View.{account, origin_of, notes_of, frame_after}
 use Rattle.shared_store.specs.Passes.{Known}
@@ -128,8 +128,8 @@ module _ {slots : ℕ} where
       )
 
   -- another hold had the word of the next page
-  pub claim-met : (v w w' : Known slots) (held new : List (HeldFrame slots)) (word seat : ℕ) → Takes v w (pairs_of held) None → new ≡ held → IsAnother w seat → w' ≡ met w word seat → IsAnother v seat × Takes v w' (pairs_of new) (Some (word, seat))
+  pub claim-met : (v w w' : Known slots) (held new : List (HeldFrame slots)) (word seat : ℕ) → Takes v w (pairs_of held) None → new ≡ held → IsAnother w seat → HasMet w w' word seat → IsAnother v seat × Takes v w' (pairs_of new) (Some (word, seat))
   claim-met v w w' held new word seat e same other is = (
     subst (λ (z : Known slots). IsAnother z seat) e.1 other,
-    (e.0, is ∙ (ap (λ (z : Known slots). met z word seat) e.1 ∙ ap (λ (hs : List (HeldFrame slots)). met (with_pages (with_claims v e.0) (pairs_of hs)) word seat) (sym same))),
+    (e.0, subst (λ (z : Known slots). HasMet z w' word seat) (e.1 ∙ ap (λ (hs : List (HeldFrame slots)). with_pages (with_claims v e.0) (pairs_of hs)) (sym same)) is),
   )

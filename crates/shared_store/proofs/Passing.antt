@@ -7,9 +7,9 @@ use Rattle.core_store.specs.declared.note.Note.{Note}
 use Rattle.core_store.specs.declared.three.HeldFrame.{HeldFrame}
 use Rattle.logged_journal.specs.View.{LoggedView}
 use Rattle.latch_table.specs.Account.{Marks}
-use Rattle.latch_table.specs.Views.{joined_marks, log_of, log_claimed, log_dropped, met}
+use Rattle.latch_table.specs.Views.{joined_marks, log_of, log_claimed, log_dropped}
 use Rattle.latch_table.specs.Holds.{HoldView, IsAnother}
-use Rattle.latch_table.specs.Rule.{IsLater}
+use Rattle.latch_table.specs.Rule.{HasMet, IsLater}
 use Rattle.latch_table.specs.Steps.{told_of}
 use Rattle.journal_chronicle.specs.Steps.{Flags, marks_with, count_kept}
 use Rattle.journal_chronicle.specs.View.{Origin, account, notes_of, marks_of, sizes_of}
@@ -47,8 +47,8 @@ module _ {slots : ℕ} (h h' : HoldView Note Origin (Frame slots)) (main : Bool)
       (subst (λ (m : Marks). AreMarked refused' m) (ap (joined_marks h.view.knowledge.marks) (sym g.marks) ∙ sym c.marks) counted)
 
   -- another hold had the log word
-  pub met-pass : (word seat : ℕ) → h'.view ≡ met h.view word seat → IsAnother h.view seat → IsPass h' main number txn seen refused left
+  pub met-pass : (word seat : ℕ) → HasMet h.view h'.view word seat → IsAnother h.view seat → IsPass h' main number txn seen refused left
   met-pass word seat e other =
       pass-after h h' main number txn txn seen seen refused refused left None (Some (word, seat)) p table (found-log h.view h'.view word seat p.none e other)
-      (p.txn_is ∙ sym (ap (λ (u : Known slots). u.knowledge.truth) e)) (p.seen_is ∙ sym (ap (λ (u : Known slots). u.knowledge.seen) e))
-      (subst (λ (u : Known slots). AreMarked refused u.knowledge.marks) (sym e) p.marked)
+      (p.txn_is ∙ sym (ap (λ (u : Known slots). u.knowledge.truth) e.2)) (p.seen_is ∙ sym (ap (λ (u : Known slots). u.knowledge.seen) e.2))
+      (subst (λ (u : Known slots). AreMarked refused u.knowledge.marks) (sym e.2) p.marked)

@@ -14,7 +14,8 @@ use Rattle.framed_journal.specs.Holding.{AreHeldOf}
 use Rattle.logged_journal.specs.declared.failed.FailedCall.{FailedCall}
 use Rattle.logged_journal.specs.View.{LoggedView, history_of}
 use Rattle.latch_table.specs.Account.{Marks}
-use Rattle.latch_table.specs.Views.{joined_marks, met}
+use Rattle.latch_table.specs.Views.{joined_marks}
+use Rattle.latch_table.specs.Rule.{HasMet}
 use Rattle.latch_table.specs.Holds.{HasNone, IsAnother}
 use Rattle.journal_chronicle.specs.Clients.{speaker_of, begins_or_ends, has_after}
 use Rattle.journal_chronicle.specs.Steps.{disk_mark, trace_mark, log_mark, marks_with, entered_by_call, marked_by_call}
@@ -156,7 +157,7 @@ module _ (client : ℕ) (c : TransactionCall) (r : Reply) (word seat : ℕ) (aga
   again-acts slots v w j held is other once frames =
       subst (λ (x : Reply). Acts slots v w j j held (entered_by_call client c x) (marked_by_call x) (found_by_call x)) (sym again) (acts-found slots v w j held word seat is other once frames)
 
-  pub again-goes : {slots : ℕ} (v z : Known slots) → HasNone v → z ≡ met v word seat → IsAnother v seat → GoesOnAs v z (entered_by_call client c r) (found_by_call r)
+  pub again-goes : {slots : ℕ} (v z : Known slots) → HasNone v → HasMet v z word seat → IsAnother v seat → GoesOnAs v z (entered_by_call client c r) (found_by_call r)
   again-goes v z none e other = subst (λ (x : Reply). GoesOnAs v z (entered_by_call client c x) (found_by_call x)) (sym again) (found-log v z word seat none e other)
 
   pub again-refused : (x : Refused) → x ≡ refused_by_call r x

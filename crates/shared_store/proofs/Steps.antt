@@ -13,7 +13,8 @@ use Rattle.framed_journal.specs.Holding.{AreHeldOf}
 use Rattle.logged_journal.specs.declared.failed.FailedCall.{FailedCall}
 use Rattle.logged_journal.specs.View.{LoggedView, history_of}
 use Rattle.latch_table.specs.Account.{Marks}
-use Rattle.latch_table.specs.Views.{joined_marks, met}
+use Rattle.latch_table.specs.Views.{joined_marks}
+use Rattle.latch_table.specs.Rule.{HasMet}
 use Rattle.latch_table.specs.Holds.{HasNone, IsAnother}
 use Rattle.journal_chronicle.specs.Clients.{speaker_of}
 use Rattle.journal_chronicle.specs.Steps.{marks_with}
@@ -68,7 +69,7 @@ module _ (client : ℕ) (r : StepRefusal) (word seat : ℕ) (again : r ≡ Again
   again-step slots v w j held is other once frames =
       subst (λ (x : StepRefusal). Acts slots v w j j held (entered_by_step client (Err x)) (marked_by_step (Err x)) (found_by_step (Err x))) (sym again) (acts-found slots v w j held word seat is other once frames)
 
-  pub again-stepped : {slots : ℕ} (v z : Known slots) → HasNone v → z ≡ met v word seat → IsAnother v seat → GoesOnAs v z (entered_by_step client (Err r)) (found_by_step (Err r))
+  pub again-stepped : {slots : ℕ} (v z : Known slots) → HasNone v → HasMet v z word seat → IsAnother v seat → GoesOnAs v z (entered_by_step client (Err r)) (found_by_step (Err r))
   again-stepped v z none e other = subst (λ (x : StepRefusal). GoesOnAs v z (entered_by_step client (Err x)) (found_by_step (Err x))) (sym again) (found-log v z word seat none e other)
 
   pub again-unrefused : (x : Refused) → x ≡ refused_by_step (Err r) x

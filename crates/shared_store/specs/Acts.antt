@@ -6,9 +6,9 @@ use Rattle.core_store.specs.declared.three.HeldFrame.{HeldFrame}
 use Rattle.core_store.specs.Frames.{AreOnce, is_held, pages_held}
 use Rattle.framed_journal.specs.Holding.{AreHeldOf}
 use Rattle.logged_journal.specs.View.{LoggedView}
-use Rattle.latch_table.specs.Views.{met, with_claims}
+use Rattle.latch_table.specs.Views.{with_claims}
 use Rattle.latch_table.specs.Holds.{IsAnother}
-use Rattle.latch_table.specs.Rule.{IsInHand}
+use Rattle.latch_table.specs.Rule.{HasMet, IsInHand}
 use Rattle.latch_table.specs.Steps.{IsNext}
 use Rattle.journal_chronicle.specs.Steps.{Flags, GoesOnWith}
 use Rattle.journal_chronicle.specs.View.{account}
@@ -16,13 +16,13 @@ use Rattle.shared_store.specs.Passes.{Known}
 use Rattle.shared_store.specs.Holding.{pairs_of, with_pages}
 
 -- a claim found this number in this word, if one did
-abbrev pub met_if : {slots : ℕ} → Known slots → Option (ℕ × ℕ) → Known slots
-met_if v None = v
-met_if v (Some f) = met v f.0 f.1
+abbrev pub HasMetIf : {slots : ℕ} → Known slots → Known slots → Option (ℕ × ℕ) → Type 0
+HasMetIf old new None = new ≡ old
+HasMetIf old new (Some f) = HasMet old new f.0 f.1
 
 -- the hold made claims besides, has these pages in hand, and found this number in a word, if one
 abbrev pub Takes : {slots : ℕ} → Known slots → Known slots → List (ℕ × Frame slots) → Option (ℕ × ℕ) → Type 0
-Takes old new pages found = (claims : List (Option ℕ × ℕ)) × (new ≡ met_if (with_pages (with_claims old claims) pages) found)
+Takes old new pages found = (claims : List (Option ℕ × ℕ)) × HasMetIf (with_pages (with_claims old claims) pages) new found
 
 -- Of a hold with the log word: it claimed pages, of which these frames are held now, and the journal went on from the first to
 -- the second with this entry and mark, if any. Or it found this number in a word.

@@ -29,7 +29,7 @@ use Rattle.logged_journal.specs.Calls.{IsOfJournal, IsGranted, IsPastLog, DoesCa
 use Rattle.framed_journal.specs.Steps.{CollectsNext, CollectsOnFrames, FillsLog}
 use Rattle.latch_table.specs.Views.{KeepMarks, story}
 use Rattle.latch_table.specs.Holds.{HasNone, IsAlone, IsAnother}
-use Rattle.latch_table.specs.Rule.{IsLater, KeepsEachOnce}
+use Rattle.latch_table.specs.Rule.{IsLater, KeepsEachOnce, LieBelow}
 use Rattle.journal_chronicle.specs.Steps.{Flags, entered_by_abort_step, entered_by_call, entered_by_collect_step, marked_by_collect_step, no_mark, disk_mark, log_mark}
 use Rattle.journal_chronicle.specs.View.{account, has_transaction, history_after, marks_of, notes_of, origin_of, sizes_of}
 use Rattle.shared_store.specs.declared.answers.StepRefusal.{StepRefusal}
@@ -63,10 +63,10 @@ abbrev pub KeepsIf : {slots : ℕ} → Known slots → Known slots → Option En
 KeepsIf old new (Some entry) = Keeps old new entry
 KeepsIf old new None = KeepsNone old new
 
--- it met this number in a word, if one, and no other
+-- it met this number in a word, if one, after all that it met before, and no other
 abbrev pub Meets : {slots : ℕ} → Known slots → Known slots → Option (ℕ × ℕ) → Type 0
 Meets old new None = new.knowledge.meets ≡ old.knowledge.meets
-Meets old new (Some f) = (new.knowledge.meets ≡ old.knowledge.meets ++ f ∷ []) × IsAnother old f.1
+Meets old new (Some f) = ((place : ℕ) × LieBelow place old.knowledge.meets × (new.knowledge.meets ≡ old.knowledge.meets ++ (place, f) ∷ [])) × IsAnother old f.1
 
 -- Of a call that entered this entry, if one, and found this number in a word, if one. Between calls a pass has no word
 pub record GoesOnAs {slots : ℕ} (old new : Known slots) (entered : Option Entry) (found : Option (ℕ × ℕ)) : Type 0 where

@@ -5,7 +5,8 @@ ghost use Rattle.core_store.specs.JournalView.{cells_of};
 ghost use Rattle.core_store.specs.Logged.{want_of};
 ghost use Rattle.core_store.specs.Steppings.{IsReadyForCollector, OnlyLooks};
 ghost use Rattle.core_store.specs.Work.{IsWorkIn, pages_of_work};
-ghost use Rattle.latch_table.specs.Views.{met, page_claimed};
+ghost use Rattle.latch_table.specs.Rule.{HasMet};
+ghost use Rattle.latch_table.specs.Views.{page_claimed};
 ghost use Rattle.latch_table.specs.Holds.{IsAnother};
 ghost use Rattle.journal_chronicle.specs.Steps.{GoesOnWith, no_mark, no_page};
 ghost use Rattle.framed_journal.specs.Holding.{AreHeldOf};
@@ -36,7 +37,7 @@ impl<const SLOTS: usize, D: Disk> Store<SLOTS, D> {
         ensures once { AreOnce held.old → AreOnce held.new }
         ensures ok { IfOk result (λ _. (frame : Frame SLOTS) × (held.new ≡ held.old ++ record { page = page; frame = frame } ∷ []) × (hold.new.view ≡ page_claimed hold.old.view page frame)) }
         ensures word { IfErr result (λ h. h.word ≡ page) }
-        ensures met { IfErr result (λ h. (held.new ≡ held.old) × IsAnother hold.old.view h.seat × (hold.new.view ≡ met hold.old.view h.word h.seat)) }
+        ensures met { IfErr result (λ h. (held.new ≡ held.old) × IsAnother hold.old.view h.seat × HasMet hold.old.view hold.new.view h.word h.seat) }
     {
         journal.know_frames();
         let frame = self.latches.claim_page(hold, page)?;

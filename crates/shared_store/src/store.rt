@@ -1,5 +1,5 @@
 //! The store, and how passes are made and taken in.
-ghost use Rattle.std.specs.Prelude.{◌≡◌, ◌⊎◌, ◌↔◌, ℕ, ◌*◌, ◌<◌, ◌≤◌, [], true, length, is_some, None, IfOk, IfErr};
+ghost use Rattle.std.specs.Prelude.{◌≡◌, ◌⊎◌, ◌↔◌, ℕ, ◌*◌, ◌<◌, ◌≤◌, [], ◌∷◌, true, length, is_some, None, IfOk, IfErr};
 ghost use Rattle.plain_model.specs.History.{IsLegal, end_of};
 ghost use Rattle.plain_model.specs.Machine.{transaction_of};
 ghost use Rattle.cell_page.specs.Format.{IsSlotCount};
@@ -9,7 +9,7 @@ ghost use Rattle.core_store.specs.JournalView.{cells_of};
 ghost use Rattle.logged_journal.specs.View.{history_of};
 ghost use Rattle.latch_table.specs.Views.{first_view, split_left, split_right, joined};
 ghost use Rattle.latch_table.specs.Holds.{IsAlone, MaySplit};
-ghost use Rattle.latch_table.specs.Rule.{IsWhole};
+ghost use Rattle.latch_table.specs.Rule.{HaveHistory, IsWhole, MetClaimed, all_free};
 ghost use Rattle.journal_chronicle.specs.Since.{OpensSince};
 ghost use Rattle.journal_chronicle.specs.View.{account, origin_of, notes_of, marks_of, history_after, frame_after, has_transaction};
 ghost use Rattle.shared_store.specs.Passes.{AreMarked, no_refusals, joined_refusals};
@@ -179,6 +179,11 @@ impl<const SLOTS: usize, D: Disk> Store<SLOTS, D> {
         // Each image that a power loss might have left since the store began, at any moment of any call, opens to a graph that a
         // crash after some first entries of the history may leave.
         ensures since { OpensSince D.moment D.left_since SLOTS self.began result.0 }
+
+        // There is one history of all that happened to words, after which each is free. Each call that met another pass stands in it
+        // where the word bore the number that was found.
+        ensures latched { HaveHistory self.pages all_free (main.view ∷ []) }
+        ensures met { MetClaimed self.pages main.view }
     {
         let Pass {
             hold,

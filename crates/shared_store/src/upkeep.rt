@@ -7,7 +7,8 @@ ghost use Rattle.logged_journal.specs.Opens.{OpensAfter};
 ghost use Rattle.logged_journal.specs.Records.{MayHaveAll};
 ghost use Rattle.logged_journal.specs.View.{LoggedView, history_of};
 ghost use Rattle.journal_chronicle.specs.Since.{OpensSince};
-ghost use Rattle.latch_table.specs.Views.{met, page_claimed};
+ghost use Rattle.latch_table.specs.Rule.{HasMet};
+ghost use Rattle.latch_table.specs.Views.{page_claimed};
 ghost use Rattle.latch_table.specs.Holds.{IsAnother};
 ghost use Rattle.shared_store.specs.Acts.{Acts, Takes};
 ghost use Rattle.shared_store.specs.Calls.{GoesOnAs, WasNoted};
@@ -130,7 +131,7 @@ impl<const SLOTS: usize, D: Disk> Store<SLOTS, D> {
         ensures agree { AllAgree (cells_of journal.now.journal) frames.new.items }
         ensures room { vec_capacity frames.old ≤ vec_capacity frames.new }
         ensures ok { IfOk result (λ _. (frame : Frame SLOTS) × (frames.new.items ≡ frames.old.items ++ frame ∷ []) × (hold.new.view ≡ page_claimed hold.old.view (length frames.old.items) frame)) }
-        ensures met { IfErr result (λ h. (frames.new.items ≡ frames.old.items) × IsAnother hold.old.view h.seat × (hold.new.view ≡ met hold.old.view h.word h.seat)) }
+        ensures met { IfErr result (λ h. (frames.new.items ≡ frames.old.items) × IsAnother hold.old.view h.seat × HasMet hold.old.view hold.new.view h.word h.seat) }
     {
         let _ = &self.latches;
         journal.know_frames();

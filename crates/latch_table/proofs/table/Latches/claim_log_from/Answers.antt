@@ -1,7 +1,7 @@
 use Rattle.std.proofs.Common.{◌≡◌, ℕ, ◌+◌, None, Option, Some, arith, sym, ap, subst, ◌∙◌}
 use Rattle.latch_table.specs.declared.content.Content.TheVariants.{Log}
 use Rattle.latch_table.specs.Steps.{GoesOnFrom}
-use Rattle.latch_table.proofs.Parts.{last_taken, read_there, then_holds}
+use Rattle.latch_table.proofs.Parts.{last_taken, read_there, then_holds, met_as}
 use Rattle.latch_table.proofs.Rows.{log_is}
 use Rattle.latch_table.proofs.FromFirst.{claim_log_from, leaves_log_from}
 use Rattle.latch_table.proofs.table.Latches.claim_log_from.Goals as goal
@@ -37,3 +37,10 @@ returns-clause-on g c =
     let there : c.exchange-content.result ≡ Log got.0 = read_there _ _ _ _ _ _ got.2 c.exchange-content.ensures.2 in
     subst (g.J.Chronicle.goes_on c.args.self.now.began) (log_is _ _ _ there c.in-Log.is)
     (subst (λ (o : Option g.row.J.Denot). GoesOnFrom g.J.Chronicle.goes_on o got.0) c.requires.told got.4)
+
+pub returns-then-found-ne0-clause-held : goal.returns-then-found-ne0-clause-held
+returns-then-found-ne0-clause-held g c =
+    let m = c.compare_exchange-found.ensures.2.1 c.if-found-ne0.true in
+    let pages = ap (λ z. z.pages) c.self.view_is in
+    let told = met_as c.hold.inside.seat.me.0 c.args.hold.now.view c.compare_exchange-found.new.seat.me.0 c.from-word.result c.args.self.now.pages c.compare_exchange-found.result (ap (λ z. z.view) c.hold.view_is) (c.from-word.ensures ∙ pages) (m.0, m.2, m.3) m.4 in
+    (c.from.ensures ∙ pages, told.0, told.1)

@@ -1,5 +1,6 @@
 use Rattle.std.proofs.Common.{◌≡◌, ◌≤◌, ℕ, ◌+◌, Err, sym, ap, subst, ◌∙◌, rules}
-use Rattle.latch_table.specs.Views.{joined_marks, met}
+use Rattle.latch_table.specs.Views.{joined_marks}
+use Rattle.latch_table.specs.Rule.{HasMet}
 use Rattle.framed_journal.proofs.HoldLaws.{slots-few}
 use Rattle.journal_chronicle.specs.Steps.{marks_with, count_kept}
 use Rattle.journal_chronicle.specs.View.{has_transaction, marks_of, notes_of}
@@ -20,7 +21,7 @@ invariant_of-pass g c =
     let held = c.in-Err.ensures.held in
     met-pass c.pass.inside.hold c.claim_log.new.hold c.pass.inside.main c.pass.inside.number c.pass.inside.has_txn c.pass.inside.seen c.pass.inside.refused c.pass.inside.left c.pass.invariant
     (c.in-Err.ensures.of ∙ ap (λ z. z.table) c.self.view_is ∙ sym (ap (λ z. z.table) c.pass.view_is ∙ c.requires.of))
-    c.in-Err.found.word c.in-Err.found.seat (held.2 ∙ ap (λ (n : ℕ). met c.pass.inside.hold.view n c.in-Err.found.seat) (sym held.0)) held.1
+    c.in-Err.found.word c.in-Err.found.seat (subst (λ (n : ℕ). HasMet c.pass.inside.hold.view c.claim_log.new.hold.view n c.in-Err.found.seat) (sym held.0) held.2) held.1
 
 pub returns-in-Err-clause-knows : goal.returns-in-Err-clause-knows
 returns-in-Err-clause-knows g c =
@@ -28,7 +29,7 @@ returns-in-Err-clause-knows g c =
     let is : c.pass.inside.hold.view ≡ c.args.pass.now.view = ap (λ z. z.view) c.pass.view_is in
     subst (λ (v : Known g.row.SLOTS). GoesOnAs v c.claim_log.new.hold.view (entered_by_step v.station.name (Err c.again.result)) (found_by_step (Err c.again.result))) is
     (again-stepped c.pass.inside.hold.view.station.name c.again.result c.in-Err.found.word c.in-Err.found.seat c.again.ensures c.pass.inside.hold.view c.claim_log.new.hold.view c.pass.invariant.none
-    (held.2 ∙ ap (λ (n : ℕ). met c.pass.inside.hold.view n c.in-Err.found.seat) (sym held.0)) held.1)
+    (subst (λ (n : ℕ). HasMet c.pass.inside.hold.view c.claim_log.new.hold.view n c.in-Err.found.seat) (sym held.0) held.2) held.1)
 
 pub returns-in-Err-clause-refused : goal.returns-in-Err-clause-refused
 returns-in-Err-clause-refused g c =

@@ -1,8 +1,8 @@
-use Rattle.std.proofs.Common.{◌≤◌, ◌*◌, ◌<◌, None, Some, Option, sym, ap, subst, ◌∙◌, arith, rules}
+use Rattle.std.proofs.Common.{◌≤◌, ◌*◌, ◌<◌, ℕ, None, Some, Option, sym, subst, arith, rules}
 use Rattle.plain_model.specs.declared.calls.Entry.{Entry}
 use Rattle.core_store.proofs.MapLaws.{none_from}
 use Rattle.framed_journal.proofs.HoldLaws.{slots-few}
-use Rattle.latch_table.specs.Views.{met}
+use Rattle.latch_table.specs.Rule.{HasMet}
 use Rattle.logged_journal.specs.declared.upkeep.Upkeep.{Upkeep}
 use Rattle.disk_model.specs.Told.{EachImage}
 use Rattle.logged_journal.specs.Opens.{OpensAfter}
@@ -46,7 +46,7 @@ returns-in-Err-clause-acts g c =
     let look = subst (λ (o : Option Upkeep). GoesOnWith g.row.SLOTS no_page j k None (marked_by_refusal o)) (none_from c.refuse_clean.result (λ x is. c.in_default.not-Some x is)) c.refuse_clean.ensures.chronicle in
     let none = with_none v c.requires.none c.requires.journal.idle in
     acts-none g.row.SLOTS v c.claim_page.new.hold.view j k None no_mark (Some (f.word, f.seat))
-    (none.0, held.2 ∙ (ap (λ n. met v n f.seat) (sym held.0) ∙ ap (λ (z : Known g.row.SLOTS). met z f.word f.seat) none.1)) held.1 look
+    (none.0, subst (λ (z : Known g.row.SLOTS). HasMet z c.claim_page.new.hold.view f.word f.seat) none.1 (subst (λ (n : ℕ). HasMet v c.claim_page.new.hold.view n f.seat) (sym held.0) held.2)) held.1 look
 
 pub clean-answer-requires-after_bounds : goal.clean-answer-requires-after_bounds
 clean-answer-requires-after_bounds g c κs within =

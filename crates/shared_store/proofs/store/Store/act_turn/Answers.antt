@@ -63,7 +63,7 @@ returns-in-Err-clause-acts g c =
     let f = c.in-Err.found in
     let met = c.in-Err.ensures.met in
     let look = subst (λ (o : Option Upkeep). GoesOnWith g.row.SLOTS no_page j k (entered_by_refusal o) (marked_by_refusal o)) (none_from c.refuse_turn.result (λ x is. c.in_default.not-Some x is)) c.refuse_turn.ensures.chronicle in
-    acts-none g.row.SLOTS v c.drop_all.new.hold.view j k None no_mark (Some (f.word, f.seat)) (met.1.0, c.drop_all.ensures.view ∙ ap (λ (z : Known g.row.SLOTS). with_pages z []) met.1.1) met.0 look
+    acts-none g.row.SLOTS v c.drop_all.new.hold.view j k None no_mark (Some (f.word, f.seat)) (met.1.0, (met.1.1.0, met.1.1.1, c.drop_all.ensures.view ∙ ap (λ (z : Known g.row.SLOTS). with_pages z []) met.1.1.2)) met.0 look
 
 pub turn-answer-requires-after_bounds : goal.turn-answer-requires-after_bounds
 turn-answer-requires-after_bounds g c κs within =

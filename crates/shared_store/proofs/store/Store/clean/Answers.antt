@@ -1,6 +1,7 @@
-use Rattle.std.proofs.Common.{◌≡◌, ◌≤◌, ◌+◌, List, [], sym, ap, subst, ◌∙◌, rules}
+use Rattle.std.proofs.Common.{◌≡◌, ◌≤◌, ℕ, ◌+◌, None, Some, List, [], sym, ap, subst, ◌∙◌, rules}
 use Rattle.core_store.specs.declared.three.HeldFrame.{HeldFrame}
 use Rattle.latch_table.specs.Views.{joined_marks}
+use Rattle.latch_table.specs.Rule.{HasMet}
 use Rattle.framed_journal.proofs.HoldLaws.{slots-few}
 use Rattle.journal_chronicle.specs.Steps.{marks_with, count_kept}
 use Rattle.journal_chronicle.specs.View.{marks_of}
@@ -11,11 +12,30 @@ use Rattle.shared_store.specs.Calls.{GoesOnAs}
 use Rattle.shared_store.specs.Upkeep.{entered_by_upkeep_of, marked_by_upkeep_of, found_by_upkeep}
 use Rattle.shared_store.proofs.Acting.{has-journal, to-drop}
 use Rattle.shared_store.proofs.Kept.{act-seen, upkeep-speaks, txn-upkeep, marked-upkeep}
-use Rattle.shared_store.proofs.Passing.{done-comes, done-pass}
+use Rattle.shared_store.proofs.Goings.{found-log}
+use Rattle.shared_store.proofs.Passing.{done-comes, done-pass, met-pass}
 use Rattle.shared_store.proofs.Upkeeps.{makes-clean}
 use Rattle.logged_journal.specs.View.{LoggedView}
 use Rattle.journal_chronicle.specs.Since.{OpensSince}
 use Rattle.shared_store.proofs.store.Store.clean.Goals as goal
+
+-- ---- another pass has the log word
+
+pub invariant_of-pass : goal.invariant_of-pass
+invariant_of-pass g c =
+    let held = c.in-Err.ensures.held in
+    met-pass c.pass.inside.hold c.claim_log.new.hold c.pass.inside.main c.pass.inside.number c.pass.inside.has_txn c.pass.inside.seen c.pass.inside.refused c.pass.inside.left c.pass.invariant
+    (c.in-Err.ensures.of ∙ ap (λ z. z.table) c.self.view_is ∙ sym (ap (λ z. z.table) c.pass.view_is ∙ c.requires.of))
+    c.in-Err.found.word c.in-Err.found.seat (subst (λ (n : ℕ). HasMet c.pass.inside.hold.view c.claim_log.new.hold.view n c.in-Err.found.seat) (sym held.0) held.2) held.1
+
+pub returns-in-Err-clause-knows : goal.returns-in-Err-clause-knows
+returns-in-Err-clause-knows g c =
+    let held = c.in-Err.ensures.held in
+    let is : c.pass.inside.hold.view ≡ c.args.pass.now.view = ap (λ z. z.view) c.pass.view_is in
+    subst (λ (v : Known g.row.SLOTS). GoesOnAs v c.claim_log.new.hold.view None (Some (c.in-Err.found.word, c.in-Err.found.seat))) is
+    (found-log c.pass.inside.hold.view c.claim_log.new.hold.view c.in-Err.found.word c.in-Err.found.seat c.pass.invariant.none (subst (λ (n : ℕ). HasMet c.pass.inside.hold.view c.claim_log.new.hold.view n c.in-Err.found.seat) (sym held.0) held.2) held.1)
+
+-- ---- it has it itself
 
 pub act_clean-answer-requires-after_bounds : goal.act_clean-answer-requires-after_bounds
 act_clean-answer-requires-after_bounds g c κs within =

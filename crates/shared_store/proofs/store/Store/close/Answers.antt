@@ -7,10 +7,11 @@ use Rattle.core_store.specs.declared.frame.Frame.{Frame}
 use Rattle.core_store.specs.JournalView.{cells_of}
 use Rattle.core_store.specs.Frames.{AllAgree}
 use Rattle.logged_journal.specs.View.{LoggedView, history_of}
+use Rattle.latch_table.specs.Rule.{MetClaimed}
 use Rattle.latch_table.proofs.Frames.{some_is}
 use Rattle.journal_chronicle.specs.View.{Origin, origin_of, notes_of, marks_of, history_after, frame_after, has_transaction}
 use Rattle.shared_store.specs.declared.refused.Refused.{Refused}
-use Rattle.shared_store.specs.Passes.{AreMarked}
+use Rattle.shared_store.specs.Passes.{Known, AreMarked}
 use Rattle.journal_chronicle.specs.Since.{OpensSince}
 use Rattle.shared_store.proofs.store.Store.close.Goals as goal
 
@@ -53,3 +54,8 @@ pub returns-clause-since : goal.returns-clause-since
 returns-clause-since g c =
     subst (λ (v : LoggedView g.row.D.Denot). OpensSince g.D.Disk.moment g.D.Disk.left_since g.row.SLOTS c.args.self.began v) (sym c.into_logged.ensures)
     (subst (λ (v : LoggedView g.row.D.Denot). OpensSince g.D.Disk.moment g.D.Disk.left_since g.row.SLOTS v c.close-journal.result.0) (ap (λ z. z.began) c.self.view_is) c.close-journal.ensures.on)
+
+pub returns-clause-met : goal.returns-clause-met
+returns-clause-met g c =
+    let seen = subst (λ (v : Known g.row.SLOTS). MetClaimed c.self.inside.latches.pages v) (ap (λ z. z.view) c.main.view_is) c.close-journal.ensures.met in
+    subst (λ (n : ℕ). MetClaimed n c.args.main.view) (ap (λ z. z.pages) c.self.view_is) seen

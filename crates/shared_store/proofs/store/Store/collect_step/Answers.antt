@@ -1,18 +1,40 @@
-use Rattle.std.proofs.Common.{◌≡◌, ◌≤◌, ◌+◌, [], ◌∷◌, ◌++◌, sym, ap, subst, ◌∙◌, rules}
+use Rattle.std.proofs.Common.{◌≡◌, ◌≤◌, ℕ, ◌+◌, Err, [], ◌∷◌, ◌++◌, sym, ap, subst, ◌∙◌, rules}
 use Rattle.latch_table.specs.Views.{joined_marks}
+use Rattle.latch_table.specs.Rule.{HasMet}
 use Rattle.framed_journal.proofs.HoldLaws.{slots-few}
 use Rattle.journal_chronicle.specs.Steps.{marks_with, count_kept}
 use Rattle.journal_chronicle.specs.View.{marks_of}
+use Rattle.shared_store.specs.declared.answers.CollectRefusal.{CollectRefusal}
 use Rattle.shared_store.specs.declared.refused.Refused.{Refused}
 use Rattle.shared_store.specs.Passes.{Known, AreMarked}
 use Rattle.shared_store.specs.Calls.{GoesOnAs, MakesCollect, entered_by_collecting, marked_by_collecting, found_by_collecting}
 use Rattle.shared_store.proofs.Acting.{has-journal, to-drop}
 use Rattle.shared_store.proofs.Collects.{collect-act, collect-speaks, keeps-more, txn-collect, marked-collect}
 use Rattle.shared_store.proofs.Kept.{act-seen}
-use Rattle.shared_store.proofs.Passing.{done-comes, done-pass}
+use Rattle.shared_store.proofs.Goings.{found-log}
+use Rattle.shared_store.proofs.Passing.{done-comes, done-pass, met-pass}
 use Rattle.logged_journal.specs.View.{LoggedView}
 use Rattle.journal_chronicle.specs.Since.{OpensSince}
 use Rattle.shared_store.proofs.store.Store.collect_step.Goals as goal
+
+-- ---- another pass has the log word
+
+pub invariant_of-pass : goal.invariant_of-pass
+invariant_of-pass g c =
+    let held = c.in-Err.ensures.held in
+    met-pass c.pass.inside.hold c.claim_log.new.hold c.pass.inside.main c.pass.inside.number c.pass.inside.has_txn c.pass.inside.seen c.pass.inside.refused c.pass.inside.left c.pass.invariant
+    (c.in-Err.ensures.of ∙ ap (λ z. z.table) c.self.view_is ∙ sym (ap (λ z. z.table) c.pass.view_is ∙ c.requires.of))
+    c.in-Err.found.word c.in-Err.found.seat (subst (λ (n : ℕ). HasMet c.pass.inside.hold.view c.claim_log.new.hold.view n c.in-Err.found.seat) (sym held.0) held.2) held.1
+
+pub returns-in-Err-clause-knows : goal.returns-in-Err-clause-knows
+returns-in-Err-clause-knows g c =
+    let held = c.in-Err.ensures.held in
+    let is : c.pass.inside.hold.view ≡ c.args.pass.now.view = ap (λ z. z.view) c.pass.view_is in
+    subst (λ (v : Known g.row.SLOTS). GoesOnAs v c.claim_log.new.hold.view (entered_by_collecting (Err c.again.result)) (found_by_collecting (Err c.again.result))) is
+    (subst (λ (x : CollectRefusal). GoesOnAs c.pass.inside.hold.view c.claim_log.new.hold.view (entered_by_collecting (Err x)) (found_by_collecting (Err x))) (sym c.again.ensures)
+    (found-log c.pass.inside.hold.view c.claim_log.new.hold.view c.in-Err.found.word c.in-Err.found.seat c.pass.invariant.none (subst (λ (n : ℕ). HasMet c.pass.inside.hold.view c.claim_log.new.hold.view n c.in-Err.found.seat) (sym held.0) held.2) held.1))
+
+-- ---- it has it itself
 
 pub act_collect_step-step-requires-after_bounds : goal.act_collect_step-step-requires-after_bounds
 act_collect_step-step-requires-after_bounds g c κs within =
@@ -79,7 +101,7 @@ returns-clause-made g c = λ none.
 pub returns-in-Err-clause-act : goal.returns-in-Err-clause-act
 returns-in-Err-clause-act g c = λ kept more other.
     let held = c.in-Err.ensures.held in
-    let same = ap (λ (v : Known g.row.SLOTS). v.knowledge.entries) held.2 ∙ ap (λ z. z.view.knowledge.entries) c.pass.view_is in
+    let same = ap (λ (v : Known g.row.SLOTS). v.knowledge.entries) held.2.2 ∙ ap (λ z. z.view.knowledge.entries) c.pass.view_is in
     keeps-more c.args.pass.now.view.knowledge.entries c.claim_log.new.hold.view.knowledge.entries kept same more
 
 pub returns-clause-act : goal.returns-clause-act
