@@ -13,8 +13,8 @@ use Rattle.core_store.specs.declared.frame.Frame.{Frame}
 use Rattle.core_store.specs.declared.note.Note.{Note}
 use Rattle.logged_journal.specs.View.{LoggedView, history_of}
 use Rattle.latch_table.specs.Rule.{AreAt, IsWhole, KeepsEachOnce}
-use Rattle.journal_chronicle.specs.Clients.{speaker_of}
-use Rattle.journal_chronicle.specs.View.{account, origin_of, notes_of, history_after, has_transaction}
+use Rattle.shared_store.specs.Chronicles.Clients.{speaker_of}
+use Rattle.shared_store.specs.Chronicles.View.{account, origin_of, notes_of, history_after, has_transaction}
 use Rattle.shared_store.specs.Passes.{Known}
 use Rattle.client_pass.specs.declared.ends.WorkEnd.{WorkEnd}
 use Rattle.client_pass.specs.declared.ends.WorkEnd.TheVariants.{Finished}

@@ -22,7 +22,7 @@ use Rattle.logged_journal.specs.View.{LoggedView, history_of}
 use Rattle.latch_table.specs.Holds.{IsAlone}
 use Rattle.latch_table.specs.Rule.{IsWhole}
 use Rattle.latch_table.specs.Views.{first_view}
-use Rattle.journal_chronicle.specs.View.{Origin, account, origin_of, notes_of, history_after, has_transaction}
+use Rattle.shared_store.specs.Chronicles.View.{Origin, account, origin_of, notes_of, history_after, has_transaction}
 use Rattle.shared_store.specs.Passes.{Known}
 use Rattle.script_lines.specs.declared.grammar.Line.{Line}
 use Rattle.script_lines.specs.Output.{AppendsFront}

@@ -9,7 +9,7 @@ use Rattle.logged_journal.specs.declared.failed.FailedCall.{FailedCall}
 use Rattle.logged_journal.specs.View.{LoggedView, history_of}
 use Rattle.latch_table.specs.Holds.{IsAlone}
 use Rattle.latch_table.specs.Rule.{AreAt, IsWhole, KeepsEachOnce}
-use Rattle.journal_chronicle.specs.View.{Origin, account, origin_of, notes_of, history_after}
+use Rattle.shared_store.specs.Chronicles.View.{Origin, account, origin_of, notes_of, history_after}
 use Rattle.shared_store.specs.Passes.{Known}
 use Rattle.client_pass.specs.Runs.{IsCollected}
 use Rattle.brahma_shell.specs.Points.{Point, start_with, after_notes, point_of, entries_in, MayRest, IsExactAt}

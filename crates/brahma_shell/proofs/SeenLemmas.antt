@@ -18,8 +18,8 @@ use Rattle.latch_table.specs.declared.view.Station.{Station}
 use Rattle.latch_table.specs.Holds.{IsAlone}
 use Rattle.latch_table.specs.Views.{page_claimed, page_dropped, loaded, peeked}
 use Rattle.latch_table.specs.Rule.{AreSeen, IsWhole, KeepsEachOnce, LieBelow, times_in}
-use Rattle.journal_chronicle.specs.Pages.{page_in}
-use Rattle.journal_chronicle.specs.View.{Origin, account, origin_of, notes_of, frame_after}
+use Rattle.shared_store.specs.Chronicles.Pages.{page_in}
+use Rattle.shared_store.specs.Chronicles.View.{Origin, account, origin_of, notes_of, frame_after}
 use Rattle.shared_store.specs.Passes.{Known}
 use Rattle.brahma_shell.specs.Running.{OnlyPeeks, HasSeen, HasSeenLive}
 use Rattle.brahma_shell.proofs.FirstLemmas.{AreFirst, first-stored}

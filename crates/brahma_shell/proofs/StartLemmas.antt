@@ -4,7 +4,7 @@ use Rattle.std.specs.List.{AllByRecursion}
 use Rattle.latch_table.specs.declared.view.Station.{Station}
 use Rattle.latch_table.specs.Holds.{IsAlone}
 use Rattle.latch_table.specs.Views.{first_station, first_view}
-use Rattle.journal_chronicle.specs.View.{Origin}
+use Rattle.shared_store.specs.Chronicles.View.{Origin}
 use Rattle.shared_store.specs.Passes.{Known, IsClient}
 use Rattle.client_pass.specs.declared.ends.WorkEnd.{WorkEnd}
 use Rattle.client_pass.specs.declared.ends.WorkEnd.TheVariants.{Finished}

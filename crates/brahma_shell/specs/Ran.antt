@@ -15,8 +15,8 @@ use Rattle.script_lines.specs.declared.grammar.Line.{Line}
 use Rattle.script_lines.specs.Output.{AppendsFront, refused_line}
 use Rattle.client_pass.specs.declared.script.ClientScript.{ClientScript}
 use Rattle.client_pass.specs.Attempts.{Deed, Attempts, Begun, calls_in}
-use Rattle.journal_chronicle.specs.Clients.{speaker_of}
-use Rattle.journal_chronicle.specs.View.{notes_of}
+use Rattle.shared_store.specs.Chronicles.Clients.{speaker_of}
+use Rattle.shared_store.specs.Chronicles.View.{notes_of}
 use Rattle.client_pass.specs.Runs.{IsNobody, IsNoteOfCollector}
 use Rattle.script_lines.specs.Numbers.{object_slots}
 use Rattle.brahma_shell.specs.ClientScripts.{AreScripts, AreOfLines}

@@ -10,7 +10,7 @@ use Rattle.disk_model.specs.declared.area.Area.{Area}
 use Rattle.disk_model.specs.Areas.{Bytes}
 use Rattle.core_store.specs.declared.abort_step.AbortStep.{AbortStep}
 use Rattle.core_store.specs.declared.abort_step.AbortStep.TheVariants.{Undone, Ended}
-use Rattle.journal_chronicle.specs.Steps.{entered_by_call}
+use Rattle.shared_store.specs.Chronicles.Steps.{entered_by_call}
 use Rattle.shared_store.specs.declared.answers.StepRefusal.{StepRefusal}
 use Rattle.shared_store.specs.declared.answers.StepRefusal.TheVariants as step
 use Rattle.shared_store.specs.declared.refused.Refused.{Refused}

@@ -7,8 +7,8 @@ use Rattle.plain_model.specs.declared.calls.Reply.TheVariants.{Done}
 use Rattle.plain_model.specs.declared.calls.Entry.{Entry}
 use Rattle.plain_model.specs.declared.calls.Entry.TheVariants.{Call, Delete, Hidden, Undo, TurnBusy, Crash}
 use Rattle.core_store.specs.declared.note.Note.{Note}
-use Rattle.journal_chronicle.specs.Clients.{begins_or_ends, has_after as has_after_entry}
-use Rattle.journal_chronicle.specs.View.{has_transaction}
+use Rattle.shared_store.specs.Chronicles.Clients.{begins_or_ends, has_after as has_after_entry}
+use Rattle.shared_store.specs.Chronicles.View.{has_transaction}
 use Rattle.client_pass.specs.Attempts.{Deed, Made, Undid, call_in, calls_in, has_after, IsEnding, IsCompleted, IsGivenUp, IsTried, Attempts}
 use Rattle.client_pass.proofs.Tries.{has_after-append}
 

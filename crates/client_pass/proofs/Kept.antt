@@ -7,7 +7,7 @@ use Rattle.plain_model.specs.declared.calls.Reply.{Reply}
 use Rattle.plain_model.specs.declared.calls.Entry.{Entry}
 use Rattle.plain_model.specs.declared.calls.Entry.TheVariants.{Call, Undo, Delete, Hidden, TurnBusy, Crash}
 use Rattle.core_store.specs.declared.note.Note.{Note}
-use Rattle.journal_chronicle.specs.Clients.{speaker_of}
+use Rattle.shared_store.specs.Chronicles.Clients.{speaker_of}
 use Rattle.client_pass.specs.Attempts.{Deed, Made, Undid, call_in}
 use Rattle.client_pass.specs.Workings.{Ascend, AreOfClient, calls_of}
 use Rattle.client_pass.specs.Runs.{IsOfCollector, IsNoteOfCollector, speaks_for, entries_of}

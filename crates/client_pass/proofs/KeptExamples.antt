@@ -12,7 +12,7 @@ use Rattle.plain_laws.specs.Sound.{Ascend as IdsAscend}
 use Rattle.core_store.specs.declared.act.Act.TheVariants.{Other}
 use Rattle.core_store.specs.declared.note.Note.{Note}
 use Rattle.latch_table.specs.Rule.{AreAt, KeepsEachOnce, LieBelow}
-use Rattle.journal_chronicle.specs.View.{has_transaction}
+use Rattle.shared_store.specs.Chronicles.View.{has_transaction}
 use Rattle.client_pass.specs.declared.script.ClientScript.{ClientScript}
 use Rattle.client_pass.specs.Attempts.{Deed, Made, Undid, calls_in, has_after}
 use Rattle.client_pass.specs.Workings.{calls_of}

@@ -10,7 +10,7 @@ use Rattle.plain_model.specs.declared.calls.Entry.{Entry}
 use Rattle.plain_model.specs.declared.calls.Entry.TheVariants.{Call, Delete, Hidden, Undo, TurnBusy, Crash}
 use Rattle.core_store.specs.declared.note.Note.{Note}
 use Rattle.latch_table.specs.Rule.{AreAt, KeepsEachOnce, times_in, one_if}
-use Rattle.journal_chronicle.specs.Clients.{speaker_of}
+use Rattle.shared_store.specs.Chronicles.Clients.{speaker_of}
 use Rattle.client_pass.specs.Attempts.{Made, Undid, call_in, calls_in}
 use Rattle.client_pass.specs.Workings.{Ascend, calls_of}
 use Rattle.client_pass.specs.Runs.{speaks_for, entries_of, AreInOrder}

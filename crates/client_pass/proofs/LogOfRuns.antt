@@ -7,7 +7,7 @@ use Rattle.plain_model.specs.Machine.{State, transaction_of}
 use Rattle.plain_laws.proofs.Entries.{at, at_here}
 use Rattle.core_store.specs.declared.note.Note.{Note}
 use Rattle.latch_table.specs.Rule.{AreAt, KeepsEachOnce}
-use Rattle.journal_chronicle.specs.View.{has_transaction}
+use Rattle.shared_store.specs.Chronicles.View.{has_transaction}
 use Rattle.shared_store.specs.Passes.{Known}
 use Rattle.client_pass.specs.declared.ends.WorkEnd.{WorkEnd}
 use Rattle.client_pass.specs.declared.ends.WorkEnd.TheVariants.{Finished}

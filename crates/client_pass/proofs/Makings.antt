@@ -11,8 +11,8 @@ use Rattle.plain_model.specs.declared.calls.Entry.TheVariants as entry
 use Rattle.core_store.specs.declared.note.Note.{Note}
 use Rattle.latch_table.specs.Account.{Marks}
 use Rattle.latch_table.specs.Views.{KeepMarks}
-use Rattle.journal_chronicle.specs.Clients.{speaker_of, has_after as has_after_entry}
-use Rattle.journal_chronicle.specs.View.{has_transaction}
+use Rattle.shared_store.specs.Chronicles.Clients.{speaker_of, has_after as has_after_entry}
+use Rattle.shared_store.specs.Chronicles.View.{has_transaction}
 use Rattle.shared_store.specs.Passes.{Known}
 use Rattle.shared_store.specs.Calls.{GoesOnAs, Keeps}
 use Rattle.client_pass.specs.Attempts.{Deed, Made, Undid, calls_in, has_after, AreUndos}

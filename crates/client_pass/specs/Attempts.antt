@@ -7,7 +7,7 @@ use Rattle.plain_model.specs.declared.calls.Reply.{Reply}
 use Rattle.plain_model.specs.declared.calls.Reply.TheVariants.{Done, Busy}
 use Rattle.plain_model.specs.declared.calls.Entry.{Entry}
 use Rattle.plain_model.specs.declared.calls.Entry.TheVariants.{Call, Undo}
-use Rattle.journal_chronicle.specs.Clients.{begins_or_ends}
+use Rattle.shared_store.specs.Chronicles.Clients.{begins_or_ends}
 
 -- what a client did: it made a call, which was answered so; or it undid one of its writes
 pub data Deed : Type 0 where

@@ -14,7 +14,7 @@ use Rattle.core_store.specs.RoundView.{Closed}
 use Rattle.disk_model.specs.Causes.{Rose}
 use Rattle.latch_table.specs.declared.view.Station.{Station}
 use Rattle.latch_table.specs.Views.{KeepMarks, is_listed, truth_of}
-use Rattle.journal_chronicle.specs.Clients.{speaker_of}
+use Rattle.shared_store.specs.Chronicles.Clients.{speaker_of}
 use Rattle.shared_store.specs.declared.refused.Refused.{Refused}
 use Rattle.shared_store.specs.Passes.{Known, IsClient}
 use Rattle.shared_store.specs.Calls.{MakesCollect, KeepsNone}

@@ -11,8 +11,8 @@ use Rattle.core_store.specs.declared.collect.Collect.{Collect}
 use Rattle.core_store.specs.declared.collect.Collect.TheVariants as collected
 use Rattle.core_store.specs.declared.note.Note.{Note}
 use Rattle.latch_table.specs.Views.{KeepMarks}
-use Rattle.journal_chronicle.specs.Clients.{speaker_of}
-use Rattle.journal_chronicle.specs.Steps.{entered_by_call}
+use Rattle.shared_store.specs.Chronicles.Clients.{speaker_of}
+use Rattle.shared_store.specs.Chronicles.Steps.{entered_by_call}
 use Rattle.shared_store.specs.declared.answers.CollectRefusal.{CollectRefusal}
 use Rattle.shared_store.specs.declared.answers.CollectRefusal.TheVariants as refusal
 use Rattle.shared_store.specs.declared.answers.StepRefusal.TheVariants as step

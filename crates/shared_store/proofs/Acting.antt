@@ -17,12 +17,12 @@ use Rattle.latch_table.specs.Rule.{IsInHand, IsLater}
 use Rattle.latch_table.specs.Steps.{IsNext}
 use Rattle.latch_table.proofs.Frames.{some_is}
 use Rattle.core_store.specs.declared.note.Note.{Note}
-use Rattle.journal_chronicle.specs.Clients.{speaker_of}
-use Rattle.journal_chronicle.specs.Steps.{Flags, GoesOnWith, no_mark, disk_mark}
+use Rattle.shared_store.specs.Chronicles.Clients.{speaker_of}
+use Rattle.shared_store.specs.Chronicles.Steps.{Flags, GoesOnWith, no_mark, disk_mark}
 use Rattle.logged_journal.specs.declared.failed.FailedCall.{FailedCall}
-use Rattle.journal_chronicle.specs.View.{Origin, account, origin_of, notes_of, marks_of, sizes_of}
-use Rattle.journal_chronicle.proofs.Goings.{marks-same, marks-disk, stays-goes_on, stays-same}
-use Rattle.journal_chronicle.proofs.Tables.{in-hand, is-next}
+use Rattle.shared_store.specs.Chronicles.View.{Origin, account, origin_of, notes_of, marks_of, sizes_of}
+use Rattle.shared_store.proofs.Chronicles.Goings.{marks-same, marks-disk, stays-goes_on, stays-same}
+use Rattle.shared_store.proofs.Chronicles.Tables.{in-hand, is-next}
 use Rattle.shared_store.specs.declared.refused.Refused.{Refused}
 use Rattle.shared_store.specs.Passes.{Known, IsPass}
 use Rattle.shared_store.specs.Acts.{Acts, IsToDrop, Takes}

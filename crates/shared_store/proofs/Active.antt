@@ -7,7 +7,7 @@ use Rattle.store_model.specs.Sound.{IsSound}
 use Rattle.core_store.specs.JournalView.{JournalView, core_of, opening_of}
 use Rattle.core_store.specs.Leads.{AreLed}
 use Rattle.logged_journal.specs.View.{LoggedView, history_of}
-use Rattle.journal_chronicle.specs.View.{has_transaction, history_after, notes_of, origin_of}
+use Rattle.shared_store.specs.Chronicles.View.{has_transaction, history_after, notes_of, origin_of}
 use Rattle.shared_store.specs.Calls.{WasNoted}
 
 none-is : {A : Type 0} (o : Option A) → is_some o ≡ false → o ≡ None

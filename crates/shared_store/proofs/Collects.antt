@@ -30,10 +30,10 @@ use Rattle.logged_journal.specs.View.{LoggedView, failed_commit, history_of}
 use Rattle.latch_table.specs.Account.{Marks}
 use Rattle.latch_table.specs.Views.{joined_marks}
 use Rattle.latch_table.specs.Holds.{IsAnother}
-use Rattle.journal_chronicle.specs.Clients.{speaker_of}
-use Rattle.journal_chronicle.specs.View.{notes_of}
-use Rattle.journal_chronicle.proofs.Notes.{no-commit, notes-running}
-use Rattle.journal_chronicle.specs.Steps.{Flags, GoesOnWith, no_mark, no_page, marks_with}
+use Rattle.shared_store.specs.Chronicles.Clients.{speaker_of}
+use Rattle.shared_store.specs.Chronicles.View.{notes_of}
+use Rattle.shared_store.proofs.Chronicles.Notes.{no-commit, notes-running}
+use Rattle.shared_store.specs.Chronicles.Steps.{Flags, GoesOnWith, no_mark, no_page, marks_with}
 use Rattle.shared_store.specs.declared.answers.CollectRefusal.{CollectRefusal}
 use Rattle.shared_store.specs.declared.answers.CollectRefusal.TheVariants.{Again, Stopped, LogFull}
 use Rattle.shared_store.specs.declared.refused.Refused.{Refused}

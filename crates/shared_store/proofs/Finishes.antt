@@ -8,8 +8,8 @@ use Rattle.logged_journal.specs.View.{LoggedView}
 use Rattle.latch_table.specs.Views.{log_of, reframed, story}
 use Rattle.latch_table.specs.Rule.{IsInHand}
 use Rattle.latch_table.specs.Steps.{told_of}
-use Rattle.journal_chronicle.specs.Pages.{AreShownBy}
-use Rattle.journal_chronicle.specs.View.{account, origin_of, notes_of, marks_of, sizes_of, frame_after}
+use Rattle.shared_store.specs.Chronicles.Pages.{AreShownBy}
+use Rattle.shared_store.specs.Chronicles.View.{account, origin_of, notes_of, marks_of, sizes_of, frame_after}
 use Rattle.shared_store.specs.Passes.{Known}
 use Rattle.shared_store.specs.Acts.{IsToDrop}
 use Rattle.shared_store.specs.Holding.{pairs_onto, pairs_of, with_pages}

@@ -16,9 +16,9 @@ use Rattle.latch_table.specs.Views.{KeepMarks, joined_marks, log_of, log_claimed
 use Rattle.latch_table.specs.Holds.{HoldView, HasNone, IsAnother}
 use Rattle.latch_table.specs.Rule.{HasMet, IsLater, LieBelow}
 use Rattle.latch_table.specs.Steps.{told_of}
-use Rattle.journal_chronicle.specs.Clients.{has_after}
-use Rattle.journal_chronicle.specs.Steps.{Flags}
-use Rattle.journal_chronicle.specs.View.{Origin, account, notes_of, marks_of, sizes_of, has_transaction}
+use Rattle.shared_store.specs.Chronicles.Clients.{has_after}
+use Rattle.shared_store.specs.Chronicles.Steps.{Flags}
+use Rattle.shared_store.specs.Chronicles.View.{Origin, account, notes_of, marks_of, sizes_of, has_transaction}
 use Rattle.shared_store.specs.declared.refused.Refused.{Refused}
 use Rattle.shared_store.specs.Passes.{Known, IsPass, AreMarked}
 use Rattle.shared_store.specs.Acts.{Acts}

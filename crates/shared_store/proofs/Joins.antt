@@ -13,7 +13,7 @@ use Rattle.latch_table.specs.Account.{Marks}
 use Rattle.latch_table.specs.Views.{joined, joined_marks, main_of, truth_of}
 use Rattle.latch_table.specs.Holds.{HoldView}
 use Rattle.latch_table.proofs.Frames.{if_same, if_other}
-use Rattle.journal_chronicle.specs.View.{Origin}
+use Rattle.shared_store.specs.Chronicles.View.{Origin}
 use Rattle.shared_store.specs.declared.refused.Refused.{Refused}
 use Rattle.shared_store.specs.Passes.{Known, IsPass, AreMarked, both, joined_refusals}
 use Rattle.shared_store.proofs.Goings.{or-left, or-right, some-left}

@@ -13,8 +13,8 @@ use Rattle.latch_table.specs.declared.hold.Held.{Held}
 use Rattle.latch_table.specs.Views.{joined_marks, page_claimed, page_dropped, with_claims, without}
 use Rattle.latch_table.specs.Holds.{IsAnother}
 use Rattle.latch_table.proofs.Frames.{if_same}
-use Rattle.journal_chronicle.specs.Clients.{speaker_of}
-use Rattle.journal_chronicle.specs.Steps.{Flags, GoesOnWith, no_mark, no_page, marks_with}
+use Rattle.shared_store.specs.Chronicles.Clients.{speaker_of}
+use Rattle.shared_store.specs.Chronicles.Steps.{Flags, GoesOnWith, no_mark, no_page, marks_with}
 use Rattle.shared_store.specs.declared.refused.Refused.{Refused}
 use Rattle.shared_store.specs.Passes.{Known, AreMarked}
 use Rattle.shared_store.specs.Acts.{Acts, Takes}

@@ -1,3 +1,4 @@
+mod Chronicles
 mod Pairs
 mod Meetings
 mod Acting

@@ -21,10 +21,10 @@ use Rattle.latch_table.specs.declared.hold.Held.{Held}
 use Rattle.latch_table.specs.Views.{log_of}
 use Rattle.latch_table.specs.Holds.{TableView, HoldView, IsAlone, IsAnother}
 use Rattle.latch_table.specs.Steps.{IsNext, told_of}
-use Rattle.journal_chronicle.specs.Clients.{speaker_of}
-use Rattle.journal_chronicle.specs.Pages.{AreShownBy}
-use Rattle.journal_chronicle.specs.Steps.{Flags, EntersIf, GoesOnWith, no_page}
-use Rattle.journal_chronicle.specs.View.{Origin, account, origin_of, notes_of, frame_after}
+use Rattle.shared_store.specs.Chronicles.Clients.{speaker_of}
+use Rattle.shared_store.specs.Chronicles.Pages.{AreShownBy}
+use Rattle.shared_store.specs.Chronicles.Steps.{Flags, EntersIf, GoesOnWith, no_page}
+use Rattle.shared_store.specs.Chronicles.View.{Origin, account, origin_of, notes_of, frame_after}
 use Rattle.shared_store.specs.Passes.{Known}
 use Rattle.shared_store.specs.Acts.{Acts, IsToDrop, Takes}
 use Rattle.shared_store.specs.Holding.{with_pages, HasJournal}

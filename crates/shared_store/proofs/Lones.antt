@@ -30,10 +30,10 @@ use Rattle.latch_table.specs.declared.view.Station.{Station}
 use Rattle.latch_table.specs.Views.{all_claimed, first_view, log_of, pages_onto, renamed, story}
 use Rattle.latch_table.specs.Holds.{TableView, HoldView, IsAlone, IsAnother}
 use Rattle.latch_table.specs.Steps.{IsNext, told_of}
-use Rattle.journal_chronicle.specs.Clients.{speaker_of}
-use Rattle.journal_chronicle.specs.Pages.{AreShownBy}
-use Rattle.journal_chronicle.specs.Steps.{Flags, EntersIf, GoesOnWith, entered_by_abort_step, entered_by_collect_step, entered_by_upkeep}
-use Rattle.journal_chronicle.specs.View.{Origin, account, failed_note, origin_of, marks_of, notes_of, sizes_of, frame_after}
+use Rattle.shared_store.specs.Chronicles.Clients.{speaker_of}
+use Rattle.shared_store.specs.Chronicles.Pages.{AreShownBy}
+use Rattle.shared_store.specs.Chronicles.Steps.{Flags, EntersIf, GoesOnWith, entered_by_abort_step, entered_by_collect_step, entered_by_upkeep}
+use Rattle.shared_store.specs.Chronicles.View.{Origin, account, failed_note, origin_of, marks_of, notes_of, sizes_of, frame_after}
 use Rattle.shared_store.specs.Passes.{Known}
 use Rattle.shared_store.specs.Acts.{Acts, IsToDrop, Takes}
 use Rattle.shared_store.specs.Holding.{pairs_onto, pairs_of, with_pages, HasJournal}

@@ -9,10 +9,10 @@ use Rattle.core_store.specs.Steppings.{OnlyLooks}
 use Rattle.logged_journal.specs.View.{LoggedView, failed_commit}
 use Rattle.latch_table.specs.Account.{Marks}
 use Rattle.latch_table.specs.Views.{joined_marks}
-use Rattle.journal_chronicle.specs.Steps.{Flags, EntersIf, GoesOnWith, no_mark, no_page, marks_with, count_kept}
-use Rattle.journal_chronicle.specs.View.{Origin, origin_of, notes_of, count_failed, marks_of, frame_after}
-use Rattle.journal_chronicle.proofs.Goings.{Stays, marks-same, stays-goes_on}
-use Rattle.journal_chronicle.proofs.Tables.{in-hand}
+use Rattle.shared_store.specs.Chronicles.Steps.{Flags, EntersIf, GoesOnWith, no_mark, no_page, marks_with, count_kept}
+use Rattle.shared_store.specs.Chronicles.View.{Origin, origin_of, notes_of, count_failed, marks_of, frame_after}
+use Rattle.shared_store.proofs.Chronicles.Goings.{Stays, marks-same, stays-goes_on}
+use Rattle.shared_store.proofs.Chronicles.Tables.{in-hand}
 use Rattle.shared_store.specs.Passes.{Known}
 use Rattle.shared_store.specs.Holding.{HasJournal}
 

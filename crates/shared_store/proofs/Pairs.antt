@@ -16,7 +16,7 @@ use Rattle.latch_table.specs.Views.{frame_of, without, page_claimed, page_droppe
 use Rattle.latch_table.specs.Holds.{IsAnother}
 use Rattle.latch_table.specs.Rule.{AgreesWithLog, HasMet}
 use Rattle.latch_table.proofs.Frames.{if_same, if_other, none_some, frame_new}
-use Rattle.journal_chronicle.specs.View.{account, origin_of, notes_of, frame_after}
+use Rattle.shared_store.specs.Chronicles.View.{account, origin_of, notes_of, frame_after}
 use Rattle.shared_store.specs.Passes.{Known}
 use Rattle.shared_store.specs.Acts.{Takes}
 use Rattle.shared_store.specs.Holding.{pairs_onto, pairs_of, with_pages, HasJournal}

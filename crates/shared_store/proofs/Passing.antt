@@ -11,8 +11,8 @@ use Rattle.latch_table.specs.Views.{joined_marks, log_of, log_claimed, log_dropp
 use Rattle.latch_table.specs.Holds.{HoldView, IsAnother}
 use Rattle.latch_table.specs.Rule.{HasMet, IsLater}
 use Rattle.latch_table.specs.Steps.{told_of}
-use Rattle.journal_chronicle.specs.Steps.{Flags, marks_with, count_kept}
-use Rattle.journal_chronicle.specs.View.{Origin, account, notes_of, marks_of, sizes_of}
+use Rattle.shared_store.specs.Chronicles.Steps.{Flags, marks_with, count_kept}
+use Rattle.shared_store.specs.Chronicles.View.{Origin, account, notes_of, marks_of, sizes_of}
 use Rattle.shared_store.specs.declared.refused.Refused.{Refused}
 use Rattle.shared_store.specs.Passes.{Known, IsPass, AreMarked}
 use Rattle.shared_store.specs.Acts.{Acts}

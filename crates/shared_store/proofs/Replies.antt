@@ -17,8 +17,8 @@ use Rattle.latch_table.specs.Account.{Marks}
 use Rattle.latch_table.specs.Views.{joined_marks}
 use Rattle.latch_table.specs.Rule.{HasMet}
 use Rattle.latch_table.specs.Holds.{HasNone, IsAnother}
-use Rattle.journal_chronicle.specs.Clients.{speaker_of, begins_or_ends, has_after}
-use Rattle.journal_chronicle.specs.Steps.{disk_mark, trace_mark, log_mark, marks_with, entered_by_call, marked_by_call}
+use Rattle.shared_store.specs.Chronicles.Clients.{speaker_of, begins_or_ends, has_after}
+use Rattle.shared_store.specs.Chronicles.Steps.{disk_mark, trace_mark, log_mark, marks_with, entered_by_call, marked_by_call}
 use Rattle.shared_store.specs.declared.refused.Refused.{Refused}
 use Rattle.shared_store.specs.Passes.{Known, AreMarked}
 use Rattle.shared_store.specs.Acts.{Acts, IsToDrop, Takes}

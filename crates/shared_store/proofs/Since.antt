@@ -33,9 +33,9 @@ use Rattle.logged_journal.specs.View.{LoggedView, OnlyTakesRoom, history_of}
 use Rattle.logged_journal.specs.Opens.{OpensAfter, OpensDuring, as_before, as_failed}
 use Rattle.logged_journal.specs.Calls.{IsGranted, IsOfJournal}
 use Rattle.logged_journal.proofs.CommitDone.{commit-done}
-use Rattle.journal_chronicle.specs.Since.{OpensSince, OpensToFront}
-use Rattle.journal_chronicle.specs.Steps.{Flags, GoesOnWith}
-use Rattle.journal_chronicle.specs.View.{history_after, notes_of, origin_of}
+use Rattle.shared_store.specs.Chronicles.Since.{OpensSince, OpensToFront}
+use Rattle.shared_store.specs.Chronicles.Steps.{Flags, GoesOnWith}
+use Rattle.shared_store.specs.Chronicles.View.{history_after, notes_of, origin_of}
 use Rattle.shared_store.specs.Calls.{DoesCallOn}
 use Rattle.shared_store.proofs.Upkeeps.{with_room}
 

@@ -19,8 +19,8 @@ use Rattle.logged_journal.proofs.OldLogs.{only-memory}
 use Rattle.latch_table.specs.declared.hold.Held.{Held}
 use Rattle.latch_table.specs.Holds.{IsAlone}
 use Rattle.latch_table.specs.Rule.{IsLater, KeepsEachOnce}
-use Rattle.journal_chronicle.specs.Steps.{entered_by_upkeep}
-use Rattle.journal_chronicle.specs.View.{account, notes_of}
+use Rattle.shared_store.specs.Chronicles.Steps.{entered_by_upkeep}
+use Rattle.shared_store.specs.Chronicles.View.{account, notes_of}
 use Rattle.shared_store.specs.Calls.{Finds, KeepsNoted, WasNoted}
 use Rattle.shared_store.specs.Passes.{Known}
 use Rattle.plain_model.specs.declared.calls.Entry.{Entry}

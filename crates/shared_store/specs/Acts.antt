@@ -10,8 +10,8 @@ use Rattle.latch_table.specs.Views.{with_claims}
 use Rattle.latch_table.specs.Holds.{IsAnother}
 use Rattle.latch_table.specs.Rule.{HasMet, IsInHand}
 use Rattle.latch_table.specs.Steps.{IsNext}
-use Rattle.journal_chronicle.specs.Steps.{Flags, GoesOnWith}
-use Rattle.journal_chronicle.specs.View.{account}
+use Rattle.shared_store.specs.Chronicles.Steps.{Flags, GoesOnWith}
+use Rattle.shared_store.specs.Chronicles.View.{account}
 use Rattle.shared_store.specs.Passes.{Known}
 use Rattle.shared_store.specs.Holding.{pairs_of, with_pages}
 

@@ -30,8 +30,8 @@ use Rattle.framed_journal.specs.Steps.{CollectsNext, CollectsOnFrames, FillsLog}
 use Rattle.latch_table.specs.Views.{KeepMarks, story}
 use Rattle.latch_table.specs.Holds.{HasNone, IsAlone, IsAnother}
 use Rattle.latch_table.specs.Rule.{IsLater, KeepsEachOnce, LieBelow}
-use Rattle.journal_chronicle.specs.Steps.{Flags, entered_by_abort_step, entered_by_call, entered_by_collect_step, marked_by_collect_step, no_mark, disk_mark, log_mark}
-use Rattle.journal_chronicle.specs.View.{account, has_transaction, history_after, marks_of, notes_of, origin_of, sizes_of}
+use Rattle.shared_store.specs.Chronicles.Steps.{Flags, entered_by_abort_step, entered_by_call, entered_by_collect_step, marked_by_collect_step, no_mark, disk_mark, log_mark}
+use Rattle.shared_store.specs.Chronicles.View.{account, has_transaction, history_after, marks_of, notes_of, origin_of, sizes_of}
 use Rattle.shared_store.specs.declared.answers.StepRefusal.{StepRefusal}
 use Rattle.shared_store.specs.declared.answers.StepRefusal.TheVariants as step
 use Rattle.shared_store.specs.declared.answers.CollectRefusal.{CollectRefusal}

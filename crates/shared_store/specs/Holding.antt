@@ -5,7 +5,7 @@ use Rattle.core_store.specs.declared.frame.Frame.{Frame}
 use Rattle.logged_journal.specs.View.{LoggedView}
 use Rattle.latch_table.specs.Views.{with_hands}
 use Rattle.latch_table.specs.Rule.{IsInHand}
-use Rattle.journal_chronicle.specs.View.{account}
+use Rattle.shared_store.specs.Chronicles.View.{account}
 use Rattle.shared_store.specs.Passes.{Known}
 
 -- these frames before those that are held, the one that was put last first

@@ -1,3 +1,4 @@
+pub mod Chronicles
 pub mod Passes
 pub mod Calls
 pub mod Holding

@@ -8,7 +8,7 @@ use Rattle.core_store.specs.Frames.{AreOnce, HoldsAll}
 use Rattle.logged_journal.specs.View.{LoggedView}
 use Rattle.latch_table.specs.Holds.{TableView, HoldView, IsAlone}
 use Rattle.framed_journal.specs.Holding.{AreHeldOf}
-use Rattle.journal_chronicle.specs.View.{Origin}
+use Rattle.shared_store.specs.Chronicles.View.{Origin}
 use Rattle.shared_store.specs.Passes.{Known}
 use Rattle.shared_store.specs.Acts.{Takes}
 use Rattle.shared_store.specs.Holding.{HasJournal, pairs_of}

@@ -8,7 +8,7 @@ use Rattle.latch_table.specs.declared.view.View.{View}
 use Rattle.latch_table.specs.Account.{Marks}
 use Rattle.latch_table.specs.Views.{truth_of}
 use Rattle.latch_table.specs.Holds.{HoldView, HasNone}
-use Rattle.journal_chronicle.specs.View.{Origin}
+use Rattle.shared_store.specs.Chronicles.View.{Origin}
 use Rattle.shared_store.specs.declared.refused.Refused.{Refused}
 
 -- what a pass knows of the store's words, journal and pages

@@ -20,8 +20,8 @@ use Rattle.framed_journal.specs.Upkeep.{CleansPage, ForcesPages}
 use Rattle.latch_table.specs.declared.hold.Held.{Held}
 use Rattle.latch_table.specs.Holds.{IsAlone}
 use Rattle.latch_table.specs.Rule.{IsLater, KeepsEachOnce}
-use Rattle.journal_chronicle.specs.Steps.{Flags, no_mark, entered_by_upkeep, marked_by_upkeep}
-use Rattle.journal_chronicle.specs.View.{account, notes_of}
+use Rattle.shared_store.specs.Chronicles.Steps.{Flags, no_mark, entered_by_upkeep, marked_by_upkeep}
+use Rattle.shared_store.specs.Chronicles.View.{account, notes_of}
 use Rattle.shared_store.specs.declared.refused.Refused.{Refused}
 use Rattle.shared_store.specs.Calls.{Finds, KeepsNoted, WasNoted, refused_by_upkeep}
 use Rattle.shared_store.specs.Passes.{Known}

@@ -1,20 +1,20 @@
 //! Steps of an abort.
 ghost use Rattle.std.specs.Prelude.{◌≡◌, ◌↔◌, ℕ, [], true, None, IsSome};
 ghost use Rattle.logged_journal.specs.View.{LoggedView};
-ghost use Rattle.journal_chronicle.specs.Since.{OpensSince};
-ghost use Rattle.journal_chronicle.specs.View.{has_transaction, notes_of};
+ghost use Rattle.shared_store.specs.Chronicles.Since.{OpensSince};
+ghost use Rattle.shared_store.specs.Chronicles.View.{has_transaction, notes_of};
 ghost use Rattle.shared_store.specs.Acts.{Acts};
 ghost use Rattle.shared_store.specs.Calls.{GoesOnAs, DoesStepOn, MakesStep, entered_by_step, marked_by_step, found_by_step, refused_by_step, has_after_step};
 ghost use Rattle.shared_store.specs.Holding.{HasJournal};
 
 use crate::answers::StepRefusal;
+use crate::chronicle::JournalChronicle;
 use crate::counting::count_disk;
 use crate::pass::Pass;
 use crate::refused::Refused;
 use crate::store::Store;
 use core_store::{AbortStep, Frame, Three};
 use disk_model::Disk;
-use journal_chronicle::JournalChronicle;
 use latch_table::{Held, Hold};
 use logged_journal::Stopped;
 

@@ -7,21 +7,21 @@ ghost use Rattle.core_store.specs.Limited.{pages_for_call};
 ghost use Rattle.logged_journal.specs.Opens.{OpensDuring};
 ghost use Rattle.logged_journal.specs.View.{LoggedView};
 ghost use Rattle.logged_journal.specs.Calls.{OnlyForces};
-ghost use Rattle.journal_chronicle.specs.Clients.{begins_or_ends};
-ghost use Rattle.journal_chronicle.specs.Since.{OpensSince};
-ghost use Rattle.journal_chronicle.specs.Steps.{entered_by_call, marked_by_call};
-ghost use Rattle.journal_chronicle.specs.View.{has_transaction, notes_of};
+ghost use Rattle.shared_store.specs.Chronicles.Clients.{begins_or_ends};
+ghost use Rattle.shared_store.specs.Chronicles.Since.{OpensSince};
+ghost use Rattle.shared_store.specs.Chronicles.Steps.{entered_by_call, marked_by_call};
+ghost use Rattle.shared_store.specs.Chronicles.View.{has_transaction, notes_of};
 ghost use Rattle.shared_store.specs.Passes.{IsClient};
 ghost use Rattle.shared_store.specs.Acts.{Acts};
 ghost use Rattle.shared_store.specs.Calls.{GoesOnAs, DoesCallOn, MakesCall, NeedsPage, WasNoted, found_by_call, refused_by_call};
 ghost use Rattle.shared_store.specs.Holding.{HasJournal};
 
+use crate::chronicle::JournalChronicle;
 use crate::counting::count_call;
 use crate::pass::Pass;
 use crate::store::Store;
 use core_store::{Frame, Three};
 use disk_model::Disk;
-use journal_chronicle::JournalChronicle;
 use latch_table::{Held, Hold};
 use plain_model::{Call, Reply};
 

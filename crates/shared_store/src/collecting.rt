@@ -1,19 +1,19 @@
 //! Steps of the collector.
 ghost use Rattle.std.specs.Prelude.{◌≡◌, ◌≢◌, ◌↔◌, ℕ, [], ◌∷◌, ◌++◌, true, None, IsSome};
 ghost use Rattle.logged_journal.specs.View.{LoggedView};
-ghost use Rattle.journal_chronicle.specs.Since.{OpensSince};
+ghost use Rattle.shared_store.specs.Chronicles.Since.{OpensSince};
 ghost use Rattle.shared_store.specs.Acts.{Acts};
 ghost use Rattle.shared_store.specs.Calls.{GoesOnAs, DoesCollectOn, MakesCollect, entered_by_collecting, marked_by_collecting, found_by_collecting, refused_by_collecting};
 ghost use Rattle.shared_store.specs.Holding.{HasJournal};
 
 use crate::answers::CollectRefusal;
+use crate::chronicle::JournalChronicle;
 use crate::counting::{count_disk, count_log, count_trace};
 use crate::pass::Pass;
 use crate::refused::Refused;
 use crate::store::Store;
 use core_store::{Act, Collect, Frame, Note, Three};
 use disk_model::Disk;
-use journal_chronicle::JournalChronicle;
 use latch_table::{Held, Hold};
 
 /// The answer where another pass has a word.

@@ -2,15 +2,15 @@
 ghost use Rattle.std.specs.Prelude.{◌≡◌, ◌<◌, ◌≤◌, [], ◌∷◌, ◌++◌, length, true, false};
 ghost use Rattle.latch_table.specs.Views.{log_dropped, log_of};
 ghost use Rattle.latch_table.specs.Steps.{IsNext, told_of};
-ghost use Rattle.journal_chronicle.specs.Since.{OpensSince};
-ghost use Rattle.journal_chronicle.specs.View.{account, marks_of, notes_of};
+ghost use Rattle.shared_store.specs.Chronicles.Since.{OpensSince};
+ghost use Rattle.shared_store.specs.Chronicles.View.{account, marks_of, notes_of};
 ghost use Rattle.shared_store.specs.Acts.{IsToDrop};
 ghost use Rattle.shared_store.specs.Holding.{with_pages};
 
+use crate::chronicle::JournalChronicle;
 use crate::store::Store;
 use core_store::{Frame, Note, Three};
 use disk_model::Disk;
-use journal_chronicle::JournalChronicle;
 use latch_table::{Chronicle, Hold};
 
 impl<const SLOTS: usize, D: Disk> Store<SLOTS, D> {

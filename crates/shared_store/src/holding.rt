@@ -8,15 +8,15 @@ ghost use Rattle.core_store.specs.Work.{IsWorkIn, pages_of_work};
 ghost use Rattle.latch_table.specs.Rule.{HasMet};
 ghost use Rattle.latch_table.specs.Views.{page_claimed};
 ghost use Rattle.latch_table.specs.Holds.{IsAnother};
-ghost use Rattle.journal_chronicle.specs.Steps.{GoesOnWith, no_mark, no_page};
+ghost use Rattle.shared_store.specs.Chronicles.Steps.{GoesOnWith, no_mark, no_page};
 ghost use Rattle.framed_journal.specs.Holding.{AreHeldOf};
 ghost use Rattle.shared_store.specs.Acts.{Takes};
 ghost use Rattle.shared_store.specs.Holding.{HasJournal, pairs_of, with_pages};
 
+use crate::chronicle::JournalChronicle;
 use crate::store::Store;
 use core_store::{Frame, Three, Want, Work};
 use disk_model::Disk;
-use journal_chronicle::JournalChronicle;
 use latch_table::{Held, Hold};
 
 impl<const SLOTS: usize, D: Disk> Store<SLOTS, D> {

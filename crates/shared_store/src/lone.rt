@@ -4,10 +4,10 @@ ghost use Rattle.cell_page.specs.Format.{IsSlotCount};
 ghost use Rattle.core_store.specs.Frames.{AllAgree};
 ghost use Rattle.core_store.specs.JournalView.{cells_of};
 
+use crate::chronicle::JournalChronicle;
 use crate::store::Store;
 use core_store::{Frame, Three};
 use disk_model::Disk;
-use journal_chronicle::JournalChronicle;
 use latch_table::{Hold, Latches};
 use logged_journal::LoggedJournal;
 use std::alloc::Global;

@@ -2,10 +2,10 @@
 ghost use Rattle.std.specs.Prelude.{◌≡◌};
 ghost use Rattle.shared_store.specs.Passes.{AreMarked};
 
+use crate::chronicle::JournalChronicle;
 use crate::refused::Refused;
 use core_store::Frame;
 use disk_model::Disk;
-use journal_chronicle::JournalChronicle;
 use latch_table::Hold;
 use std::marker::Model;
 

@@ -5,10 +5,10 @@ ghost use Rattle.latch_table.specs.Holds.{IsAlone};
 ghost use Rattle.shared_store.specs.Holding.{HasJournal};
 ghost use Rattle.shared_store.specs.Lone.{TakesAll};
 
+use crate::chronicle::JournalChronicle;
 use crate::store::Store;
 use core_store::{Frame, Three};
 use disk_model::Disk;
-use journal_chronicle::JournalChronicle;
 use latch_table::Hold;
 
 impl<const SLOTS: usize, D: Disk> Store<SLOTS, D> {

@@ -3,7 +3,7 @@ use Rattle.std.specs.Prelude.{option_map}
 use Rattle.logged_journal.specs.View.{LoggedView}
 use Rattle.framed_journal.specs.Holding.{AreFramesOf}
 use Rattle.latch_table.specs.Views.{first_view}
-use Rattle.journal_chronicle.specs.View.{origin_of}
+use Rattle.shared_store.specs.Chronicles.View.{origin_of}
 use Rattle.brahma_shell.specs.Ran.{Ran}
 use Rattle.brahma_shell.specs.Running.{HasRun}
 use Rattle.brahma_shell.specs.Top.{outside}

@@ -10,7 +10,7 @@ use Rattle.shared_store.specs.Passes.{Known}
 use Rattle.std.specs.Prelude.{IsSome}
 use Rattle.core_store.specs.Logged.{pages_for_undo}
 use Rattle.core_store.specs.Replaced.{next_to_restore}
-use Rattle.journal_chronicle.specs.Steps.{entered_by_abort_step, marked_by_abort_step}
+use Rattle.shared_store.specs.Chronicles.Steps.{entered_by_abort_step, marked_by_abort_step}
 use Rattle.shared_store.proofs.Lones.{WentOn, lone-renamed, lone-next, lone-shown, lone-after, speaks-as, own-step-speaks}
 use Rattle.shared_store.proofs.lone.LoneStore.abort_step.Goals as goal
 

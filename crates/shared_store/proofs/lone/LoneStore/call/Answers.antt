@@ -8,7 +8,7 @@ use Rattle.framed_journal.proofs.HoldLaws.{slots-few}
 use Rattle.shared_store.specs.Passes.{Known}
 use Rattle.plain_model.specs.declared.calls.Call.TheVariants as call
 use Rattle.core_store.specs.Limited.{pages_for_call}
-use Rattle.journal_chronicle.specs.Steps.{entered_by_call, marked_by_call}
+use Rattle.shared_store.specs.Chronicles.Steps.{entered_by_call, marked_by_call}
 use Rattle.shared_store.proofs.Replies.{call-speaks}
 use Rattle.shared_store.proofs.Lones.{WentOn, lone-renamed, lone-next, lone-shown, lone-after, speaks-as}
 use Rattle.shared_store.proofs.lone.LoneStore.call.Goals as goal

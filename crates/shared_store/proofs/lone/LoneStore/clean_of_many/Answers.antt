@@ -9,7 +9,7 @@ use Rattle.logged_journal.specs.Records.{MayHaveAll}
 use Rattle.logged_journal.specs.View.{LoggedView, history_of}
 use Rattle.framed_journal.proofs.HoldLaws.{slots-few, page_within}
 use Rattle.framed_journal.proofs.UpkeepLaws.{frame-holds}
-use Rattle.journal_chronicle.specs.Steps.{entered_by_upkeep, marked_by_upkeep}
+use Rattle.shared_store.specs.Chronicles.Steps.{entered_by_upkeep, marked_by_upkeep}
 use Rattle.shared_store.specs.Upkeep.{DoesCleanOn}
 use Rattle.shared_store.proofs.Lones.{WentOn, lone-next, lone-after, own-upkeep-speaks}
 use Rattle.shared_store.proofs.LoneUpkeeps.{lone-frames, goes-held, still-shown, still-within, no-many}

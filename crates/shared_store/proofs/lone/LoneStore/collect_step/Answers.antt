@@ -2,7 +2,7 @@ use Rattle.std.proofs.Common.{◌≤◌, length, sym, ap, ◌∙◌, rules}
 use Rattle.logged_journal.specs.View.{LoggedView}
 use Rattle.framed_journal.proofs.HoldLaws.{slots-few}
 use Rattle.core_store.specs.declared.note.Note.{Note}
-use Rattle.journal_chronicle.specs.Steps.{entered_by_collect_step, marked_by_collect_step}
+use Rattle.shared_store.specs.Chronicles.Steps.{entered_by_collect_step, marked_by_collect_step}
 use Rattle.framed_journal.proofs.CollectLaws.{collects-all, collects-next, fills-log, all_go_on-before, disk-before}
 use Rattle.shared_store.proofs.Lones.{WentOn, lone-looked, lone-next, lone-shown, lone-after, own-collect-speaks}
 use Rattle.shared_store.proofs.lone.LoneStore.collect_step.Goals as goal

@@ -4,7 +4,7 @@ use Rattle.core_store.specs.declared.note.Note.{Note}
 use Rattle.core_store.specs.JournalView.{cells_of}
 use Rattle.core_store.specs.Frames.{AllAgree}
 use Rattle.logged_journal.specs.View.{LoggedView}
-use Rattle.journal_chronicle.specs.View.{origin_of, frame_after}
+use Rattle.shared_store.specs.Chronicles.View.{origin_of, frame_after}
 use Rattle.framed_journal.proofs.HoldLaws.{slots-few}
 use Rattle.shared_store.proofs.Lones.{none-noted, first-lone}
 use Rattle.shared_store.proofs.lone.LoneStore.new.Goals as goal

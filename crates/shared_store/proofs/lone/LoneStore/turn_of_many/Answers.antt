@@ -5,7 +5,7 @@ use Rattle.logged_journal.specs.Opens.{OpensAfter}
 use Rattle.logged_journal.specs.Records.{MayHaveAll}
 use Rattle.logged_journal.specs.View.{LoggedView, history_of}
 use Rattle.framed_journal.proofs.HoldLaws.{slots-few}
-use Rattle.journal_chronicle.specs.Steps.{entered_by_upkeep, marked_by_upkeep}
+use Rattle.shared_store.specs.Chronicles.Steps.{entered_by_upkeep, marked_by_upkeep}
 use Rattle.shared_store.specs.Upkeep.{DoesTurnOn}
 use Rattle.shared_store.proofs.Lones.{WentOn, lone-next, lone-after, own-upkeep-speaks}
 use Rattle.shared_store.proofs.LoneUpkeeps.{lone-frames, goes-held, still-shown, still-within, no-many}

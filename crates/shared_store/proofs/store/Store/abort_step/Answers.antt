@@ -2,8 +2,8 @@ use Rattle.std.proofs.Common.{◌≡◌, ◌≤◌, ℕ, ◌+◌, Err, sym, ap, 
 use Rattle.latch_table.specs.Views.{joined_marks}
 use Rattle.latch_table.specs.Rule.{HasMet}
 use Rattle.framed_journal.proofs.HoldLaws.{slots-few}
-use Rattle.journal_chronicle.specs.Steps.{marks_with, count_kept}
-use Rattle.journal_chronicle.specs.View.{has_transaction, marks_of, notes_of}
+use Rattle.shared_store.specs.Chronicles.Steps.{marks_with, count_kept}
+use Rattle.shared_store.specs.Chronicles.View.{has_transaction, marks_of, notes_of}
 use Rattle.shared_store.specs.declared.refused.Refused.{Refused}
 use Rattle.shared_store.specs.Passes.{Known, AreMarked}
 use Rattle.shared_store.specs.Calls.{GoesOnAs, DoesStepOn, KeepsNoted, MakesStep, entered_by_step, marked_by_step, found_by_step, refused_by_step}
@@ -11,7 +11,7 @@ use Rattle.shared_store.proofs.Acting.{acts-seen, has-journal}
 use Rattle.shared_store.proofs.Passing.{IsDone, done-comes, done-pass, met-pass}
 use Rattle.shared_store.proofs.Steps.{again-stepped, again-unrefused, again-met, step-drop, marked-step, txn-step}
 use Rattle.logged_journal.specs.View.{LoggedView}
-use Rattle.journal_chronicle.specs.Since.{OpensSince}
+use Rattle.shared_store.specs.Chronicles.Since.{OpensSince}
 use Rattle.shared_store.proofs.store.Store.abort_step.Goals as goal
 
 -- ---- another pass has the log word

@@ -16,7 +16,7 @@ use Rattle.framed_journal.proofs.HoldLaws.{slots-few}
 use Rattle.logged_journal.specs.declared.failed.FailedCall.{FailedCall}
 use Rattle.logged_journal.specs.View.{LoggedView}
 use Rattle.logged_journal.proofs.Areas.{areas-kept}
-use Rattle.journal_chronicle.specs.Steps.{entered_by_call, marked_by_call}
+use Rattle.shared_store.specs.Chronicles.Steps.{entered_by_call, marked_by_call}
 use Rattle.shared_store.specs.Calls.{found_by_call}
 use Rattle.shared_store.proofs.Active.{none-active, was-noted}
 use Rattle.shared_store.proofs.Wanted.{same-word, stopped-again}

@@ -18,7 +18,7 @@ use Rattle.shared_store.specs.Calls.{entered_by_step, marked_by_step, found_by_s
 use Rattle.shared_store.proofs.Active.{some-active}
 use Rattle.shared_store.proofs.Acting.{acts-stopped, acts-on}
 use Rattle.shared_store.proofs.Steps.{step-stopped, again-step, again-met}
-use Rattle.journal_chronicle.specs.Steps.{entered_by_abort_step, marked_by_abort_step}
+use Rattle.shared_store.specs.Chronicles.Steps.{entered_by_abort_step, marked_by_abort_step}
 use Rattle.shared_store.proofs.Since.{later-history, since-still}
 use Rattle.shared_store.proofs.store.Store.act_abort_step.Goals as goal
 

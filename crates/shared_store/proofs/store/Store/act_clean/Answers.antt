@@ -8,7 +8,7 @@ use Rattle.disk_model.specs.Told.{EachImage}
 use Rattle.logged_journal.specs.Opens.{OpensAfter}
 use Rattle.logged_journal.specs.Records.{MayBeLeft}
 use Rattle.logged_journal.specs.View.{LoggedView, history_of}
-use Rattle.journal_chronicle.specs.Steps.{GoesOnWith, no_mark, no_page, entered_by_upkeep, marked_by_refusal, marked_by_upkeep}
+use Rattle.shared_store.specs.Chronicles.Steps.{GoesOnWith, no_mark, no_page, entered_by_upkeep, marked_by_refusal, marked_by_upkeep}
 use Rattle.shared_store.specs.Passes.{Known}
 use Rattle.shared_store.proofs.Kept.{acts-none, dropped-alone}
 use Rattle.shared_store.proofs.Looks.{goes-behind, still-journal}

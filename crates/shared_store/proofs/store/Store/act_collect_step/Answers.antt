@@ -10,7 +10,7 @@ use Rattle.shared_store.specs.Calls.{WasNoted, entered_by_collecting, marked_by_
 use Rattle.shared_store.proofs.Acting.{acts-stopped, acts-on}
 use Rattle.shared_store.proofs.Collects.{acts-looked_found, acts-behind, collect-stopped, collect-did}
 use Rattle.core_store.specs.Frames.{is_held}
-use Rattle.journal_chronicle.specs.Steps.{entered_by_collect_step, marked_by_collect_step}
+use Rattle.shared_store.specs.Chronicles.Steps.{entered_by_collect_step, marked_by_collect_step}
 use Rattle.shared_store.proofs.Looks.{goes-behind}
 use Rattle.shared_store.proofs.Since.{later-history, since-looked, since-still}
 use Rattle.shared_store.proofs.store.Store.act_collect_step.Goals as goal

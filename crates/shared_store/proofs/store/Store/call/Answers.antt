@@ -6,9 +6,9 @@ use Rattle.logged_journal.specs.Opens.{OpensDuring}
 use Rattle.latch_table.specs.Views.{joined_marks}
 use Rattle.latch_table.specs.Rule.{HasMet}
 use Rattle.framed_journal.proofs.HoldLaws.{slots-few}
-use Rattle.journal_chronicle.specs.Steps.{marks_with, count_kept}
-use Rattle.journal_chronicle.specs.View.{has_transaction, marks_of, notes_of}
-use Rattle.journal_chronicle.specs.Steps.{entered_by_call, marked_by_call}
+use Rattle.shared_store.specs.Chronicles.Steps.{marks_with, count_kept}
+use Rattle.shared_store.specs.Chronicles.View.{has_transaction, marks_of, notes_of}
+use Rattle.shared_store.specs.Chronicles.Steps.{entered_by_call, marked_by_call}
 use Rattle.shared_store.specs.declared.refused.Refused.{Refused}
 use Rattle.shared_store.specs.Passes.{Known, AreMarked}
 use Rattle.shared_store.specs.Calls.{GoesOnAs, DoesCallOn, MakesCall, KeepsNoted, NeedsPage, found_by_call, refused_by_call}
@@ -17,7 +17,7 @@ use Rattle.shared_store.proofs.Passing.{IsDone, done-comes, done-pass, met-pass}
 use Rattle.shared_store.proofs.Replies.{again-goes, again-refused, again-found, call-drop, marked-call, txn-after}
 use Rattle.shared_store.proofs.Wanted.{same-word}
 use Rattle.logged_journal.specs.View.{LoggedView}
-use Rattle.journal_chronicle.specs.Since.{OpensSince}
+use Rattle.shared_store.specs.Chronicles.Since.{OpensSince}
 use Rattle.shared_store.proofs.store.Store.call.Goals as goal
 
 -- ---- another pass has the log word

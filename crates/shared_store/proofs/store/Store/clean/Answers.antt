@@ -3,8 +3,8 @@ use Rattle.core_store.specs.declared.three.HeldFrame.{HeldFrame}
 use Rattle.latch_table.specs.Views.{joined_marks}
 use Rattle.latch_table.specs.Rule.{HasMet}
 use Rattle.framed_journal.proofs.HoldLaws.{slots-few}
-use Rattle.journal_chronicle.specs.Steps.{marks_with, count_kept}
-use Rattle.journal_chronicle.specs.View.{marks_of}
+use Rattle.shared_store.specs.Chronicles.Steps.{marks_with, count_kept}
+use Rattle.shared_store.specs.Chronicles.View.{marks_of}
 use Rattle.shared_store.specs.declared.refused.Refused.{Refused}
 use Rattle.shared_store.specs.Passes.{Known, AreMarked}
 use Rattle.shared_store.specs.Acts.{IsToDrop}
@@ -16,7 +16,7 @@ use Rattle.shared_store.proofs.Goings.{found-log}
 use Rattle.shared_store.proofs.Passing.{done-comes, done-pass, met-pass}
 use Rattle.shared_store.proofs.Upkeeps.{makes-clean}
 use Rattle.logged_journal.specs.View.{LoggedView}
-use Rattle.journal_chronicle.specs.Since.{OpensSince}
+use Rattle.shared_store.specs.Chronicles.Since.{OpensSince}
 use Rattle.shared_store.proofs.store.Store.clean.Goals as goal
 
 -- ---- another pass has the log word

@@ -9,10 +9,10 @@ use Rattle.core_store.specs.Frames.{AllAgree}
 use Rattle.logged_journal.specs.View.{LoggedView, history_of}
 use Rattle.latch_table.specs.Rule.{MetClaimed}
 use Rattle.latch_table.proofs.Frames.{some_is}
-use Rattle.journal_chronicle.specs.View.{Origin, origin_of, notes_of, marks_of, history_after, frame_after, has_transaction}
+use Rattle.shared_store.specs.Chronicles.View.{Origin, origin_of, notes_of, marks_of, history_after, frame_after, has_transaction}
 use Rattle.shared_store.specs.declared.refused.Refused.{Refused}
 use Rattle.shared_store.specs.Passes.{Known, AreMarked}
-use Rattle.journal_chronicle.specs.Since.{OpensSince}
+use Rattle.shared_store.specs.Chronicles.Since.{OpensSince}
 use Rattle.shared_store.proofs.store.Store.close.Goals as goal
 
 some-kept : (a b : Option ℕ) → ((n : ℕ) → a ≡ Some n → b ≡ Some n) → IsSome a → IsSome b

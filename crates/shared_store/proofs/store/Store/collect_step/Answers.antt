@@ -2,8 +2,8 @@ use Rattle.std.proofs.Common.{◌≡◌, ◌≤◌, ℕ, ◌+◌, Err, [], ◌�
 use Rattle.latch_table.specs.Views.{joined_marks}
 use Rattle.latch_table.specs.Rule.{HasMet}
 use Rattle.framed_journal.proofs.HoldLaws.{slots-few}
-use Rattle.journal_chronicle.specs.Steps.{marks_with, count_kept}
-use Rattle.journal_chronicle.specs.View.{marks_of}
+use Rattle.shared_store.specs.Chronicles.Steps.{marks_with, count_kept}
+use Rattle.shared_store.specs.Chronicles.View.{marks_of}
 use Rattle.shared_store.specs.declared.answers.CollectRefusal.{CollectRefusal}
 use Rattle.shared_store.specs.declared.refused.Refused.{Refused}
 use Rattle.shared_store.specs.Passes.{Known, AreMarked}
@@ -14,7 +14,7 @@ use Rattle.shared_store.proofs.Kept.{act-seen}
 use Rattle.shared_store.proofs.Goings.{found-log}
 use Rattle.shared_store.proofs.Passing.{done-comes, done-pass, met-pass}
 use Rattle.logged_journal.specs.View.{LoggedView}
-use Rattle.journal_chronicle.specs.Since.{OpensSince}
+use Rattle.shared_store.specs.Chronicles.Since.{OpensSince}
 use Rattle.shared_store.proofs.store.Store.collect_step.Goals as goal
 
 -- ---- another pass has the log word

@@ -1,11 +1,11 @@
 use Rattle.std.proofs.Common.{◌≤◌, [], ap, ◌∙◌, rules, sym, subst}
 use Rattle.framed_journal.proofs.HoldLaws.{slots-few}
 use Rattle.latch_table.specs.Views.{log_dropped}
-use Rattle.journal_chronicle.specs.View.{marks_of}
+use Rattle.shared_store.specs.Chronicles.View.{marks_of}
 use Rattle.shared_store.specs.Holding.{with_pages}
 use Rattle.shared_store.proofs.Finishes.{is-told, told-hand}
 use Rattle.logged_journal.specs.View.{LoggedView}
-use Rattle.journal_chronicle.specs.Since.{OpensSince}
+use Rattle.shared_store.specs.Chronicles.Since.{OpensSince}
 use Rattle.shared_store.proofs.store.Store.finish.Goals as goal
 
 pub drop_held-requires-after_bounds : goal.drop_held-requires-after_bounds

@@ -6,7 +6,7 @@ use Rattle.core_store.specs.declared.note.Note.{Note}
 use Rattle.core_store.specs.JournalView.{cells_of}
 use Rattle.core_store.specs.Frames.{AllAgree}
 use Rattle.logged_journal.specs.View.{LoggedView, history_of}
-use Rattle.journal_chronicle.specs.View.{origin_of, notes_of, failed_note, frame_after}
+use Rattle.shared_store.specs.Chronicles.View.{origin_of, notes_of, failed_note, frame_after}
 use Rattle.std.proofs.lemmas.List.{get_or-replicate}
 use Rattle.latch_table.specs.Views.{truth_of}
 use Rattle.framed_journal.proofs.HoldLaws.{slots-few}

@@ -4,8 +4,8 @@ use Rattle.cell_page.specs.Format.{HasId, page_of_id}
 use Rattle.core_store.specs.declared.frame.Frame.{Frame}
 use Rattle.core_store.specs.JournalView.{cells_after_notes}
 use Rattle.framed_journal.proofs.HoldLaws.{slots-few}
-use Rattle.journal_chronicle.specs.Pages.{page_in}
-use Rattle.journal_chronicle.proofs.PageCells.{has-id}
+use Rattle.shared_store.specs.Chronicles.Pages.{page_in}
+use Rattle.shared_store.proofs.Chronicles.PageCells.{has-id}
 use Rattle.shared_store.proofs.store.Store.peek.Goals as goal
 
 pub page_of-page-requires-clause-few : goal.page_of-page-requires-clause-few
