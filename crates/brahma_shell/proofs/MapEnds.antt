@@ -4,9 +4,9 @@ use Rattle.disk_model.specs.Areas.{Bytes}
 use Rattle.disk_model.specs.Causes.{Rose}
 use Rattle.store_opening.specs.declared.open_refusal.OpenRefusal.{OpenRefusal}
 use Rattle.store_opening.specs.declared.open_refusal.OpenRefusal.TheVariants as refusal
-use Rattle.map_lines.specs.declared.grammar.Line.{Line}
-use Rattle.map_lines.specs.declared.grammar.Line.TheVariants as line
-use Rattle.map_lines.specs.Grammar.{IsRefused}
+use Rattle.map_calls.specs.declared.grammar.Line.{Line}
+use Rattle.map_calls.specs.declared.grammar.Line.TheVariants as line
+use Rattle.map_calls.specs.Grammar.{IsRefused}
 use Rattle.map_calls.specs.declared.failure.Failure.{Failure}
 use Rattle.map_calls.specs.declared.failure.Failure.TheVariants as failure
 use Rattle.map_calls.specs.declared.failure.Unopened.TheVariants as unopened

@@ -20,8 +20,8 @@ use Rattle.logged_journal.specs.Records.{MayBeLeft, durable_notes}
 use Rattle.logged_journal.specs.Opens.{OpensAfter}
 use Rattle.script_lines.specs.Lines.{lines_of}
 use Rattle.script_lines.specs.Numbers.{object_slots}
-use Rattle.map_lines.specs.Grammar.{IsRefused}
-use Rattle.map_lines.specs.Output.{no_map_line}
+use Rattle.map_calls.specs.Grammar.{IsRefused}
+use Rattle.map_calls.specs.Output.{no_map_line}
 use Rattle.map_calls.specs.declared.failure.Failure.{Failure}
 use Rattle.map_calls.specs.declared.failure.Failure.TheVariants as failure
 use Rattle.map_calls.specs.Maps.{MapState}

@@ -5,7 +5,7 @@ use Rattle.disk_model.specs.Causes.{Rose}
 use Rattle.store_opening.specs.declared.open_refusal.OpenRefusal.{OpenRefusal}
 use Rattle.store_opening.specs.declared.open_refusal.OpenRefusal.TheVariants as refusal
 use Rattle.script_lines.specs.Output.{open_refusal_line}
-use Rattle.map_lines.specs.Output.{no_map_line}
+use Rattle.map_calls.specs.Output.{no_map_line}
 use Rattle.map_calls.specs.declared.failure.Failure.{Failure}
 use Rattle.map_calls.specs.declared.failure.Failure.TheVariants as failure
 use Rattle.map_calls.specs.declared.failure.Unopened.{Unopened}

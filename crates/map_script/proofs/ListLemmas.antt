@@ -4,8 +4,8 @@ use Rattle.std.specs.Prelude.{Result, OnOk, IfErr}
 use Rattle.std.specs.Io.KnownBytes.{Appends}
 use Rattle.disk_model.specs.Causes.{Rose}
 use Rattle.script_lines.specs.Output.{AppendsFront}
-use Rattle.map_lines.specs.declared.grammar.Line.TheVariants as line
-use Rattle.map_lines.specs.Output.{list_line}
+use Rattle.map_calls.specs.declared.grammar.Line.TheVariants as line
+use Rattle.map_calls.specs.Output.{list_line}
 use Rattle.map_calls.specs.declared.failure.Failure.TheVariants as failure
 use Rattle.map_script.specs.declared.stop.Stop.{Stop}
 use Rattle.map_script.specs.declared.stop.Stop.TheVariants as stop

@@ -5,9 +5,9 @@ use Rattle.std.specs.Io.KnownBytes.{Keeps, prepend_known}
 use Rattle.script_lines.specs.Lines.{line_feeds}
 use Rattle.script_lines.specs.Reading.{TakesLine, TakesLastLine, BeginsWithLongLine, IsDone}
 use Rattle.script_lines.proofs.OutputLemmas.{Appends-none, Appends-trans, Appends-keeps, AppendsFront-after}
-use Rattle.map_lines.specs.declared.grammar.Line.{Line}
-use Rattle.map_lines.specs.declared.grammar.Line.TheVariants.{Crash}
-use Rattle.map_lines.specs.Grammar.{IsRefused}
+use Rattle.map_calls.specs.declared.grammar.Line.{Line}
+use Rattle.map_calls.specs.declared.grammar.Line.TheVariants.{Crash}
+use Rattle.map_calls.specs.Grammar.{IsRefused}
 use Rattle.map_calls.specs.declared.failure.Failure.{Failure}
 use Rattle.map_calls.specs.declared.failure.Failure.TheVariants as failure
 use Rattle.map_calls.specs.declared.failure.Unopened.{Unopened}

@@ -6,7 +6,7 @@ use Rattle.std.specs.Io.KnownBytes.{prepend_known, Keeps}
 use Rattle.script_lines.specs.Lines.{lines_of, line_feeds, whole_lines_of}
 use Rattle.script_lines.specs.Reading.{TakesLine, TakesLastLine, BeginsWithLongLine, IsDone}
 use Rattle.script_lines.proofs.LineLemmas.{line_feeds-append}
-use Rattle.map_lines.specs.Grammar.{IsRefused}
+use Rattle.map_calls.specs.Grammar.{IsRefused}
 use Rattle.map_script.specs.Following.{AreTaken, AreAll, AreRead, AreFirst, AreBefore}
 
 -- ---- the first line of what is left

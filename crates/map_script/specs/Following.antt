@@ -1,8 +1,8 @@
 -- Which text follows the lines of a script, and which lines of a source are done.
 use Rattle.std.specs.Prelude.{◌≡◌, ℕ, ◌+◌, List, [], ◌∷◌, ◌++◌, length, Option, Some, None, ⊤}
 use Rattle.script_lines.specs.Lines.{lines_of, line_feeds, whole_lines_of}
-use Rattle.map_lines.specs.declared.grammar.Line.{Line}
-use Rattle.map_lines.specs.Grammar.{IsAccepted, IsRefused, meaning_of}
+use Rattle.map_calls.specs.declared.grammar.Line.{Line}
+use Rattle.map_calls.specs.Grammar.{IsAccepted, IsRefused, meaning_of}
 use Rattle.map_calls.specs.Maps.{MapState}
 use Rattle.map_script.specs.Machine.{Does}
 

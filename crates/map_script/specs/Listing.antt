@@ -2,7 +2,7 @@
 use Rattle.std.specs.Prelude.{ℕ, List, Option}
 use Rattle.std.specs.Io.KnownBytes.{Keeps}
 use Rattle.script_lines.specs.Output.{AppendsFront}
-use Rattle.map_lines.specs.Output.{list_line}
+use Rattle.map_calls.specs.Output.{list_line}
 use Rattle.map_calls.specs.declared.failure.Failure.TheVariants as failure
 use Rattle.map_script.specs.declared.stop.Stop.{Stop}
 use Rattle.map_script.specs.declared.stop.Stop.TheVariants as stop

@@ -1,9 +1,9 @@
 -- What each line asks of a map, and prints.
 use Rattle.std.specs.Prelude.{◌≡◌, ◌⊎◌, ℕ, ◌<◌, List, [], length}
 use Rattle.map_calls.specs.Maps.{MapState, needs, Puts, Deletes}
-use Rattle.map_lines.specs.declared.grammar.Line.{Line}
-use Rattle.map_lines.specs.declared.grammar.Line.TheVariants as line
-use Rattle.map_lines.specs.Output.{put_line, put_full_line, found_line, deleted_line, list_line, reopened_line}
+use Rattle.map_calls.specs.declared.grammar.Line.{Line}
+use Rattle.map_calls.specs.declared.grammar.Line.TheVariants as line
+use Rattle.map_calls.specs.Output.{put_line, put_full_line, found_line, deleted_line, list_line, reopened_line}
 use Rattle.plain_map.specs.Pairs.{value_of}
 
 -- a `put` and its line: the key gets the value; or fewer ids are free than it needs, and the map stays

@@ -3,7 +3,7 @@ use Rattle.std.specs.Prelude.{◌≡◌, ◌⊎◌, ℕ, List, [], ◌++◌, len
 use Rattle.std.specs.Io.KnownBytes.{Appends}
 use Rattle.disk_model.specs.Causes.{Rose}
 use Rattle.script_lines.specs.Output.{AppendsFront, EndsWith}
-use Rattle.map_lines.specs.Output.{keys_line}
+use Rattle.map_calls.specs.Output.{keys_line}
 use Rattle.map_script.specs.declared.stop.Stop.{Stop}
 use Rattle.map_script.specs.declared.stop.Stop.TheVariants as stop
 use Rattle.map_script.specs.Following.{Follows, AreAll}

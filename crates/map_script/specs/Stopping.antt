@@ -3,10 +3,10 @@ use Rattle.std.specs.Prelude.{◌≡◌, ◌⊎◌, ◌↔◌, ℕ, true, List, 
 use Rattle.std.specs.Io.KnownBytes.{Appends, Keeps}
 use Rattle.disk_model.specs.Causes.{Rose}
 use Rattle.script_lines.specs.Output.{AppendsFront, refused_line}
-use Rattle.map_lines.specs.declared.grammar.Line.{Line}
-use Rattle.map_lines.specs.declared.grammar.Line.TheVariants.{Crash}
-use Rattle.map_lines.specs.Grammar.{IsRefused}
-use Rattle.map_lines.specs.Output.{keys_line}
+use Rattle.map_calls.specs.declared.grammar.Line.{Line}
+use Rattle.map_calls.specs.declared.grammar.Line.TheVariants.{Crash}
+use Rattle.map_calls.specs.Grammar.{IsRefused}
+use Rattle.map_calls.specs.Output.{keys_line}
 use Rattle.map_calls.specs.declared.failure.Failure.TheVariants as failure
 use Rattle.map_calls.specs.declared.failure.Unopened.TheVariants.{Unread}
 use Rattle.map_script.specs.declared.stop.Stop.{Stop}

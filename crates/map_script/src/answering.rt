@@ -2,7 +2,7 @@
 ghost use Rattle.std.specs.Prelude.{◌≡◌, ◌≤◌, true, OnOk, IfErr, IsErrOf};
 ghost use Rattle.std.specs.Io.KnownBytes.{Appends};
 ghost use Rattle.disk_model.specs.Causes.{Rose};
-ghost use Rattle.map_lines.specs.Output.{list_line};
+ghost use Rattle.map_calls.specs.Output.{list_line};
 ghost use Rattle.map_calls.specs.Views.{GoesOn};
 ghost use Rattle.map_script.specs.Stopping.{Answers, StopsAnswer, DoesLine, StopsLine};
 ghost use Rattle.map_script.specs.Listing.{StopsList};
@@ -13,7 +13,7 @@ use crate::printing::{print, tell};
 use crate::stop::Stop;
 use disk_model::Disk;
 use map_calls::{Failure, Put};
-use map_lines::{
+use map_calls::{
     Line, accepted, deleted_line, found_line, list_line, put_full_line, put_line, reopened_line,
 };
 use outside_io::Sink;

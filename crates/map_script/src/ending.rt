@@ -2,7 +2,7 @@
 ghost use Rattle.std.specs.Prelude.{◌≡◌, ◌⊎◌, ◌≤◌, ◌++◌, true, length, OnOk, IfErr, IsErrOf};
 ghost use Rattle.std.specs.Io.KnownBytes.{Appends};
 ghost use Rattle.disk_model.specs.Causes.{Rose};
-ghost use Rattle.map_lines.specs.Output.{keys_line};
+ghost use Rattle.map_calls.specs.Output.{keys_line};
 ghost use Rattle.map_calls.specs.Views.{GoesOn};
 ghost use Rattle.map_script.specs.Stopping.{StopsEnd};
 ghost use Rattle.map_script.specs.Mapped.{EndsWell, StopsAnywhere, Mapped, streams};
@@ -12,7 +12,7 @@ use crate::printing::{end_stopped, tell};
 use crate::script::do_lines;
 use crate::stop::Stop;
 use disk_model::Disk;
-use map_lines::keys_line;
+use map_calls::keys_line;
 use outside_io::{Sink, Source};
 use std::alloc::Global;
 use stored_map::StoredMap;

@@ -1,6 +1,6 @@
 use Rattle.std.proofs.Common.{◌∙◌, ap, inl, inr}
-use Rattle.map_lines.specs.declared.grammar.Line.TheVariants.{Put}
-use Rattle.map_lines.specs.Output.{put_line}
+use Rattle.map_calls.specs.declared.grammar.Line.TheVariants.{Put}
+use Rattle.map_calls.specs.Output.{put_line}
 use Rattle.stored_map.specs.Stores.{view_of, leaving, Tell}
 use Rattle.map_script.proofs.StoreLemmas.{keeps-same}
 use Rattle.map_script.proofs.AnswerLemmas.{answers, stops-writing}

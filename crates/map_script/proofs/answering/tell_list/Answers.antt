@@ -1,5 +1,5 @@
 use Rattle.std.proofs.Common.{◌∙◌}
-use Rattle.map_lines.specs.Output.{list_line}
+use Rattle.map_calls.specs.Output.{list_line}
 use Rattle.map_script.proofs.StoreLemmas.{keeps-same}
 use Rattle.map_script.proofs.ListLemmas.{written-as, stops-list}
 use Rattle.map_script.proofs.answering.tell_list.Goals as goal

@@ -1,6 +1,6 @@
 use Rattle.std.proofs.Common.{◌∙◌, ap, sym}
 use Rattle.std.specs.Prelude.{length}
-use Rattle.map_lines.specs.Output.{keys_line}
+use Rattle.map_calls.specs.Output.{keys_line}
 use Rattle.map_calls.specs.Maps.{MapState}
 use Rattle.stored_map.specs.Stores.{view_of, leaving}
 use Rattle.map_script.proofs.StoreLemmas.{keeps-same}

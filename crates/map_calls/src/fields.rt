@@ -1,7 +1,7 @@
 //! The fields of a line.
 ghost use Rattle.std.specs.Prelude.{◌≡◌, ◌<◌, [], ◌∷◌, not, MatchOption, position, length};
 ghost use Rattle.script_lines.specs.Fields.{is_blank, fields_of};
-ghost use Rattle.map_lines.specs.Operands.{listed};
+ghost use Rattle.map_calls.specs.Operands.{listed};
 
 /// The fields after the first one.
 #[derive(Clone, Copy)]

@@ -1,7 +1,7 @@
 use Rattle.std.proofs.Common.{◌+◌, ◌-◌, take, drop, length}
 use Rattle.std.proofs.lemmas.List.{take_rest}
 use Rattle.script_lines.proofs.FieldLemmas.{fields_of-none, fields_of-before, fields_of-last}
-use Rattle.map_lines.proofs.fields.next_field.Goals as goal
+use Rattle.map_calls.proofs.fields.next_field.Goals as goal
 
 pub returns-in-Some-blank_start : goal.returns-in-Some-blank_start
 returns-in-Some-blank_start c =

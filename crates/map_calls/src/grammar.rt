@@ -2,8 +2,8 @@
 ghost use Rattle.std.specs.Prelude.{◌≡◌, MatchOption};
 ghost use Rattle.script_lines.specs.Fields.{fields_of};
 ghost use Rattle.script_lines.specs.Grammar.{is_comment};
-ghost use Rattle.map_lines.specs.Operands.{listed};
-ghost use Rattle.map_lines.specs.Grammar.{request_of, meaning_of, IsAccepted, IsRefused};
+ghost use Rattle.map_calls.specs.Operands.{listed};
+ghost use Rattle.map_calls.specs.Grammar.{request_of, meaning_of, IsAccepted, IsRefused};
 
 use crate::fields::{Operands, next_field, operands_of};
 use crate::numbers::{payload_of, pick_of};

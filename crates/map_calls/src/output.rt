@@ -1,7 +1,7 @@
 //! Printed lines.
 ghost use Rattle.std.specs.Prelude.{◌≡◌, ◌+◌, ◌≤◌, ◌++◌, length, IfOk, OnOk, string_bytes, decimal};
 ghost use Rattle.arrayvec.specs.ArrayString.{array_string_len};
-ghost use Rattle.map_lines.specs.Output.{put_line, put_full_line, found_line, deleted_line, pair_text, list_line, reopened_line, keys_line, no_map_line, value_text};
+ghost use Rattle.map_calls.specs.Output.{put_line, put_full_line, found_line, deleted_line, pair_text, list_line, reopened_line, keys_line, no_map_line, value_text};
 
 use arrayvec::ArrayString;
 use itoa::Buffer;

@@ -1,7 +1,7 @@
 -- Operands as a list of fields.
 use Rattle.std.specs.Prelude.{ℕ, List, [], ◌∷◌}
-use Rattle.map_lines.specs.declared.fields.Operands.{Operands}
-use Rattle.map_lines.specs.declared.fields.Operands.TheVariants.{Nil, One, Two}
+use Rattle.map_calls.specs.declared.fields.Operands.{Operands}
+use Rattle.map_calls.specs.declared.fields.Operands.TheVariants.{Nil, One, Two}
 
 -- the fields, in order
 abbrev pub listed : Operands → List (List ℕ)

@@ -3,8 +3,8 @@ use Rattle.std.specs.Prelude.{ℕ, ◌≤◌, if◌then◌else◌, List, [], ◌
 use Rattle.script_lines.specs.Fields.{fields_of}
 use Rattle.script_lines.specs.Numbers.{payload_of, pick_of}
 use Rattle.script_lines.specs.Grammar.{◌>>=◌, is_comment, max_line, max_lines}
-use Rattle.map_lines.specs.declared.grammar.Line.{Line}
-use Rattle.map_lines.specs.declared.grammar.Line.TheVariants as line
+use Rattle.map_calls.specs.declared.grammar.Line.{Line}
+use Rattle.map_calls.specs.declared.grammar.Line.TheVariants as line
 
 -- `put` asks that a key have a value: two numbers below 2^64
 abbrev pub put_of : List (List ℕ) → Option Line
