@@ -12,9 +12,9 @@ use crate::placing::place;
 use crate::printing::{print, tell};
 use crate::stop::Stop;
 use disk_model::Disk;
-use map_calls::{Failure, Put};
 use map_calls::{
-    Line, accepted, deleted_line, found_line, list_line, put_full_line, put_line, reopened_line,
+    Failure, Line, Put, accepted, deleted_line, found_line, list_line, put_full_line, put_line,
+    reopened_line,
 };
 use outside_io::Sink;
 use std::alloc::Global;

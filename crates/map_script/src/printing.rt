@@ -8,8 +8,7 @@ ghost use Rattle.map_script.specs.Stopping.{last_line, status_of};
 
 use crate::stop::Stop;
 use arrayvec::ArrayString;
-use map_calls::{Failure, Unopened};
-use map_calls::{LINE_ROOM, no_map_line};
+use map_calls::{Failure, LINE_ROOM, Unopened, no_map_line};
 use outside_io::Sink;
 use script_lines::{open_refusal_line, refused_line, write_all, write_last};
 use store_opening::OpenRefusal;
