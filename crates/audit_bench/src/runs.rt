@@ -92,6 +92,14 @@ fn last_mark(table: &[bool]) -> u32 {
     }
 }
 
+/// Whether the last word has a mark, as a number. In both stores the last id alone has its mark there.
+fn last_word(words: &[u64]) -> u32 {
+    match words.last() {
+        Some(last) => u32::from(*last != 0),
+        None => 0,
+    }
+}
+
 /// The marking. Whether the root reaches the last id, as a number.
 fn mark_cells<R: Threads + AllocGlobal + Sync>(
     rt: &R,
@@ -104,7 +112,7 @@ fn mark_cells<R: Threads + AllocGlobal + Sync>(
         None => Ok(last_mark(marks_of(rt.alloc(), cells)?.as_slice())),
         Some(pieces) => {
             let unreached = mark(rt, rt.alloc(), cells, pieces)?;
-            Ok(1u32.saturating_sub(last_mark(unreached.as_slice())))
+            Ok(1u32.saturating_sub(last_word(unreached.as_slice())))
         }
     }
 }

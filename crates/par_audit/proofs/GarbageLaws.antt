@@ -25,7 +25,7 @@ both true false false e h = refl
 both false l u e h = absurd (cc)
 
 -- the marked ids from 1 on are the live ones that aren't reached
-pub unreached-garbage : (cells : List Cell) (table : List Bool) (ids : ℕ) → AreObjects cells table
+pub unreached-garbage : (cells : List Cell) (table : List ℕ) (ids : ℕ) → AreObjects cells table
     → count_by (is_marked table) (range_with_len 1 ids) ≡ garbage_in cells (is_reached cells table) (range_with_len 1 ids)
 unreached-garbage cells table ids objects =
     count-same (is_marked table) (λ id. is_live cells id && not (is_reached cells table id)) 1 ids

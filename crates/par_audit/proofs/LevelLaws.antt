@@ -12,6 +12,7 @@ use Rattle.cell_page.specs.declared.cell.Cell.{Cell as PageCell}
 use Rattle.cell_page.specs.Stored.{cell_of, pointers_from}
 use Rattle.std.proofs.Math.Seq.{drop-append_seam}
 use Rattle.restart_laws.proofs.GraphLaws.{graph-object, graph-live}
+use Rattle.par_audit.proofs.FollowLaws.{live-past}
 use Rattle.par_audit.specs.Marks.{is_marked, is_object, is_reached, is_in, is_named, slots_at, AreObjects, Follows}
 use Rattle.par_audit.specs.Garbage.{IsUnreached}
 
@@ -146,6 +147,14 @@ reached-live cells starts x r = Reachable-least (graph_of cells) starts (λ y. i
       steps = λ y z o p live there named nonzero target. (graph-held cells z p target).0;
     }
 
+-- past the last cell there is no object
+pub object-past : {slots : ℕ} (cells : List (PageCell slots)) (id : ℕ) → length cells ≤ id → is_object (map cell_of cells) id ≡ false
+object-past cells id past = off (not (id == 0)) (is_live (map cell_of cells) id) (live-past cells id past)
+  where
+    off : (b c : Bool) → c ≡ false → (b && c) ≡ false
+    off true c e = e
+    off false c e = refl
+
 object-of : (cells : List Cell) (y : ℕ) → y ≢ 0 → is_live cells y ≡ true → is_object cells y ≡ true
 object-of cells y n e = ap (λ (b : Bool). not b && is_live cells y) (ne_eqb y 0 n) ∙ e
 
@@ -193,7 +202,7 @@ of-not true e = absurd (cc)
 of-not false e = refl
 
 -- who follows names reaches what they name
-reaches : (cells : List Cell) (f : ℕ → Bool) (a b : List Bool) (xs ys : List ℕ) → AreObjects cells a → (s : Follows f a b xs ys) → Reaches cells f (is_reached cells a) (is_reached cells b) s.found
+reaches : (cells : List Cell) (f : ℕ → Bool) (a b : List ℕ) (xs ys : List ℕ) → AreObjects cells a → (s : Follows f a b xs ys) → Reaches cells f (is_reached cells a) (is_reached cells b) s.found
 reaches cells f a b xs ys objects s = record {
   marked = λ id. ap (λ (m : Bool). is_object cells id && not m) (s.kept id) ∙ reached-after (is_object cells id) (is_marked a id) (f id);
   new = λ id. (
@@ -207,7 +216,7 @@ reaches cells f a b xs ys objects s = record {
 }
 
 -- what is unreached stays of objects
-pub objects-kept : (cells : List Cell) (f : ℕ → Bool) (a b : List Bool) (xs ys : List ℕ) → AreObjects cells a → Follows f a b xs ys → AreObjects cells b
+pub objects-kept : (cells : List Cell) (f : ℕ → Bool) (a b : List ℕ) (xs ys : List ℕ) → AreObjects cells a → Follows f a b xs ys → AreObjects cells b
 objects-kept cells f a b xs ys objects s = λ id still. objects id (and-split (is_marked a id) (not (f id)) (sym (s.kept id) ∙ still)).0
 
 -- who follows a level of reached objects goes to the next level
@@ -250,11 +259,11 @@ unreached-all true false e = absurd (cc)
 unreached-all false a e = refl
 
 -- all objects are unreached
-pub objects-all : (cells : List Cell) (table : List Bool) → ((id : ℕ) → is_marked table id ≡ is_object cells id) → AreObjects cells table
+pub objects-all : (cells : List Cell) (table : List ℕ) → ((id : ℕ) → is_marked table id ≡ is_object cells id) → AreObjects cells table
 objects-all cells table all = λ id e. sym (all id) ∙ e
 
 -- the root alone, where it is live
-pub marking-begins : (cells : List Cell) (a b : List Bool) (ys : List ℕ) → ((id : ℕ) → is_marked a id ≡ is_object cells id) → Follows (λ x. root == x) a b [] ys
+pub marking-begins : (cells : List Cell) (a b : List ℕ) (ys : List ℕ) → ((id : ℕ) → is_marked a id ≡ is_object cells id) → Follows (λ x. root == x) a b [] ys
     → IsMarking (graph_of cells) (root ∷ []) (is_reached cells b) (drop 0 ys)
 marking-begins cells a b ys all s = subst (λ (l : List ℕ). IsMarking (graph_of cells) (root ∷ []) (is_reached cells b) l) (sym s.appended) (record {
   begun = λ x o start there.
@@ -280,7 +289,7 @@ marking-begins cells a b ys all s = subst (λ (l : List ℕ). IsMarking (graph_o
     single x (suc k, lt, at) = absurd (omega (arith, lt))
 
 -- a level more, where the list has the level from one place on and the next level after it
-pub marking-goes_on : {slots : ℕ} (cells : List (PageCell slots)) (a b : List Bool) (xs ys : List ℕ) («from» : ℕ) → AreObjects (map cell_of cells) a
+pub marking-goes_on : {slots : ℕ} (cells : List (PageCell slots)) (a b : List ℕ) (xs ys : List ℕ) («from» : ℕ) → AreObjects (map cell_of cells) a
     → IsMarking (graph_of (map cell_of cells)) (root ∷ []) (is_reached (map cell_of cells) a) (drop «from» xs) → Follows (is_named cells (drop «from» xs)) a b xs ys
     → IsMarking (graph_of (map cell_of cells)) (root ∷ []) (is_reached (map cell_of cells) b) (drop (length xs) ys)
 marking-goes_on cells a b xs ys «from» objects is s =
@@ -297,7 +306,7 @@ drop-past (suc n) [] past = refl
 drop-past (suc n) (x ∷ xs) past = drop-past n xs (omega (arith, past))
 
 -- no level is left
-pub marking-over : (cells : List Cell) (table : List Bool) (xs : List ℕ) («from» : ℕ) → length xs ≤ «from» → AreObjects cells table
+pub marking-over : (cells : List Cell) (table : List ℕ) (xs : List ℕ) («from» : ℕ) → length xs ≤ «from» → AreObjects cells table
     → IsMarking (graph_of cells) (root ∷ []) (is_reached cells table) (drop «from» xs) → IsUnreached cells table
 marking-over cells table xs «from» past objects is = record {
   objects = objects;

@@ -1,5 +1,5 @@
 mod FollowLaws
-mod ListingLaws
+mod MarkLaws
 mod LevelLaws
 mod PairLaws
 mod PieceLaws

@@ -10,7 +10,7 @@ use Rattle.std.proofs.lemmas.List.Folds.{list_any-append}
 use Rattle.cell_page.specs.declared.cell.Cell.{Cell as PageCell}
 use Rattle.rayon.specs.Numbers.{nat_range}
 use Rattle.par_audit.specs.Pieces.{piece_at}
-use Rattle.par_audit.specs.Marks.{is_marked, is_in, is_named, slots_at, IsNameTable}
+use Rattle.par_audit.specs.Marks.{is_marked, is_in, is_named, slots_at, AreNames}
 
 -- the pieces from one on, one after another
 pub pieces-from : {X : Type 0} (size : ℕ) (xs : List X) (a n : ℕ) → flat_map (piece_at size xs) (range_with_len a n) ≡ take (n * size) (drop (a * size) xs)
@@ -43,26 +43,26 @@ pub enough : (n p : ℕ) → 0 < p → n ≤ p * (n / p + min 1 (n % p))
 enough n p some = subst (λ (k : ℕ). n ≤ k) (mul_comm (n / p + min 1 (n % p)) p) (div_ceil_times n p some).0
 
 -- the union of the pieces' names is the whole's
-pub names-any : {slots : ℕ} (cells : List (PageCell slots)) (ids id size : ℕ) (level ns : List ℕ) (ts : List (Vec Bool Global)) → id < ids
-    → AllZip (λ n t. IsNameTable cells (piece_at size level n) ids t.items) ns ts
+pub names-any : {slots : ℕ} (cells : List (PageCell slots)) (ids id size : ℕ) (level ns : List ℕ) (ts : List (Vec ℕ Global)) → id / 64 < ids
+    → AllZip (λ n t. AreNames cells (piece_at size level n) ids t.items) ns ts
     → list_any (λ t. is_marked t.items id) ts ≡ is_named cells (flat_map (piece_at size level) ns) id
 names-any cells ids id size level [] [] within h = refl
 names-any cells ids id size level [] (t ∷ ts) within h = absurd h
 names-any cells ids id size level (n ∷ ns) [] within h = absurd h
 names-any cells ids id size level (n ∷ ns) (t ∷ ts) within h =
     let rest = names-any cells ids id size level ns ts within h.1 in
-    ap (λ (b : Bool). b || list_any (λ (u : Vec Bool Global). is_marked u.items id) ts) (h.0.each id within)
+    ap (λ (b : Bool). b || list_any (λ (u : Vec ℕ Global). is_marked u.items id) ts) (h.0.each id within)
     ∙ (ap (λ (b : Bool). is_named cells (piece_at size level n) id || b) rest
     ∙ sym (list_any-append (λ x. is_in (slots_at cells x) id) (piece_at size level n) (flat_map (piece_at size level) ns)))
 
-pub names-wide : {slots : ℕ} (cells : List (PageCell slots)) (ids size : ℕ) (level ns : List ℕ) (ts : List (Vec Bool Global))
-    → AllZip (λ n t. IsNameTable cells (piece_at size level n) ids t.items) ns ts → All (λ (t : Vec Bool Global). length t.items ≡ ids) ts
+pub names-wide : {slots : ℕ} (cells : List (PageCell slots)) (ids size : ℕ) (level ns : List ℕ) (ts : List (Vec ℕ Global))
+    → AllZip (λ n t. AreNames cells (piece_at size level n) ids t.items) ns ts → All (λ (t : Vec ℕ Global). length t.items ≡ ids) ts
 names-wide cells ids size level [] [] h = λ k d lt. absurd (omega (arith, lt))
 names-wide cells ids size level [] (t ∷ ts) h = absurd h
 names-wide cells ids size level (n ∷ ns) [] h = absurd h
 names-wide cells ids size level (n ∷ ns) (t ∷ ts) h = at (λ k d lt. names-wide cells ids size level ns ts h.1 k d lt)
   where
-    at : All (λ (u : Vec Bool Global). length u.items ≡ ids) ts → All (λ (u : Vec Bool Global). length u.items ≡ ids) (t ∷ ts)
+    at : All (λ (u : Vec ℕ Global). length u.items ≡ ids) ts → All (λ (u : Vec ℕ Global). length u.items ≡ ids) (t ∷ ts)
     at rest zero d lt = h.0.len
     at rest (suc k) d lt = rest k d (omega (arith, lt))
 

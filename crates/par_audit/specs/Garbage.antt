@@ -18,7 +18,7 @@ garbage_in cells is_reached ids = count_by (λ id. is_live cells id && not (is_r
 abbrev pub IsGarbage : List Cell → List ℕ → ℕ → Type 0
 IsGarbage cells ids garbage = (is_reached : ℕ → Bool) × IsReach cells is_reached × (garbage ≡ garbage_in cells is_reached ids)
 
--- the table marks just the objects that the root doesn't reach
-pub record IsUnreached (cells : List Cell) (table : List Bool) : Type 0 where
-  pub objects : AreObjects cells table
-  pub reach : IsReach cells (is_reached cells table)
+-- the words mark just the objects that the root doesn't reach
+pub record IsUnreached (cells : List Cell) (words : List ℕ) : Type 0 where
+  pub objects : AreObjects cells words
+  pub reach : IsReach cells (is_reached cells words)

@@ -1,27 +1,18 @@
 //! Following pointers, one after another: what they lead to is reached and listed.
-ghost use Rattle.std.specs.Prelude.{◌≡◌, ◌==◌, ◌<◌, ◌≤◌, true, false, length, drop, IfOk};
-ghost use Rattle.par_audit.specs.Marks.{Follows, is_in, is_marked, is_named, slots_at};
+ghost use Rattle.std.specs.Prelude.{◌≡◌, ◌==◌, ◌≤◌, length, drop, IfOk};
+ghost use Rattle.par_audit.specs.Marks.{Follows, is_in, is_named, slots_at};
 
+use crate::marks::{clear_mark, has_mark};
 use cell_page::Cell;
 use plain_model::Memory;
 
-/// Whether the id is that of an object that isn't reached yet.
-#[inline(always)]
-fn is_unreached(unreached: &[bool], id: u32) -> bool
-    ensures value { result ≡ is_marked unreached.now id }
-    ensures within { result ≡ true → id < length unreached.now }
-{
-    let at = id as usize;
-    at < unreached.len() && unreached[at]
-}
-
 /// Reaches and lists the object of this id, where it isn't reached yet.
 #[inline(always)]
-pub(crate) fn visit(unreached: &mut [bool], found: &mut Vec<u32>, id: u32) -> Result<(), Memory>
+pub(crate) fn visit(unreached: &mut [u64], found: &mut Vec<u32>, id: u32) -> Result<(), Memory>
     ensures { IfOk result (λ _. Follows (λ x. id == x) unreached.old unreached.new found.old.items found.new.items) }
 {
-    if is_unreached(unreached, id) {
-        unreached[id as usize] = false;
+    if has_mark(unreached, id) {
+        clear_mark(unreached, id);
         found.push(id)?;
     }
     Ok(())
@@ -29,7 +20,7 @@ pub(crate) fn visit(unreached: &mut [bool], found: &mut Vec<u32>, id: u32) -> Re
 
 /// Reaches and lists the objects that these slots name and that aren't reached yet.
 #[inline(always)]
-fn follow_slots(unreached: &mut [bool], found: &mut Vec<u32>, slots: &[u32]) -> Result<(), Memory>
+fn follow_slots(unreached: &mut [u64], found: &mut Vec<u32>, slots: &[u32]) -> Result<(), Memory>
     ensures { IfOk result (λ _. Follows (is_in slots.now) unreached.old unreached.new found.old.items found.new.items) }
 {
     for target in slots {
@@ -42,7 +33,7 @@ fn follow_slots(unreached: &mut [bool], found: &mut Vec<u32>, slots: &[u32]) -> 
 #[inline(always)]
 fn follow<const SLOTS: usize>(
     cells: &[Cell<SLOTS>],
-    unreached: &mut [bool],
+    unreached: &mut [u64],
     found: &mut Vec<u32>,
     id: u32,
 ) -> Result<(), Memory>
@@ -57,7 +48,7 @@ fn follow<const SLOTS: usize>(
 /// Follows the objects that are listed from this place on, one after another. Those that it finds stand after them.
 pub(crate) fn follow_in_turn<const SLOTS: usize>(
     cells: &[Cell<SLOTS>],
-    unreached: &mut [bool],
+    unreached: &mut [u64],
     found: &mut Vec<u32>,
     from: usize,
 ) -> Result<(), Memory>

@@ -29,8 +29,8 @@ pub(crate) fn counters_of(workers: usize, markers: usize, cells: usize) -> usize
 pub struct Found {
     /// How many pointers lead to each id.
     pub tables: Tables,
-    /// Whether the id is that of an object that the root doesn't reach.
-    pub unreached: Vec<bool>,
+    /// The marks of the objects that the root doesn't reach, in words with the marks of 64 ids each.
+    pub unreached: Vec<u64>,
 }
 
 /// Counts in this thread and marks in another one meanwhile, with so many workers each. So nothing waits for the other thread to
@@ -47,16 +47,15 @@ fn find_beside<const SLOTS: usize>(
     requires counters { (0 < counters) × (counters ≤ 1024) }
     requires markers { (0 < markers) × (markers ≤ 1024) }
     ensures tables { IfOk result (λ f. AreTablesOf (map cell_of cells.now) (length cells.now) f.tables) }
-    ensures len { IfOk result (λ f. length f.unreached.items ≡ length cells.now) }
     ensures unreached { IfOk result (λ f. IsUnreached (map cell_of cells.now) f.unreached.items) }
 {
     let counting = move || -> Result<Tables, Memory>
         requires { IsSlotCount SLOTS × (length cells.now ≤ 16777216) × (0 < counters) × (counters ≤ 1024) }
         ensures { IfOk result (AreTablesOf (map cell_of cells.entry.now) (length cells.entry.now)) }
     { count_by_pieces(rt, alloc, cells, counters) };
-    let marking = move || -> Result<Vec<bool>, Memory>
+    let marking = move || -> Result<Vec<u64>, Memory>
         requires { IsSlotCount SLOTS × (length cells.now ≤ 16777216) × (0 < markers) × (markers ≤ 1024) }
-        ensures { IfOk result (λ table. (length table.items ≡ length cells.entry.now) × IsUnreached (map cell_of cells.entry.now) table.items) }
+        ensures { IfOk result (λ words. IsUnreached (map cell_of cells.entry.now) words.items) }
     { mark(rt, alloc, cells, markers) };
     let (unreached, tables) = join(rt, marking, counting);
     Ok(Found {
@@ -78,7 +77,6 @@ pub fn find<const SLOTS: usize>(
     requires some { 0 < workers }
     requires fits { workers ≤ 1024 }
     ensures tables { IfOk result (λ f. AreTablesOf (map cell_of cells.now) (length cells.now) f.tables) }
-    ensures len { IfOk result (λ f. length f.unreached.items ≡ length cells.now) }
     ensures unreached { IfOk result (λ f. IsUnreached (map cell_of cells.now) f.unreached.items) }
 {
     let markers = workers / 2;

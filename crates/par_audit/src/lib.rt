@@ -7,6 +7,7 @@ mod garbage;
 mod journal;
 mod listing;
 mod marking;
+mod marks;
 mod names;
 mod objects;
 mod pairs;

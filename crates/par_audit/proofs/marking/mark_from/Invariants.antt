@@ -1,4 +1,4 @@
-use Rattle.std.proofs.Common.{◌≡◌, ◌≤◌, ◌-◌, ◌^◌, ◌∷◌, [], length, map, drop}
+use Rattle.std.proofs.Common.{◌≡◌, ◌≤◌, ◌+◌, ◌-◌, ◌/◌, ◌^◌, ◌∷◌, [], length, map, drop}
 use Rattle.plain_model.specs.Graphs.{root}
 use Rattle.cell_model.specs.Graph.{graph_of}
 use Rattle.cell_page.specs.Stored.{cell_of}
@@ -8,7 +8,7 @@ use Rattle.par_audit.proofs.marking.mark_from.Given as goal
 
 abbrev pub invariant-loop-from : goal.invariant-loop-from
 invariant-loop-from g l = record {
-  len : length l.unreached ≡ length l.cells;
+  len : length l.unreached ≡ length l.cells / 64 + 1;
   within : l.«from» ≤ length l.found.items;
   objects : AreObjects (map cell_of l.cells) l.unreached;
   marking : IsMarking (graph_of (map cell_of l.cells)) (root ∷ []) (is_reached (map cell_of l.cells) l.unreached) (drop l.«from» l.found.items);
