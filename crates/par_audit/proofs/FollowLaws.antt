@@ -10,7 +10,7 @@ use Rattle.cell_page.specs.declared.cell.Cell.{Cell as PageCell}
 use Rattle.cell_page.specs.Stored.{cell_of}
 use Rattle.std.proofs.lemmas.Bool.Decides.{nat_tests}
 use Rattle.par_audit.proofs.MarkLaws.{mark_bit, mark_past, bit_zero, bits_and}
-use Rattle.par_audit.specs.Marks.{has_bit, is_marked, is_in, is_named, slots_at, Follows, AreNames}
+use Rattle.par_audit.specs.Marks.{has_bit, has_id, is_marked, IsNameTable, is_in, is_named, slots_at, Follows, AreNames}
 
 pub either : (b : Bool) → (b ≡ true) ⊎ (b ≡ false)
 either true = inl refl
@@ -163,14 +163,6 @@ follows-nothing f t xs off = follows-none f t xs (λ x. still-marked (is_marked 
 
 pub in-more : (ids : List ℕ) (i id : ℕ) → i < length ids → (is_in (take i ids) id || (get_or ids i 0 == id)) ≡ is_in (take (i + 1) ids) id
 in-more ids i id within = sym (list_any_more (λ x. x == id) ids i 0 within)
-
-or-more : (b x y z : Bool) → (x || y) ≡ z → ((b || x) || y) ≡ (b || z)
-or-more true x y z e = refl
-or-more false x y z e = e
-
--- one name more beside what was marked before
-pub slot-more : (ids : List ℕ) (i id : ℕ) (before old new : Bool) → i < length ids → old ≡ (before || is_in (take i ids) id) → new ≡ (old || (get_or ids i 0 == id)) → new ≡ (before || is_in (take (i + 1) ids) id)
-slot-more ids i id before old new within was is = is ∙ (ap (λ (b : Bool). b || (get_or ids i 0 == id)) was ∙ or-more before (is_in (take i ids) id) (get_or ids i 0 == id) (is_in (take (i + 1) ids) id) (in-more ids i id within))
 
 pub named-more : {slots : ℕ} (cells : List (PageCell slots)) (level : List ℕ) (i id : ℕ) → i < length level → (is_named cells (take i level) id || is_in (slots_at cells (get_or level i 0)) id) ≡ is_named cells (take (i + 1) level) id
 named-more cells level i id within = sym (list_any_more (λ x. is_in (slots_at cells x) id) level i 0 within)
@@ -343,3 +335,11 @@ words-end words i a b xs ys far p =
     (λ (past : length words ≤ id / 64). let off = mark_past words id past in grind (arith, nat_tests, off))
     (cases_lt (id / 64) (length words)))
     p
+
+-- what was packed from a table of names are the names
+pub names-packed : {slots : ℕ} (cells : List (PageCell slots)) (level : List ℕ) (ids count : ℕ) (table : List Bool) (words : List ℕ) → ids ≡ 64 * count → IsNameTable cells level ids table → length words ≡ count
+    → ((id : ℕ) → is_marked words id ≡ has_id table id) → AreNames cells level count words
+names-packed cells level ids count table words all is len packed = record {
+  len = len;
+  each = λ id within. packed id ∙ is.each id (omega (arith, within, all));
+}

@@ -6,7 +6,7 @@ use Rattle.std.proofs.lemmas.Bool.{cases_eq, cases_lt}
 use Rattle.std.proofs.lemmas.Bool.Decides.{nat_tests}
 use Rattle.std.proofs.lemmas.Nat.{and_le_l}
 use Rattle.std.proofs.lemmas.Nat.Bits.{bit_at_set_same, bit_at_set_other, bit_at_clear_same, bit_at_clear_other, bit_at-trailing_zeros, bit_at-zero, bit_at-lt, bit_at_or, bit_at_and}
-use Rattle.par_audit.specs.Marks.{has_bit, is_marked}
+use Rattle.par_audit.specs.Marks.{has_bit, has_id, is_marked}
 
 -- ---- the bits of a word
 
@@ -148,6 +148,12 @@ mark_or t a b words id =
     ∙ (ap (λ (w : ℕ). has_bit w (id % 64)) (words (id / 64))
     ∙ (bits_or (get_or a (id / 64) 0) (get_or b (id / 64) 0) (id % 64)
     ∙ (ap (λ (c : Bool). c || has_bit (get_or b (id / 64) 0) (id % 64)) (sym (mark_bit a id)) ∙ ap (λ (c : Bool). is_marked a id || c) (sym (mark_bit b id)))))
+
+-- past its end a table has no id
+pub id_past : (table : List Bool) (id : ℕ) → length table ≤ id → has_id table id ≡ false
+id_past [] id far = refl
+id_past (b ∷ table) zero far = absurd (omega (arith, far))
+id_past (b ∷ table) (suc id) far = id_past table id (omega (arith, far))
 
 -- past the last words both are 0
 pub or_past : (t a b : List ℕ) (k : ℕ) → length t ≤ k → length a ≤ k → length b ≤ k → get_or t k 0 ≡ bit_or (get_or a k 0) (get_or b k 0)

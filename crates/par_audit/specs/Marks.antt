@@ -30,6 +30,15 @@ slots_at cells id = option_map_or (λ c. c.slots) (slice_get cells id) []
 abbrev pub is_named : {slots : ℕ} → List (Cell slots) → List ℕ → ℕ → Bool
 is_named cells level id = list_any (λ x. is_in (slots_at cells x) id) level
 
+-- whether the table of ids has this one
+abbrev pub has_id : List Bool → ℕ → Bool
+has_id table id = slice_index_or table id false
+
+-- the table has those of so many ids that the objects of the level name
+pub record IsNameTable {slots : ℕ} (cells : List (Cell slots)) (level : List ℕ) (ids : ℕ) (table : List Bool) : Type 0 where
+  pub len : length table ≡ ids
+  pub each : (id : ℕ) → id < ids → has_id table id ≡ is_named cells level id
+
 -- so many words mark what the objects of the level name
 pub record AreNames {slots : ℕ} (cells : List (Cell slots)) (level : List ℕ) (count : ℕ) (words : List ℕ) : Type 0 where
   pub len : length words ≡ count

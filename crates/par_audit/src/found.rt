@@ -13,7 +13,7 @@ use std::alloc::Global;
 use std::thread::{Threads, join};
 
 /// How few cells are worth a thread of their own.
-const LEAST_PIECE: usize = 8192;
+const LEAST_PIECE: usize = 4096;
 
 /// How many workers count, where so many of them mark meanwhile: each has enough cells to be worth its thread.
 pub(crate) fn counters_of(workers: usize, markers: usize, cells: usize) -> usize

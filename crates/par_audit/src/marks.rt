@@ -1,6 +1,6 @@
 //! Marks of ids, in words with the marks of 64 ids each.
-ghost use Rattle.std.specs.Prelude.{◌≡◌, ◌≢◌, ◌<◌, ◌+◌, ◌/◌, ◌==◌, ◌&&◌, ◌||◌, ℕ, true, not, length};
-ghost use Rattle.par_audit.specs.Marks.{has_bit, is_marked};
+ghost use Rattle.std.specs.Prelude.{◌≡◌, ◌≢◌, ◌<◌, ◌≤◌, ◌+◌, ◌*◌, ◌/◌, ◌==◌, ◌&&◌, ◌||◌, ℕ, true, not, length};
+ghost use Rattle.par_audit.specs.Marks.{has_bit, has_id, is_marked};
 
 /// How many words have the marks of so many ids, and of 0, which is no id.
 pub(crate) fn words_for(ids: usize) -> usize
@@ -60,19 +60,6 @@ pub(crate) fn has_mark(words: &[u64], id: u32) -> bool
     at < words.len() && has(words[at], id % 64)
 }
 
-/// Marks the id, where the words have a place for it.
-#[tactic(auto, using(crate::proofs::MarkLaws::mark_set, crate::proofs::MarkLaws::mark_past))]
-#[inline(always)]
-pub(crate) fn set_mark(words: &mut [u64], id: u32)
-    ensures len { length words.new ≡ length words.old }
-    ensures each { (x : ℕ) → x / 64 < length words.old → is_marked words.new x ≡ (is_marked words.old x || (id == x)) }
-{
-    let at = (id / 64) as usize;
-    if at < words.len() {
-        words[at] = with(words[at], id % 64);
-    }
-}
-
 /// Takes the mark of the id away.
 #[tactic(auto, using(crate::proofs::MarkLaws::mark_clear, crate::proofs::MarkLaws::mark_none))]
 #[inline(always)]
@@ -83,6 +70,41 @@ pub(crate) fn clear_mark(words: &mut [u64], id: u32)
     let at = (id / 64) as usize;
     if at < words.len() {
         words[at] = without(words[at], id % 64);
+    }
+}
+
+/// Whether the table has the id.
+#[inline(always)]
+fn has_id(table: &[bool], id: usize) -> bool
+    ensures { result ≡ has_id table.now id }
+{
+    id < table.len() && table[id]
+}
+
+/// The marks of those ids of a word that the table has.
+#[inline(always)]
+fn packed(table: &[bool], at: usize) -> u64
+    requires { at ≤ 262144 }
+    ensures { (bit : ℕ) → bit < 64 → has_bit result bit ≡ has_id table.now (64 * at + bit) }
+{
+    let mut word = 0;
+    for bit in 0..64u32 {
+        if has_id(table, 64 * at + bit as usize) {
+            word = with(word, bit);
+        }
+    }
+    word
+}
+
+/// Marks the ids that the table has, and no other.
+pub(crate) fn pack(words: &mut [u64], table: &[bool])
+    requires few { length words.old ≤ 262145 }
+    requires wide { length table.now ≤ 64 * length words.old }
+    ensures len { length words.new ≡ length words.old }
+    ensures each { (id : ℕ) → is_marked words.new id ≡ has_id table.now id }
+{
+    for at in 0..words.len() {
+        words[at] = packed(table, at);
     }
 }
 

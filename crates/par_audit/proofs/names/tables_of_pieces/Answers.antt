@@ -17,7 +17,7 @@ collect-requires-clause-ready g c κs within =
     let inside = nat_range-All (λ i. i * c.args.size < 18446744073709551616) 0 c.args.pieces
     (λ i low high. let most : i * c.args.size ≤ c.args.pieces * c.args.size = mul-le-mul_right c.args.size (let l : i ≤ c.args.pieces = omega (arith, high) in l) in let fits = c.requires.fits in omega (arith, most, fits)) in
     rw (c.map.ensures.base, c.map.ensures.f, c.with_min_len.ensures.base, ends.0, ends.1)
-    (λ k d lt. ((search (arith) depth 20, (c.requires.slots, inside k d lt)), λ y p. tt))
+    (λ k d lt. ((search (arith) depth 20, (c.requires.slots, c.requires.ids, inside k d lt)), λ y p. tt))
 
 pub returns : goal.returns
 returns g c =
