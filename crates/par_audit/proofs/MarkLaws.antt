@@ -98,27 +98,10 @@ put-here t at w x within e = mark_bit (set t at w) x ∙ ap (λ (v : ℕ). has_b
 put-there : (t : List ℕ) (at w x : ℕ) → x / 64 ≢ at → is_marked (set t at w) x ≡ is_marked t x
 put-there t at w x n = mark_bit (set t at w) x ∙ (ap (λ (v : ℕ). has_bit v (x % 64)) (get_or-set_other t at (x / 64) w 0 n) ∙ sym (mark_bit t x))
 
-or-off : (b c : Bool) → c ≡ false → b ≡ (b || c)
-or-off true c e = refl
-or-off false c e = sym e
-
 and-on : (b c : Bool) → c ≡ false → b ≡ (b && not c)
 and-on true false e = refl
 and-on true true e = absurd (cc)
 and-on false c e = refl
-
--- an id is marked
-pub mark_set : (t : List ℕ) (id w : ℕ) → id / 64 < length t → ((i : ℕ) → has_bit w i ≡ (has_bit (get_or t (id / 64) 0) i || (id % 64 == i)))
-    → (x : ℕ) → is_marked (set t (id / 64) w) x ≡ (is_marked t x || (id == x))
-mark_set t id w within bits x =
-    ⊎_elim
-    (λ (e : x / 64 ≡ id / 64).
-    put-here t (id / 64) w x within e
-    ∙ (bits (x % 64)
-    ∙ (ap (λ (c : Bool). has_bit (get_or t (id / 64) 0) (x % 64) || c) (rest-same id x e)
-    ∙ ap (λ (b : Bool). b || (id == x)) (ap (λ (k : ℕ). has_bit (get_or t k 0) (x % 64)) (sym e) ∙ sym (mark_bit t x)))))
-    (λ (n : x / 64 ≢ id / 64). put-there t (id / 64) w x n ∙ or-off (is_marked t x) (id == x) (ne_eqb id x (λ e. n (ap (λ (k : ℕ). k / 64) (sym e)))))
-    (cases_eq (x / 64) (id / 64))
 
 -- an id's mark is taken away
 pub mark_clear : (t : List ℕ) (id w : ℕ) → id / 64 < length t → ((i : ℕ) → i < 64 → has_bit w i ≡ (has_bit (get_or t (id / 64) 0) i && not (id % 64 == i)))
