@@ -49,7 +49,8 @@ fn name_all<const SLOTS: usize>(table: &mut [bool], cells: &[Cell<SLOTS>], piece
     }
 }
 
-/// The table of which of so many ids the objects of a piece of a level name. To note an id in a table takes half as long as to set a bit.
+/// The table of which of so many ids the objects of a piece of a level name. To note an id in a table takes less time than to set
+/// a bit.
 fn names_of_piece<const SLOTS: usize>(
     alloc: Global,
     cells: &[Cell<SLOTS>],
