@@ -1,5 +1,5 @@
 //! The count of all pointers and the marking, side by side.
-ghost use Rattle.std.specs.Prelude.{◌≡◌, ◌<◌, ◌≤◌, length, map, IfOk};
+ghost use Rattle.std.specs.Prelude.{◌≡◌, ◌+◌, ◌/◌, ◌<◌, ◌≤◌, length, map, IfOk};
 ghost use Rattle.cell_page.specs.Format.{IsSlotCount};
 ghost use Rattle.cell_page.specs.Stored.{cell_of};
 ghost use Rattle.par_audit.specs.Garbage.{IsUnreached};
@@ -47,6 +47,7 @@ fn find_beside<const SLOTS: usize>(
     requires counters { (0 < counters) × (counters ≤ 1024) }
     requires markers { (0 < markers) × (markers ≤ 1024) }
     ensures tables { IfOk result (λ f. AreTablesOf (map cell_of cells.now) (length cells.now) f.tables) }
+    ensures len { IfOk result (λ f. length f.unreached.items ≡ length cells.now / 64 + 1) }
     ensures unreached { IfOk result (λ f. IsUnreached (map cell_of cells.now) f.unreached.items) }
 {
     let counting = move || -> Result<Tables, Memory>
@@ -55,7 +56,7 @@ fn find_beside<const SLOTS: usize>(
     { count_by_pieces(rt, alloc, cells, counters) };
     let marking = move || -> Result<Vec<u64>, Memory>
         requires { IsSlotCount SLOTS × (length cells.now ≤ 16777216) × (0 < markers) × (markers ≤ 1024) }
-        ensures { IfOk result (λ words. IsUnreached (map cell_of cells.entry.now) words.items) }
+        ensures { IfOk result (λ words. (length words.items ≡ length cells.entry.now / 64 + 1) × IsUnreached (map cell_of cells.entry.now) words.items) }
     { mark(rt, alloc, cells, markers) };
     let (unreached, tables) = join(rt, marking, counting);
     Ok(Found {
@@ -77,6 +78,7 @@ pub fn find<const SLOTS: usize>(
     requires some { 0 < workers }
     requires fits { workers ≤ 1024 }
     ensures tables { IfOk result (λ f. AreTablesOf (map cell_of cells.now) (length cells.now) f.tables) }
+    ensures len { IfOk result (λ f. length f.unreached.items ≡ length cells.now / 64 + 1) }
     ensures unreached { IfOk result (λ f. IsUnreached (map cell_of cells.now) f.unreached.items) }
 {
     let markers = workers / 2;

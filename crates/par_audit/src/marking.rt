@@ -117,7 +117,8 @@ pub fn mark<const SLOTS: usize>(
     requires few { length cells.now ≤ 16777216 }
     requires some { 0 < workers }
     requires fits { workers ≤ 1024 }
-    ensures { IfOk result (λ words. IsUnreached (map cell_of cells.now) words.items) }
+    ensures len { IfOk result (λ words. length words.items ≡ length cells.now / 64 + 1) }
+    ensures unreached { IfOk result (λ words. IsUnreached (map cell_of cells.now) words.items) }
 {
     let mut words = vec![in alloc; 0u64; words_for(cells.len())]?;
     let readers = workers.min(cells.len() / LEAST_CELLS).max(1);

@@ -8,5 +8,5 @@ pub returns : goal.returns
 returns g c =
     let stored = map cell_of c.args.cells.now in
     let table = c.in_ok-unreached.unreached.items in
-    let unreached = c.in_ok-unreached.ensures in
+    let unreached = c.in_ok-unreached.ensures.unreached in
     (is_reached stored table, unreached.reach, (rw (c.as_slice.ensures.value) at c.garbage_in.ensures) ∙ unreached-garbage stored table c.args.ids unreached.objects)
