@@ -20,10 +20,21 @@ pub enum Listener<P: Eprint + Drop> {
     Onlooker(P),
 }
 
-/// A source of which the last bytes that were read are kept, and of which a listener hears. To contracts it is the source under it.
+/// What a source gives.
+#[derive(Clone, Copy, PartialEq, Eq, Debug)]
+pub enum Input {
+    /// Lines. What was read last is kept, so that a refused one can be shown.
+    Lines,
+    /// A stream of bytes. Nothing is kept of it.
+    Stream,
+}
+
+/// A source of which the last bytes that were read are kept, where it gives lines, and of which a listener hears. To contracts it is
+/// the source under it.
 #[derive(Drop)]
 pub struct HeardSource<R: Source + Drop, P: Eprint + Drop> {
     source: R,
+    input: Input,
     latest: Latest,
     read: u64,
     listener: Listener<P>,
@@ -36,19 +47,20 @@ impl<R: Source + Drop, P: Eprint + Drop> Model for HeardSource<R, P> {
 }
 
 impl<R: Source + Drop, P: Eprint + Drop> HeardSource<R, P> {
-    /// This source, of which the listener hears.
-    pub fn over(source: R, listener: Listener<P>) -> HeardSource<R, P>
+    /// This source, which gives such input, and of which the listener hears.
+    pub fn over(source: R, input: Input, listener: Listener<P>) -> HeardSource<R, P>
         ensures { result ≡ source }
     {
         HeardSource {
             source,
+            input,
             latest: Latest::new(),
             read: 0,
             listener,
         }
     }
 
-    /// What was read last.
+    /// What was read last, where lines are read.
     pub fn latest(&self) -> &Latest {
         &self.latest
     }
@@ -90,7 +102,10 @@ impl<R: Source + Drop, P: Eprint + Drop> Source for HeardSource<R, P> {
         if count == 0 {
             end(&self.listener);
         }
-        self.latest.add(&into[..count]);
+        match self.input {
+            Input::Lines => self.latest.add(&into[..count]),
+            Input::Stream => {}
+        }
         count_read(&mut self.read, count as u64, &self.listener);
         Ok(count)
     }

@@ -24,7 +24,7 @@ mod watched_disk;
 pub use disk_failures::explain_lock;
 pub use ending::{Doing, Known, explain, explain_usage};
 pub use heard_sink::HeardSink;
-pub use heard_source::{HeardSource, Listener};
+pub use heard_source::{HeardSource, Input, Listener};
 pub use latest::Latest;
 pub use line_faults::{Fault, fault_in};
 pub use line_shapes::Expected;
