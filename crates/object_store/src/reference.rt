@@ -1,8 +1,6 @@
 //! References to objects.
 ghost use Rattle.std.specs.Prelude.{◌≡◌};
 
-use std::marker::PhantomData;
-
 /// The id of an object, and the register of the open transaction that has it.
 #[derive(Clone, Copy, PartialEq, Eq, Debug)]
 pub(crate) struct Held {
@@ -14,7 +12,9 @@ pub(crate) struct Held {
 #[derive(Clone, Copy)]
 pub struct Ref<'t> {
     held: Held,
-    of: PhantomData<&'t ()>,
+
+    /// Nothing is read here: it makes the lifetime part of the type.
+    of: &'t (),
 }
 
 impl<'t> Ref<'t> {
@@ -22,10 +22,7 @@ impl<'t> Ref<'t> {
     pub(crate) fn new(held: Held) -> Ref<'t>
         ensures { result.held ≡ held }
     {
-        Ref {
-            held,
-            of: PhantomData,
-        }
+        Ref { held, of: &() }
     }
 
     /// What is held.
