@@ -1,4 +1,4 @@
-//! Keeps a queue of numbers in a store of sixteen objects: it is filled, emptied, collected and filled again, over two openings of its disk.
+//! Keeps a queue of numbers in a store of sixteen objects: it is filled and emptied, over two openings of its disk. The store does its upkeep by itself.
 #![tactic(auto)]
 
 mod queue;
@@ -28,13 +28,11 @@ fn drain<D: Disk>(rt: &impl Print, store: &mut Store<D>, most: u32) -> anyhow::R
     Ok(())
 }
 
-/// Collects, and makes a checkpoint.
-fn tidy<D: Disk>(rt: &impl Print, store: &mut Store<D>) -> anyhow::Result<()> {
-    let left = store.collect(1_000)?;
-    let long = store.log_used();
-    store.checkpoint()?;
+/// Prints how much upkeep is left to do.
+fn show<D: Disk>(rt: &impl Print, store: &Store<D>) -> anyhow::Result<()> {
     println!(rt;
-        "{left} wait, {long} bytes of log, and {} now",
+        "{} wait, {} bytes of log",
+        store.waiting(),
         store.log_used()
     )?;
     Ok(())
@@ -42,18 +40,19 @@ fn tidy<D: Disk>(rt: &impl Print, store: &mut Store<D>) -> anyhow::Result<()> {
 
 fn main(rt: HostRuntime) -> anyhow::Result<()> {
     let mut disk = MemoryDisk::new(rt.alloc());
-    let options = Options::new().with_pages(2);
+    let options = Options::new().with_pages(2).with_soft_log_limit(400);
     make(&mut disk, options)?;
     let mut store = Store::open(rt.alloc(), disk, options).map_err(|refused| refused.0)?;
     fill(&rt, &mut store)?;
+    show(&rt, &store)?;
     lose(&mut store)?;
     drain(&rt, &mut store, 3)?;
     let disk = store.close();
     let mut store = Store::open(rt.alloc(), disk, options).map_err(|refused| refused.0)?;
-    tidy(&rt, &mut store)?;
     fill(&rt, &mut store)?;
+    show(&rt, &store)?;
     drain(&rt, &mut store, 20)?;
-    let left = store.tend(1_000)?;
-    println!(rt; "{left} wait")?;
+    store.tend(1_000)?;
+    show(&rt, &store)?;
     Ok(())
 }

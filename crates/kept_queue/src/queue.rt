@@ -11,8 +11,19 @@ const LAST: u8 = 1;
 /// The slot of a cell that names the next one.
 const NEXT: u8 = 0;
 
-/// Puts a number at the end of the queue.
+/// Puts a number at the end of the queue. Where no object is free it collects, and tries again.
 pub fn put<D: Disk>(store: &mut Store<D>, number: u64) -> Result<(), StoreError> {
+    match put_once(store, number) {
+        Err(StoreError::Full) => {
+            store.collect(1_000)?;
+            put_once(store, number)
+        }
+        done => done,
+    }
+}
+
+/// Puts a number at the end of the queue.
+fn put_once<D: Disk>(store: &mut Store<D>, number: u64) -> Result<(), StoreError> {
     let mut t = store.begin()?;
     let root = t.root();
     let cell = t.make()?;

@@ -1,12 +1,12 @@
 -- What the steps of the collector leave, where no transaction is open.
-use Rattle.std.proofs.Common.{◌≡◌, ◌≢◌, ℕ, zero, suc, ◌+◌, ◌<◌, ◌≤◌, List, [], ◌∷◌, Option, Some, None, length, refl, sym, ap, ap₂, ◌∙◌, subst, arith, true, false, length-append}
+use Rattle.std.proofs.Common.{◌≡◌, ℕ, zero, suc, ◌+◌, ◌<◌, List, [], ◌∷◌, Option, Some, None, length, refl, sym, ap, ap₂, ◌∙◌, subst, arith, true, length-append}
 use Rattle.std.specs.Prelude.{◌↔◌, IsSome, slice_index_or}
 use Rattle.plain_model.specs.declared.object.Object.{Object}
 use Rattle.plain_model.specs.declared.calls.Entry.{Entry}
 use Rattle.plain_model.specs.Graphs.{root}
 use Rattle.plain_model.specs.Machine.{is_stored}
 use Rattle.plain_model.specs.Reachable.{Reachable}
-use Rattle.plain_model.specs.History.{History, Moment, CommitPoint, SameReachable, graph_after, end_of, next, with_entry}
+use Rattle.plain_model.specs.History.{History, Moment, CommitPoint, SameReachable, graph_after, end_of, next}
 use Rattle.plain_model.proofs.HistoryLemmas.{end_of-with_entry}
 use Rattle.plain_laws.proofs.Legal.{without_sub}
 use Rattle.restart_laws.specs.Settled.{IsSettled}
@@ -20,15 +20,14 @@ use Rattle.core_store.specs.RoundView.{RoundView, Closed, ids_in}
 use Rattle.core_store.specs.Steppings.{OnlyLooks, IsEvent}
 use Rattle.core_store.specs.declared.collect.Collect.{Collect}
 use Rattle.core_store.specs.declared.collect.Collect.TheVariants as collect
-use Rattle.core_store.specs.declared.limits.Limits.{Limits}
-use Rattle.framed_journal.specs.Steps.{CollectsOnFrames, MakesNextEvent, MarksFull, FillsLog}
+use Rattle.framed_journal.specs.Steps.{CollectsOnFrames, MakesNextEvent, FillsLog}
 use Rattle.logged_journal.specs.declared.failed.FailedCall.{FailedCall}
 use Rattle.logged_journal.specs.View.{LoggedView}
 use Rattle.logged_journal.specs.Calls.{KeepsDisk, GoesOn, IsPastLogToCollect}
 use Rattle.object_store.specs.declared.error.StoreError.{StoreError}
 use Rattle.object_store.specs.declared.error.StoreError.TheVariants as error
 use Rattle.object_store.specs.Seen.{object_slots, state_of, IsQuiet}
-use Rattle.object_store.specs.Upkeep.{OnlyRemoves, KeepsCommits, MakesEvents, MakesUpTo, MakesShort, IsShortToCollect, waiting_in, IsExact}
+use Rattle.object_store.specs.Upkeep.{OnlyRemoves, KeepsCommits, MakesEvents, MakesUpTo, IsShortToCollect, waiting_in, IsExact}
 
 -- a store that runs has failed no call
 pub not_failed : (o : Option FailedCall) → o ≡ None → IsSome o → ⊥

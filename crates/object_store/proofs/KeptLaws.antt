@@ -11,6 +11,7 @@ use Rattle.plain_model.specs.Graphs.{root, has_object, after_set}
 use Rattle.plain_model.specs.Machine.{State, nonzero}
 use Rattle.logged_journal.specs.declared.failed.FailedCall.{FailedCall}
 use Rattle.logged_journal.specs.View.{LoggedView}
+use Rattle.object_store.specs.declared.tending.Tending.{Tending}
 use Rattle.object_store.specs.declared.error.StoreError.{StoreError}
 use Rattle.object_store.specs.declared.error.StoreError.TheVariants as error
 use Rattle.object_store.specs.declared.reference.Held.{Held}
@@ -36,7 +37,7 @@ pub record LiveOpen {D : Type 0} (below : LoggedView D) (held : List (Option ℕ
   pub running : below.failed ≡ None
   pub opened : IsOpen below held
 
-pub live_open : {D : Type 0} (below : LoggedView D) (held : List (Option ℕ)) → IsKept below held → is_live (store_at below held) ≡ true → LiveOpen below held
+pub live_open : {D : Type 0} (below : LoggedView D) (held : List (Option ℕ)) → IsKept below held → (is_none below.failed && is_some (open_in (state_of below))) ≡ true → LiveOpen below held
 live_open below held kept live =
     let both = both_true (is_none below.failed) (is_some (open_in (state_of below))) live in
     let running : below.failed ≡ None = is_none_none below.failed both.0 in
@@ -48,7 +49,7 @@ live_open below held kept live =
           (kept running);
     }
 
-pub is_live_of : {D : Type 0} (below : LoggedView D) (held : List (Option ℕ)) → IsLive below → is_live (store_at below held) ≡ true
+pub is_live_of : {D : Type 0} (below : LoggedView D) (held : List (Option ℕ)) → IsLive below → (is_none below.failed && is_some (open_in (state_of below))) ≡ true
 is_live_of below held l = ap (λ (o : Option FailedCall). is_none o && is_some (open_in (state_of below))) l.running ∙ ap (λ o. is_some o) (its_transaction (state_of below) l.alone)
 
 pub live_below : {D : Type 0} {below : LoggedView D} {held : List (Option ℕ)} → LiveOpen below held → IsLive below
@@ -123,10 +124,10 @@ only_put old new into id here others r i e = by (r == into) refl
 
 -- ---- what the calls come to
 
-pub keeps_same : {D : Type 0} (v w : LoggedView D) (held : List (Option ℕ)) → state_of w ≡ state_of v → Keeps (store_at v held) (store_at w held)
+pub keeps_same : {D : Type 0} {n : Tending} (v w : LoggedView D) (held : List (Option ℕ)) → state_of w ≡ state_of v → Keeps (store_at n v held) (store_at n w held)
 keeps_same v w held same = record { graph = ap (λ s. graph_in s) same; committed = ap (λ (s : State). s.committed) same; held = refl }
 
-pub gets_none : {D : Type 0} (v w : LoggedView D) (held : List (Option ℕ)) (h : Held) (slot into id : ℕ) → Reads h slot into id v w → id ≡ 0 → Gets h slot None (store_at v held) (store_at w held)
+pub gets_none : {D : Type 0} {n : Tending} (v w : LoggedView D) (held : List (Option ℕ)) (h : Held) (slot into id : ℕ) → Reads h slot into id v w → id ≡ 0 → Gets h slot None (store_at n v held) (store_at n w held)
 gets_none v w held h slot into id reads zero = record {
   value = sym zero ∙ reads.value;
   holds = tt;
@@ -137,8 +138,8 @@ gets_none v w held h slot into id reads zero = record {
   made = (into, subst (λ n. Does (call.Read h.register slot into) (reply.Id n) v w) zero reads.does);
 }
 
-pub gets_some : {D : Type 0} (v w : LoggedView D) (old new : List (Option ℕ)) (h : Held) (slot into id : ℕ) (found : Held) → Reads h slot into id v w → found.id ≡ id → held_at new found.register ≡ Some id
-    → ((r i : ℕ) → held_at old r ≡ Some i → held_at new r ≡ Some i) → ((r : ℕ) → r < 8 → held_at old r ≡ Some id → new ≡ old) → Gets h slot (Some found) (store_at v old) (store_at w new)
+pub gets_some : {D : Type 0} {n : Tending} (v w : LoggedView D) (old new : List (Option ℕ)) (h : Held) (slot into id : ℕ) (found : Held) → Reads h slot into id v w → found.id ≡ id → held_at new found.register ≡ Some id
+    → ((r i : ℕ) → held_at old r ≡ Some i → held_at new r ≡ Some i) → ((r : ℕ) → r < 8 → held_at old r ≡ Some id → new ≡ old) → Gets h slot (Some found) (store_at n v old) (store_at n w new)
 gets_some v w old new h slot into id found reads is holds still once = record {
   value = is ∙ reads.value;
   holds = holds ∙ ap (λ n. Some n) (sym is);
@@ -149,14 +150,14 @@ gets_some v w old new h slot into id found reads is holds still once = record {
   made = (into, subst (λ n. Does (call.Read h.register slot into) (reply.Id n) v w) (sym is) reads.does);
 }
 
-pub shows_of : {D : Type 0} (v w : LoggedView D) (held : List (Option ℕ)) (h : Held) (payload : ℕ) → Looks h payload v w → Shows h payload (store_at v held) (store_at w held)
+pub shows_of : {D : Type 0} {n : Tending} (v w : LoggedView D) (held : List (Option ℕ)) (h : Held) (payload : ℕ) → Looks h payload v w → Shows h payload (store_at n v held) (store_at n w held)
 shows_of v w held h payload looks = record { value = looks.value; keeps = record { graph = looks.same.graph; committed = looks.same.committed; held = refl }; made = looks.does }
 
-pub sets_of : {D : Type 0} (v w : LoggedView D) (held : List (Option ℕ)) (h : Held) (place : Place) (value : ℕ) (c : TransactionCall) → Writes c (after_set h.id place value (graph_in (state_of v))) v w → Sets h place value c (store_at v held) (store_at w held)
+pub sets_of : {D : Type 0} {n : Tending} (v w : LoggedView D) (held : List (Option ℕ)) (h : Held) (place : Place) (value : ℕ) (c : TransactionCall) → Writes c (after_set h.id place value (graph_in (state_of v))) v w → Sets h place value c (store_at n v held) (store_at n w held)
 sets_of v w held h place value c writes = record { graph = writes.graph; committed = writes.committed; held = refl; made = writes.does }
 
-pub makes_of : {D : Type 0} (v w : LoggedView D) (old new : List (Option ℕ)) (into id : ℕ) → Makes into id v w → held_at new into ≡ Some id → ((r i : ℕ) → held_at old r ≡ Some i → held_at new r ≡ Some i)
-    → MakesObject (record { id = id; register = into }) (store_at v old) (store_at w new)
+pub makes_of : {D : Type 0} {n : Tending} (v w : LoggedView D) (old new : List (Option ℕ)) (into id : ℕ) → Makes into id v w → held_at new into ≡ Some id → ((r i : ℕ) → held_at old r ≡ Some i → held_at new r ≡ Some i)
+    → MakesObject (record { id = id; register = into }) (store_at n v old) (store_at n w new)
 makes_of v w old new into id makes here still = record {
   fresh = makes.fresh;
   named = makes.named;
@@ -206,11 +207,11 @@ set_error h slot to v error.Stopped holds held fits short = absurd short
 set_error h slot to v error.Ended holds held fits short = absurd short
 
 -- why no object was made, and that all is as before then
-pub record NotMade {D : Type 0} (v w : LoggedView D) (held : List (Option ℕ)) (why : StoreError) : Type 0 where
+pub record NotMade {D : Type 0} (n : Tending) (v w : LoggedView D) (held : List (Option ℕ)) (why : StoreError) : Type 0 where
   pub same : state_of w ≡ state_of v
-  pub cause : IsMakeError (store_at v held) why
+  pub cause : IsMakeError (store_at n v held) why
 
-pub make_error : {D : Type 0} (v w : LoggedView D) (held : List (Option ℕ)) (into : ℕ) (why : StoreError) → HasRoom held → IsMakeShort into why v w → NotMade v w held why
+pub make_error : {D : Type 0} {n : Tending} (v w : LoggedView D) (held : List (Option ℕ)) (into : ℕ) (why : StoreError) → HasRoom held → IsMakeShort into why v w → NotMade n v w held why
 make_error v w held into error.Full room short = record { same = short.same; cause = (room, short.none) }
 make_error v w held into error.Memory room short = record { same = short.same; cause = (room, (into, short.cause)) }
 make_error v w held into error.HistoryFull room short = record { same = short.same; cause = (room, (into, short.cause)) }
@@ -237,13 +238,13 @@ pub open_looked : {D : Type 0} (h : Held) (v w : LoggedView D) (held : List (Opt
 open_looked h v w held (Ok payload) l live looks short = kept_of (open_same l.opened live looks.registers)
 open_looked h v w held (Err why) l live looks short = kept_of (open_short l.opened live short.same)
 
-pub payload_told : {D : Type 0} (h : Held) (v w : LoggedView D) (held : List (Option ℕ)) (r : Result ℕ StoreError) → held_at held h.register ≡ Some h.id → IsLive w → IfOk r (λ payload. Looks h payload v w) → IfErr r (λ why. IsShort (call.GetPay h.register) why v w)
-    → PayloadTold h r (store_at v held) (store_at w held)
+pub payload_told : {D : Type 0} {n : Tending} (h : Held) (v w : LoggedView D) (held : List (Option ℕ)) (r : Result ℕ StoreError) → held_at held h.register ≡ Some h.id → IsLive w → IfOk r (λ payload. Looks h payload v w) → IfErr r (λ why. IsShort (call.GetPay h.register) why v w)
+    → PayloadTold h r (store_at n v held) (store_at n w held)
 payload_told h v w held (Ok payload) holds live looks short = record { live = is_live_of w held live; shows = shows_of v w held h payload looks; refused = tt; keeps = tt }
-payload_told h v w held (Err why) holds live looks short = record {
+payload_told {D} {n} h v w held (Err why) holds live looks short = record {
   live = is_live_of w held live;
   shows = tt;
-  refused = object_error h (call.GetPay h.register) (store_at v held) why holds short.cause;
+  refused = object_error h (call.GetPay h.register) (store_at n v held) why holds short.cause;
   keeps = keeps_same v w held short.same;
 }
 
@@ -257,9 +258,9 @@ pub open_written : {D : Type 0} (v w : LoggedView D) (held : List (Option ℕ)) 
 open_written v w held c graph (Ok x) l live writes short = kept_of (open_same l.opened live writes.registers)
 open_written v w held c graph (Err why) l live writes short = kept_of (open_short l.opened live short.same)
 
-pub write_told : {D : Type 0} (h : Held) (place : Place) (value : ℕ) (c : TransactionCall) (E : StoreView D → StoreError → Type 0) (v w : LoggedView D) (held : List (Option ℕ)) (r : Result (Unit {0}) StoreError)
-    → IsLive w → OnOk r (Writes c (after_set h.id place value (graph_in (state_of v))) v w) → IfErr r (λ why. IsShort c why v w) → ((why : StoreError) → IsShortOf c why v → E (store_at v held) why)
-    → WriteTold h place value c E r (store_at v held) (store_at w held)
+pub write_told : {D : Type 0} {n : Tending} (h : Held) (place : Place) (value : ℕ) (c : TransactionCall) (E : StoreView D → StoreError → Type 0) (v w : LoggedView D) (held : List (Option ℕ)) (r : Result (Unit {0}) StoreError)
+    → IsLive w → OnOk r (Writes c (after_set h.id place value (graph_in (state_of v))) v w) → IfErr r (λ why. IsShort c why v w) → ((why : StoreError) → IsShortOf c why v → E (store_at n v held) why)
+    → WriteTold h place value c E r (store_at n v held) (store_at n w held)
 write_told h place value c E v w held (Ok x) live writes short e = record { live = is_live_of w held live; sets = sets_of v w held h place value c writes; refused = tt; keeps = tt }
 write_told h place value c E v w held (Err why) live writes short e = record { live = is_live_of w held live; sets = tt; refused = e why short.cause; keeps = keeps_same v w held short.same }
 
@@ -267,8 +268,8 @@ write_told h place value c E v w held (Err why) live writes short e = record { l
 pub only_cleared : (old new : List (Option ℕ)) (into : ℕ) → held_at new into ≡ None → ((r : ℕ) → r ≢ into → held_at new r ≡ held_at old r) → (r i : ℕ) → held_at new r ≡ Some i → held_at old r ≡ Some i
 only_cleared old new into gone others r i e = sym (others r (apart new r into i gone e)) ∙ e
 
-pub forgets_of : {D : Type 0} (v : LoggedView D) (old new : List (Option ℕ)) (h : Held) → (h.register ≢ 0 → held_at old h.register ≡ Some h.id → held_at new h.register ≡ None) → ((r : ℕ) → r ≢ h.register → held_at new r ≡ held_at old r)
-    → ((r i : ℕ) → held_at new r ≡ Some i → held_at old r ≡ Some i) → held_at new 0 ≡ held_at old 0 → (held_at old h.register ≡ Some h.id → h.register < 8) → Forgets h (store_at v old) (store_at v new)
+pub forgets_of : {D : Type 0} {n : Tending} (v : LoggedView D) (old new : List (Option ℕ)) (h : Held) → (h.register ≢ 0 → held_at old h.register ≡ Some h.id → held_at new h.register ≡ None) → ((r : ℕ) → r ≢ h.register → held_at new r ≡ held_at old r)
+    → ((r i : ℕ) → held_at new r ≡ Some i → held_at old r ≡ Some i) → held_at new 0 ≡ held_at old 0 → (held_at old h.register ≡ Some h.id → h.register < 8) → Forgets h (store_at n v old) (store_at n v new)
 forgets_of v old new h gone others only rooted small = record {
   below = refl;
   gone = λ n e. absurd (let none : held_at new h.register ≡ None = gone n (only h.register h.id e) in cc);

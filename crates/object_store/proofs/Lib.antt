@@ -10,3 +10,4 @@ pub mod CollectLaws
 pub mod TurnLaws
 pub mod UpkeepLaws
 pub mod TendLaws
+mod TendedLaws

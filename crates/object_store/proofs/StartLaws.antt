@@ -6,6 +6,7 @@ use Rattle.plain_model.specs.declared.calls.Reply.TheVariants as reply
 use Rattle.plain_model.specs.Machine.{State}
 use Rattle.logged_journal.specs.View.{LoggedView}
 use Rattle.logged_journal.specs.Calls.{KeepsDisk}
+use Rattle.object_store.specs.declared.tending.Tending.{Tending}
 use Rattle.object_store.specs.declared.error.StoreError.{StoreError}
 use Rattle.object_store.specs.declared.error.StoreError.TheVariants as error
 use Rattle.object_store.specs.Seen.{client, state_of, IsQuiet}
@@ -30,7 +31,7 @@ quiet_between u m e f = e.quiet (sym e.failed ∙ f)
 pub kept_begun : {D : Type 0} (m w : LoggedView D) → HasBegun m w → IsKept w only_root
 kept_begun m w b = kept_of (record { alone = b.live.alone; rooted = refl; known = λ r id e. b.registers r ∙ e })
 
-pub begins_of : {D : Type 0} (u m w : LoggedView D) (held : List (Option ℕ)) → Ends u m → HasBegun m w → Begins (store_at u held) (store_at w only_root)
+pub begins_of : {D : Type 0} {n : Tending} (u m w : LoggedView D) (held : List (Option ℕ)) → Ends u m → HasBegun m w → Begins (store_at n u held) (store_at n w only_root)
 begins_of {D} u m w held e b = record {
   live = is_live_of w only_root b.live;
   graph = b.graph ∙ e.committed;
@@ -40,12 +41,12 @@ begins_of {D} u m w held e b = record {
   made = λ q. subst (λ (x : LoggedView D). Does call.Begin reply.Done x w) (e.same q) b.does;
 }
 
-pub record NotStarted {D : Type 0} (why : StoreError) (u w : LoggedView D) (held : List (Option ℕ)) : Type 0 where
+pub record NotStarted {D : Type 0} (n : Tending) (why : StoreError) (u w : LoggedView D) (held : List (Option ℕ)) : Type 0 where
   pub kept : IsKept w held
-  pub fails : FailsToBegin why (store_at u held) (store_at w held)
+  pub fails : FailsToBegin why (store_at n u held) (store_at n w held)
 
 -- something was short
-not_short : {D : Type 0} (u m w : LoggedView D) (held : List (Option ℕ)) (why : StoreError) → why ≢ error.Stopped → Ends u m → m.failed ≡ None → IsShort call.Begin why m w → NotStarted why u w held
+not_short : {D : Type 0} {n : Tending} (u m w : LoggedView D) (held : List (Option ℕ)) (why : StoreError) → why ≢ error.Stopped → Ends u m → m.failed ≡ None → IsShort call.Begin why m w → NotStarted n why u w held
 not_short {D} u m w held why other e f s =
     let quiet : IsQuiet (state_of w) = ap (λ (x : State). x.active) s.same ∙ quiet_between u m e f in
     record {
@@ -60,7 +61,7 @@ not_short {D} u m w held why other e f s =
       };
     }
 
-pub fails_of : {D : Type 0} (u m w : LoggedView D) (held : List (Option ℕ)) (why : StoreError) → Ends u m → HasNotBegun why m w → NotStarted why u w held
+pub fails_of : {D : Type 0} {n : Tending} (u m w : LoggedView D) (held : List (Option ℕ)) (why : StoreError) → Ends u m → HasNotBegun why m w → NotStarted n why u w held
 fails_of {D} u m w held error.Stopped e h =
     let same : w ≡ m = h.1 in
     record {
@@ -89,31 +90,31 @@ fails_of u m w held error.Ended e h = not_short u m w held error.Ended (λ x. ab
 pub kept_ended : {D : Type 0} (v w : LoggedView D) (held : List (Option ℕ)) → Ends v w → IsKept w held
 kept_ended v w held e = λ f. inl (e.quiet (sym e.failed ∙ f))
 
-pub aborts_of : {D : Type 0} (v w : LoggedView D) (held : List (Option ℕ)) → v.failed ≡ None → Ends v w → Aborts (store_at v held) (store_at w held)
+pub aborts_of : {D : Type 0} {n : Tending} (v w : LoggedView D) (held : List (Option ℕ)) → v.failed ≡ None → Ends v w → Aborts (store_at n v held) (store_at n w held)
 aborts_of v w held running e = record { closed = e.quiet running; committed = e.committed; running = e.failed ∙ running; disk = e.disk }
 
 pub record CommitTold {D : Type 0} (faults : D → ℕ) (r : Result (Unit {0}) StoreError) (old new : StoreView D) : Type 0 where
   pub done : OnOk r (Commits old new)
   pub failed : IfErr r (λ why. FailsToCommit faults old new why)
 
-not_told : {D : Type 0} (faults : D → ℕ) (v w : LoggedView D) (held : List (Option ℕ)) (why : StoreError) → v.failed ≡ None → HasNotCommitted faults why v w → FailsToCommit faults (store_at v held) (store_at w held) why
-not_told faults v w held error.Disk running h = h
-not_told faults v w held error.NotHeld running h = (h.0, aborts_of v w held running h.1)
-not_told faults v w held error.NoSuchSlot running h = (h.0, aborts_of v w held running h.1)
-not_told faults v w held error.TooManyReferences running h = (h.0, aborts_of v w held running h.1)
-not_told faults v w held error.Full running h = (h.0, aborts_of v w held running h.1)
-not_told faults v w held error.Memory running h = (h.0, aborts_of v w held running h.1)
-not_told faults v w held error.HistoryFull running h = (h.0, aborts_of v w held running h.1)
-not_told faults v w held error.LogFull running h = (h.0, aborts_of v w held running h.1)
-not_told faults v w held error.Stopped running h = (h.0, aborts_of v w held running h.1)
-not_told faults v w held error.Ended running h = absurd h.0
+not_told : {D : Type 0} (n : Tending) (faults : D → ℕ) (v w : LoggedView D) (held : List (Option ℕ)) (why : StoreError) → v.failed ≡ None → HasNotCommitted faults why v w → FailsToCommit faults (store_at n v held) (store_at n w held) why
+not_told n faults v w held error.Disk running h = h
+not_told n faults v w held error.NotHeld running h = (h.0, aborts_of v w held running h.1)
+not_told n faults v w held error.NoSuchSlot running h = (h.0, aborts_of v w held running h.1)
+not_told n faults v w held error.TooManyReferences running h = (h.0, aborts_of v w held running h.1)
+not_told n faults v w held error.Full running h = (h.0, aborts_of v w held running h.1)
+not_told n faults v w held error.Memory running h = (h.0, aborts_of v w held running h.1)
+not_told n faults v w held error.HistoryFull running h = (h.0, aborts_of v w held running h.1)
+not_told n faults v w held error.LogFull running h = (h.0, aborts_of v w held running h.1)
+not_told n faults v w held error.Stopped running h = (h.0, aborts_of v w held running h.1)
+not_told n faults v w held error.Ended running h = absurd h.0
 
-pub commit_told : {D : Type 0} (faults : D → ℕ) (v w : LoggedView D) (held : List (Option ℕ)) (r : Result (Unit {0}) StoreError) → v.failed ≡ None → OnOk r (HasCommitted v w) → IfErr r (λ why. HasNotCommitted faults why v w) → CommitTold faults r (store_at v held) (store_at w held)
+pub commit_told : {D : Type 0} {n : Tending} (faults : D → ℕ) (v w : LoggedView D) (held : List (Option ℕ)) (r : Result (Unit {0}) StoreError) → v.failed ≡ None → OnOk r (HasCommitted v w) → IfErr r (λ why. HasNotCommitted faults why v w) → CommitTold faults r (store_at n v held) (store_at n w held)
 commit_told faults v w held (Ok x) running done failed = record {
   done = record { closed = done.quiet; committed = done.committed; durable = done.durable; running = done.running; made = done.does };
   failed = tt;
 }
-commit_told faults v w held (Err why) running done failed = record { done = tt; failed = not_told faults v w held why running failed }
+commit_told faults v w held (Err why) running done failed = record { done = tt; failed = not_told _ faults v w held why running failed }
 
 kept_not : {D : Type 0} (faults : D → ℕ) (v w : LoggedView D) (held : List (Option ℕ)) (why : StoreError) → HasNotCommitted faults why v w → IsKept w held
 kept_not faults v w held error.Disk h = λ f. absurd (let told : w.failed ≡ Some (record { commit = Some client; faults = faults w.disk }) = h.told in cc)

@@ -1,12 +1,12 @@
 -- A store that is tended.
 use Rattle.std.proofs.Common.{◌≡◌, ℕ, ◌+◌, ◌<◌, ◌≤◌, Bool, true, false, List, Result, Ok, Err, length, refl, ap₂, arith, ⊎_elim}
-use Rattle.std.specs.Prelude.{◌↔◌, ◌/◌, max, IfOk, IfErr, OnOk}
+use Rattle.std.specs.Prelude.{◌↔◌, IfOk, IfErr, OnOk}
 use Rattle.std.proofs.lemmas.Bool.{cases_lt}
 use Rattle.disk_model.specs.declared.area.Area.{Area}
 use Rattle.gate_log.specs.State.{used}
 use Rattle.object_store.specs.declared.error.StoreError.{StoreError}
 use Rattle.object_store.specs.Handles.{StoreView}
-use Rattle.object_store.specs.Upkeep.{CollectsUpTo, FailsToCollect, Checkpoints, FailsToCheckpoint, half_of_log, Readies, Tends, FailsToTend, stopped}
+use Rattle.object_store.specs.Upkeep.{CollectsUpTo, FailsToCollect, Checkpoints, soft_limit, Readies, Tends, FailsToTend, stopped}
 
 -- what a test of the log's length says
 pub is_short : (b : Bool) (half bytes : ℕ) → (b ≡ true) ↔ (half < bytes) → b ≡ false → bytes ≤ half
@@ -17,7 +17,7 @@ if_err P (Ok x) p = tt
 if_err P (Err e) p = p
 
 -- the log is short enough as it is
-pub ready_now : {D : Type 0} (may_leave : D → Area → List ℕ → Type 0) (u : StoreView D) → used u.below.log ≤ half_of_log u → Readies may_leave u u
+pub ready_now : {D : Type 0} (may_leave : D → Area → List ℕ → Type 0) (u : StoreView D) → used u.below.log ≤ soft_limit u → Readies may_leave u u
 ready_now may_leave u short = record {
   was = λ h. refl;
   turned = λ h. absurd (omega (arith, h, short));
@@ -25,7 +25,7 @@ ready_now may_leave u short = record {
 }
 
 -- a checkpoint made it short
-pub ready_then : {D : Type 0} (may_leave : D → Area → List ℕ → Type 0) (u m : StoreView D) → half_of_log u < used u.below.log → Checkpoints may_leave u m → Readies may_leave u m
+pub ready_then : {D : Type 0} (may_leave : D → Area → List ℕ → Type 0) (u m : StoreView D) → soft_limit u < used u.below.log → Checkpoints may_leave u m → Readies may_leave u m
 ready_then may_leave u m long c =
     let fifteen : used m.below.log ≡ 15 = ap₂ (λ (d : ℕ) (t : List ℕ). d + 6 + length t) c.turns.turns.first c.turns.turns.does.tail in
     record {
@@ -34,7 +34,7 @@ ready_then may_leave u m long c =
       room = omega (arith, fifteen);
     }
 
-pub readies_turned : {D : Type 0} (may_leave : D → Area → List ℕ → Type 0) (u m : StoreView D) (r : Result (Unit {0}) StoreError) → half_of_log u < used u.below.log → OnOk r (Checkpoints may_leave u m) → OnOk r (Readies may_leave u m)
+pub readies_turned : {D : Type 0} (may_leave : D → Area → List ℕ → Type 0) (u m : StoreView D) (r : Result (Unit {0}) StoreError) → soft_limit u < used u.below.log → OnOk r (Checkpoints may_leave u m) → OnOk r (Readies may_leave u m)
 readies_turned may_leave u m (Ok x) long c = ready_then may_leave u m long c
 readies_turned may_leave u m (Err why) long c = tt
 

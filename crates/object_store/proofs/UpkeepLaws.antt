@@ -1,5 +1,5 @@
 -- What the upkeep of a store comes to, over what its parts do below.
-use Rattle.std.proofs.Common.{◌≡◌, ◌≢◌, ℕ, Bool, true, false, List, Option, Some, None, Result, Ok, Err, refl, sym, ap, ◌∙◌, subst, inl, is_some}
+use Rattle.std.proofs.Common.{◌≡◌, ◌≢◌, ℕ, true, false, List, Option, Some, None, Result, Ok, Err, refl, sym, ap, ◌∙◌, subst, inl, is_some}
 use Rattle.std.specs.Prelude.{IfOk, IfErr, OnOk}
 use Rattle.plain_model.specs.declared.object.Object.{Object}
 use Rattle.plain_model.specs.Graphs.{object_at}
@@ -13,11 +13,12 @@ use Rattle.core_store.specs.JournalView.{JournalView}
 use Rattle.logged_journal.specs.declared.failed.FailedCall.{FailedCall}
 use Rattle.logged_journal.specs.View.{LoggedView}
 use Rattle.logged_journal.specs.Upkeep.{FailsUpkeep}
+use Rattle.object_store.specs.declared.tending.Tending.{Tending}
 use Rattle.object_store.specs.declared.error.StoreError.{StoreError}
 use Rattle.object_store.specs.declared.error.StoreError.TheVariants as error
 use Rattle.object_store.specs.Seen.{state_of, IsQuiet}
 use Rattle.object_store.specs.Ends.{Ends}
-use Rattle.object_store.specs.Handles.{StoreView, store_at, committed_of, IsKept}
+use Rattle.object_store.specs.Handles.{StoreView, store_at, IsKept}
 use Rattle.object_store.specs.Upkeep.{MakesEvents, MakesUpTo, MakesShort, IsExact, waiting_in, TurnsLog, StaysUnturned, TurnsNot, OpensToReach, waiting_of, StoresReached, Collects, CollectsUpTo, CollectsShort, FailsToCollect, Checkpoints, MissesCheckpoint, FailsToCheckpoint}
 use Rattle.object_store.proofs.CollectLaws.{settled_reach}
 
@@ -42,8 +43,8 @@ pub some_reach : {D : Type 0} (steps : ℕ) (m w : LoggedView D) (r : Result ℕ
 some_reach steps m w (Ok left) makes short a b = settled_reach m w makes.makes.commits a b
 some_reach steps m w (Err why) makes short a b = settled_reach m w short.makes.commits a b
 
-collects_of : {D : Type 0} (n : ℕ) (u m w : LoggedView D) (held : List (Option ℕ)) → Ends u m → MakesEvents n m w → SameReachable (state_of w).committed (state_of m).committed → Collects (store_at u held) (store_at w held)
-collects_of n u m w held e makes reach = record {
+collects_of : {D : Type 0} {n : Tending} (events : ℕ) (u m w : LoggedView D) (held : List (Option ℕ)) → Ends u m → MakesEvents events m w → SameReachable (state_of w).committed (state_of m).committed → Collects (store_at n u held) (store_at n w held)
+collects_of events u m w held e makes reach = record {
   closed = makes.quiet;
   reach = subst (λ (g : List Object). SameReachable (state_of w).committed g) e.committed reach;
   removes = λ id o there. subst (λ (g : List Object). object_at g id ≡ Some o) e.committed (makes.removes id o there);
@@ -69,8 +70,8 @@ fails_to_collect steps error.Disk old new c = c
 fails_to_collect steps error.Ended old new c = c
 fails_to_collect steps error.Stopped old new c = absurd c.makes.cause
 
-pub collect_told : {D : Type 0} (steps : ℕ) (u m w : LoggedView D) (held : List (Option ℕ)) (r : Result ℕ StoreError) → Ends u m → IfOk r (λ left. MakesUpTo steps left m w) → IfOk r (λ left. left ≡ waiting_in w) → (r ≡ Ok 0 → IsExact w) → IfErr r (λ why. MakesShort steps why m w)
-    → SameReachable (state_of w).committed (state_of m).committed → CollectTold steps r (store_at u held) (store_at w held)
+pub collect_told : {D : Type 0} {n : Tending} (steps : ℕ) (u m w : LoggedView D) (held : List (Option ℕ)) (r : Result ℕ StoreError) → Ends u m → IfOk r (λ left. MakesUpTo steps left m w) → IfOk r (λ left. left ≡ waiting_in w) → (r ≡ Ok 0 → IsExact w) → IfErr r (λ why. MakesShort steps why m w)
+    → SameReachable (state_of w).committed (state_of m).committed → CollectTold steps r (store_at n u held) (store_at n w held)
 collect_told steps u m w held (Ok left) e makes waits exact short reach = record {
   collects = record { collects = collects_of makes.events u m w held e makes.makes reach; ended = m; ends = e; makes = makes };
   waiting = waits;
@@ -81,7 +82,7 @@ collect_told steps u m w held (Err why) e makes waits exact short reach = record
   collects = tt;
   waiting = tt;
   exact = exact;
-  failed = fails_to_collect steps why (store_at u held) (store_at w held) (record { collects = collects_of short.events u m w held e short.makes reach; ended = m; ends = e; makes = short });
+  failed = fails_to_collect steps why (store_at _ u held) (store_at _ w held) (record { collects = collects_of short.events u m w held e short.makes reach; ended = m; ends = e; makes = short });
 }
 
 pub kept_collected : {D : Type 0} (steps : ℕ) (m w : LoggedView D) (held : List (Option ℕ)) (r : Result ℕ StoreError) → IfOk r (λ left. MakesUpTo steps left m w) → IfErr r (λ why. MakesShort steps why m w) → IsKept w held
@@ -94,7 +95,7 @@ pub record CheckpointTold {D : Type 0} (faults : D → ℕ) (may_leave : D → A
   pub done : OnOk r (Checkpoints may_leave old new)
   pub failed : IfErr r (λ why. FailsToCheckpoint faults why old new)
 
-misses : {D : Type 0} (faults : D → ℕ) (why : StoreError) (u m w : LoggedView D) (held : List (Option ℕ)) → Ends u m → state_of w ≡ state_of m → IsQuiet (state_of m) → TurnsNot faults why m w → MissesCheckpoint faults why (store_at u held) (store_at w held)
+misses : {D : Type 0} {n : Tending} (faults : D → ℕ) (why : StoreError) (u m w : LoggedView D) (held : List (Option ℕ)) → Ends u m → state_of w ≡ state_of m → IsQuiet (state_of m) → TurnsNot faults why m w → MissesCheckpoint faults why (store_at n u held) (store_at n w held)
 misses faults why u m w held e same q t = record {
   closed = ap (λ (s : State). s.active) same ∙ q;
   committed = ap (λ (s : State). s.committed) same ∙ e.committed;
@@ -109,20 +110,20 @@ state_failed faults m w f = ap (λ (j : JournalView). (end_of j.history).state) 
 state_unturned : {D : Type 0} (why : StoreError) (m w : LoggedView D) → StaysUnturned why m w → state_of w ≡ state_of m
 state_unturned why m w s = ap (λ (x : Moment). x.state) s.same
 
-fails_checkpoint : {D : Type 0} (faults : D → ℕ) (why : StoreError) (u m w : LoggedView D) (held : List (Option ℕ)) → Ends u m → IsQuiet (state_of m) → TurnsNot faults why m w → FailsToCheckpoint faults why (store_at u held) (store_at w held)
-fails_checkpoint faults error.NotHeld u m w held e q t = misses faults error.NotHeld u m w held e (state_unturned error.NotHeld m w t) q t
-fails_checkpoint faults error.NoSuchSlot u m w held e q t = misses faults error.NoSuchSlot u m w held e (state_unturned error.NoSuchSlot m w t) q t
-fails_checkpoint faults error.TooManyReferences u m w held e q t = misses faults error.TooManyReferences u m w held e (state_unturned error.TooManyReferences m w t) q t
-fails_checkpoint faults error.Full u m w held e q t = misses faults error.Full u m w held e (state_unturned error.Full m w t) q t
-fails_checkpoint faults error.Memory u m w held e q t = misses faults error.Memory u m w held e (state_unturned error.Memory m w t) q t
-fails_checkpoint faults error.HistoryFull u m w held e q t = misses faults error.HistoryFull u m w held e (state_unturned error.HistoryFull m w t) q t
-fails_checkpoint faults error.LogFull u m w held e q t = misses faults error.LogFull u m w held e (state_unturned error.LogFull m w t) q t
-fails_checkpoint faults error.Ended u m w held e q t = misses faults error.Ended u m w held e (state_unturned error.Ended m w t) q t
-fails_checkpoint faults error.Disk u m w held e q t = misses faults error.Disk u m w held e (state_failed faults m w t) q t
-fails_checkpoint faults error.Stopped u m w held e q t = absurd t.cause
+fails_checkpoint : {D : Type 0} (n : Tending) (faults : D → ℕ) (why : StoreError) (u m w : LoggedView D) (held : List (Option ℕ)) → Ends u m → IsQuiet (state_of m) → TurnsNot faults why m w → FailsToCheckpoint faults why (store_at n u held) (store_at n w held)
+fails_checkpoint n faults error.NotHeld u m w held e q t = misses faults error.NotHeld u m w held e (state_unturned error.NotHeld m w t) q t
+fails_checkpoint n faults error.NoSuchSlot u m w held e q t = misses faults error.NoSuchSlot u m w held e (state_unturned error.NoSuchSlot m w t) q t
+fails_checkpoint n faults error.TooManyReferences u m w held e q t = misses faults error.TooManyReferences u m w held e (state_unturned error.TooManyReferences m w t) q t
+fails_checkpoint n faults error.Full u m w held e q t = misses faults error.Full u m w held e (state_unturned error.Full m w t) q t
+fails_checkpoint n faults error.Memory u m w held e q t = misses faults error.Memory u m w held e (state_unturned error.Memory m w t) q t
+fails_checkpoint n faults error.HistoryFull u m w held e q t = misses faults error.HistoryFull u m w held e (state_unturned error.HistoryFull m w t) q t
+fails_checkpoint n faults error.LogFull u m w held e q t = misses faults error.LogFull u m w held e (state_unturned error.LogFull m w t) q t
+fails_checkpoint n faults error.Ended u m w held e q t = misses faults error.Ended u m w held e (state_unturned error.Ended m w t) q t
+fails_checkpoint n faults error.Disk u m w held e q t = misses faults error.Disk u m w held e (state_failed faults m w t) q t
+fails_checkpoint n faults error.Stopped u m w held e q t = absurd t.cause
 
-pub checkpoint_told : {D : Type 0} (faults : D → ℕ) (may_leave : D → Area → List ℕ → Type 0) (u m w : LoggedView D) (held : List (Option ℕ)) (r : Result (Unit {0}) StoreError) → Ends u m → IsQuiet (state_of m) → OnOk r (TurnsLog may_leave m w) → IfErr r (λ why. TurnsNot faults why m w)
-    → CheckpointTold faults may_leave r (store_at u held) (store_at w held)
+pub checkpoint_told : {D : Type 0} {n : Tending} (faults : D → ℕ) (may_leave : D → Area → List ℕ → Type 0) (u m w : LoggedView D) (held : List (Option ℕ)) (r : Result (Unit {0}) StoreError) → Ends u m → IsQuiet (state_of m) → OnOk r (TurnsLog may_leave m w) → IfErr r (λ why. TurnsNot faults why m w)
+    → CheckpointTold faults may_leave r (store_at n u held) (store_at n w held)
 checkpoint_told faults may_leave u m w held (Ok x) e q turns fails = record {
   done = record {
     closed = ap (λ (n : Moment). n.state.active) turns.same ∙ q;
@@ -133,7 +134,7 @@ checkpoint_told faults may_leave u m w held (Ok x) e q turns fails = record {
   };
   failed = tt;
 }
-checkpoint_told faults may_leave u m w held (Err why) e q turns fails = record { done = tt; failed = fails_checkpoint faults why u m w held e q fails }
+checkpoint_told faults may_leave u m w held (Err why) e q turns fails = record { done = tt; failed = fails_checkpoint _ faults why u m w held e q fails }
 
 kept_fails : {D : Type 0} (faults : D → ℕ) (why : StoreError) (m w : LoggedView D) (held : List (Option ℕ)) → IsQuiet (state_of m) → TurnsNot faults why m w → IsKept w held
 kept_fails faults error.NotHeld m w held q t = kept_quiet w held (ap (λ (s : State). s.active) (state_unturned error.NotHeld m w t) ∙ q)

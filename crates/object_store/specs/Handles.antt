@@ -4,16 +4,19 @@ use Rattle.plain_model.specs.declared.object.Object.{Object}
 use Rattle.plain_model.specs.Graphs.{root}
 use Rattle.logged_journal.specs.View.{LoggedView}
 use Rattle.object_store.specs.declared.reference.Held.{Held}
+use Rattle.object_store.specs.declared.tending.Tending.{Tending}
 use Rattle.object_store.specs.Seen.{state_of, open_in, graph_in, register_in, IsQuiet, IsAlone}
 
--- a store: the journal with its log and its disk, and for each register of the open transaction the object that it is known to hold
+-- a store: the journal with its log and its disk; for each register of the open transaction the object that it is known to hold; and
+-- what it sees to by itself
 pub record StoreView (D : Type 0) : Type 0 where
   pub below : LoggedView D
   pub held : List (Option ℕ)
+  pub tending : Tending
 
--- the store with this journal, of which so much is known to be held
-abbrev pub store_at : {D : Type 0} → LoggedView D → List (Option ℕ) → StoreView D
-store_at below held = record { below = below; held = held }
+-- the store that sees to this, with this journal, of which so much is known to be held
+abbrev pub store_at : {D : Type 0} → Tending → LoggedView D → List (Option ℕ) → StoreView D
+store_at tending below held = record { below = below; held = held; tending = tending }
 
 -- the graph that the handle sees: the committed graph, and on it the writes of its transaction
 abbrev pub graph_of : {D : Type 0} → StoreView D → List Object

@@ -4,3 +4,4 @@ pub mod Handles
 pub mod Ends
 pub mod Steps
 pub mod Upkeep
+pub mod Tended

@@ -1,5 +1,5 @@
 -- The collector and checkpoints, which work where no transaction is open.
-use Rattle.std.specs.Prelude.{◌≡◌, ◌≢◌, ◌↔◌, ℕ, ◌+◌, ◌/◌, ◌<◌, ◌≤◌, max, true, List, [], ◌∷◌, length, None, Some}
+use Rattle.std.specs.Prelude.{◌≡◌, ◌≢◌, ◌↔◌, ℕ, ◌+◌, ◌<◌, ◌≤◌, max, true, List, [], ◌∷◌, length, None, Some}
 use Rattle.plain_model.specs.declared.object.Object.{Object}
 use Rattle.plain_model.specs.Graphs.{root, object_at}
 use Rattle.plain_model.specs.Machine.{is_stored}
@@ -171,16 +171,16 @@ FailsToCheckpoint faults why old new = MissesCheckpoint faults why old new
 
 -- ---- a store that is tended
 
--- half of the log's limit
-abbrev pub half_of_log : {D : Type 0} → StoreView D → ℕ
-half_of_log v = v.below.journal.limits.log / 2
+-- so many bytes of the log may be in use where a transaction begins
+abbrev pub soft_limit : {D : Type 0} → StoreView D → ℕ
+soft_limit v = v.tending.log
 
--- The store was made ready for a transaction: by a checkpoint, where more than half of the log's limit was in use, and else it was.
--- Then no more than that is in use, or the 15 bytes with which a log begins.
+-- The store was made ready for a transaction: by a checkpoint, where more than the soft limit was in use, and else it was. Then no
+-- more than that is in use, or the 15 bytes with which a log begins.
 pub record Readies {D : Type 0} (may_leave : D → Area → List ℕ → Type 0) (old ready : StoreView D) : Type 0 where
-  pub was : used old.below.log ≤ half_of_log old → ready ≡ old
-  pub turned : half_of_log old < used old.below.log → Checkpoints may_leave old ready
-  pub room : used ready.below.log ≤ max 15 (half_of_log old)
+  pub was : used old.below.log ≤ soft_limit old → ready ≡ old
+  pub turned : soft_limit old < used old.below.log → Checkpoints may_leave old ready
+  pub room : used ready.below.log ≤ max 15 (soft_limit old)
 
 -- and then the collector made so many steps
 pub record Tends {D : Type 0} (may_leave : D → Area → List ℕ → Type 0) (steps left : ℕ) (old new : StoreView D) : Type 0 where
@@ -190,5 +190,5 @@ pub record Tends {D : Type 0} (may_leave : D → Area → List ℕ → Type 0) (
 
 -- it was not made ready, or the collector stopped before
 pub data FailsToTend {D : Type 0} (faults : D → ℕ) (may_leave : D → Area → List ℕ → Type 0) (steps : ℕ) (why : StoreError) (old new : StoreView D) : Type 0 where
-  unready : half_of_log old < used old.below.log → FailsToCheckpoint faults why old new → FailsToTend faults may_leave steps why old new
+  unready : soft_limit old < used old.below.log → FailsToCheckpoint faults why old new → FailsToTend faults may_leave steps why old new
   stopped : (ready : StoreView D) → Readies may_leave old ready → FailsToCollect steps why ready new → FailsToTend faults may_leave steps why old new

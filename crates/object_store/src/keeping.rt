@@ -4,7 +4,7 @@ ghost use Rattle.disk_model.specs.Time.{LeavesOnlyImages};
 ghost use Rattle.gate_log.specs.State.{used};
 ghost use Rattle.object_store.specs.Seen.{state_of};
 ghost use Rattle.object_store.specs.Handles.{committed_of, IsClosed};
-ghost use Rattle.object_store.specs.Upkeep.{CollectsUpTo, FailsToCollect, waiting_of, StoresReached, Checkpoints, FailsToCheckpoint, OpensToReach, half_of_log, Readies, Tends, FailsToTend};
+ghost use Rattle.object_store.specs.Upkeep.{CollectsUpTo, FailsToCollect, waiting_of, StoresReached, Checkpoints, FailsToCheckpoint, OpensToReach, soft_limit, Readies, Tends, FailsToTend};
 
 use crate::error::StoreError;
 use crate::store::Store;
@@ -80,11 +80,12 @@ impl<D: Disk> Store<D> {
         upkeep::turn(&mut self.framed)
     }
 
-    /// Makes a checkpoint where more than half of the log's limit is in use, and then so many steps of the collector. It answers how
+    /// Makes a checkpoint where more of the log is in use than the soft limit of the options, and then so many steps of the collector. It answers how
     /// many objects wait for the collector then.
     ///
-    /// Where it is called after each commit, the next transaction finds at most half of the limit in use, or 15 bytes, and what these steps
-    /// logged.
+    /// [`Store::begin`] makes the same checkpoint, and [`Transaction::commit`] makes some steps: call this where there is time for more.
+    ///
+    /// [`Transaction::commit`]: crate::Transaction::commit
     pub fn tend(&mut self, steps: u32) -> Result<u32, StoreError>
         ensures tends { IfOk result (λ left. Tends D.may_leave steps left self.old self.new) }
         ensures exact { result ≡ Ok 0 → StoresReached self.new }
@@ -96,10 +97,10 @@ impl<D: Disk> Store<D> {
         }
     }
 
-    /// Makes a checkpoint where more than half of the log's limit is in use.
-    fn ready(&mut self) -> Result<(), StoreError>
+    /// Makes a checkpoint where more of the log is in use than the soft limit of the options.
+    pub(crate) fn ready(&mut self) -> Result<(), StoreError>
         ensures readies { OnOk result (Readies D.may_leave self.old self.new) }
-        ensures long { IfErr result (λ _. half_of_log self.old < used self.old.below.log) }
+        ensures long { IfErr result (λ _. soft_limit self.old < used self.old.below.log) }
         ensures failed { IfErr result (λ why. FailsToCheckpoint D.faults why self.old self.new) }
     {
         if !self.is_log_long() {
@@ -108,11 +109,10 @@ impl<D: Disk> Store<D> {
         self.checkpoint()
     }
 
-    /// Whether more than half of the log's limit is in use.
+    /// Whether more of the log is in use than the soft limit of the options.
     fn is_log_long(&self) -> bool
-        ensures { (result ≡ true) ↔ (half_of_log self.now < used self.now.below.log) }
+        ensures { (result ≡ true) ↔ (soft_limit self.now < used self.now.below.log) }
     {
-        let logged = self.framed.logged();
-        logged.log_used() > logged.journal().limits().log / 2
+        self.framed.logged().log_used() > self.tending.log
     }
 }

@@ -22,9 +22,10 @@
 //!
 //! # Upkeep
 //!
-//! Objects that the root doesn't reach any more stay stored until the collector deletes them, and the log grows with each commit. Nothing is done
-//! about either by itself. Between two transactions [`Store::collect`] makes steps of the collector, and [`Store::checkpoint`] lets the log
-//! begin anew; [`Store::tend`] does both where it is time, and is meant to be called after each commit.
+//! Objects that the root doesn't reach any more stay stored until the collector deletes them, and the log grows with each commit. A store sees to
+//! both by itself. Some steps of the collector follow each commit. Where more of the log is in use than its soft limit, [`Store::begin`] makes a
+//! checkpoint first, so that the log begins anew. [`Options`] says how many steps, and what the limit is. Where there is time between two
+//! transactions, [`Store::collect`], [`Store::checkpoint`] and [`Store::tend`] do more.
 #![tactic(auto)]
 
 mod asking;
@@ -37,6 +38,7 @@ mod options;
 mod reference;
 mod store;
 mod table;
+mod tending;
 mod transaction;
 mod upkeep;
 

@@ -1,14 +1,16 @@
 //! How a store is made and opened.
-ghost use Rattle.std.specs.Prelude.{◌≡◌, ◌≤◌, min, max};
+ghost use Rattle.std.specs.Prelude.{◌≡◌, ◌≤◌, ◌/◌, min, max};
 ghost use Rattle.core_store.specs.Limited.{AreLimits};
 
+use crate::tending::Tending;
 use core_store::Limits;
 
-/// How a store is made and opened: how many pages a new one has, and how long its history and its log may get.
+/// How a store is made and opened: how many pages a new one has, how long its history and its log may get, and what it sees to by itself.
 #[derive(Clone, Copy)]
 pub struct Options {
     pages: u16,
     limits: Limits,
+    tending: Tending,
     ghost some: { 1 ≤ pages },
     ghost few: { pages ≤ 1024 },
     ghost within: { AreLimits limits },
@@ -16,15 +18,20 @@ pub struct Options {
 
 impl Options {
     /// A new store has 1,024 pages, which is the most, with eight objects each. The limits are the greatest: 1,048,576 entries of history,
-    /// and 1,071,644,672 bytes of log.
+    /// and 1,071,644,672 bytes of log. Half of these is the soft limit. A commit makes 16 steps of the collector.
     pub fn new() -> Options
         ensures pages { result.pages ≡ 1024 }
         ensures limits { result.limits ≡ record { trace = 1048576; log = 1071644672 } }
+        ensures tending { result.tending ≡ record { log = 535822336; steps = 16 } }
     {
         Limits::greatest();
         Options {
             pages: 1024,
             limits: Limits::GREATEST,
+            tending: Tending {
+                log: 535_822_336,
+                steps: 16,
+            },
         }
     }
 
@@ -32,10 +39,12 @@ impl Options {
     pub fn with_pages(self, pages: u16) -> Options
         ensures pages { result.pages ≡ min (max pages 1) 1024 }
         ensures limits { result.limits ≡ self.limits }
+        ensures tending { result.tending ≡ self.tending }
     {
         Options {
             pages: pages.max(1).min(1024),
             limits: self.limits,
+            tending: self.tending,
         }
     }
 
@@ -43,6 +52,7 @@ impl Options {
     pub fn with_history_limit(self, entries: u64) -> Options
         ensures pages { result.pages ≡ self.pages }
         ensures limits { result.limits ≡ record self.limits { trace = min entries 1048576 } }
+        ensures tending { result.tending ≡ self.tending }
     {
         Options {
             pages: self.pages,
@@ -50,19 +60,58 @@ impl Options {
                 trace: entries.min(1_048_576),
                 log: self.limits.log,
             },
+            tending: self.tending,
         }
     }
 
-    /// The same with a limit of so many bytes for the log, where that isn't above the greatest.
+    /// The same with a limit of so many bytes for the log, where that isn't above the greatest. Half of it is the soft limit.
     pub fn with_log_limit(self, bytes: u64) -> Options
         ensures pages { result.pages ≡ self.pages }
         ensures limits { result.limits ≡ record self.limits { log = min bytes 1071644672 } }
+        ensures tending { result.tending ≡ record self.tending { log = min bytes 1071644672 / 2 } }
     {
+        let most = bytes.min(1_071_644_672);
         Options {
             pages: self.pages,
             limits: Limits {
                 trace: self.limits.trace,
-                log: bytes.min(1_071_644_672),
+                log: most,
+            },
+            tending: Tending {
+                log: most / 2,
+                steps: self.tending.steps,
+            },
+        }
+    }
+
+    /// The same with a soft limit of so many bytes for the log: where more are in use, a checkpoint is made before a transaction begins.
+    pub fn with_soft_log_limit(self, bytes: u64) -> Options
+        ensures pages { result.pages ≡ self.pages }
+        ensures limits { result.limits ≡ self.limits }
+        ensures tending { result.tending ≡ record self.tending { log = bytes } }
+    {
+        Options {
+            pages: self.pages,
+            limits: self.limits,
+            tending: Tending {
+                log: bytes,
+                steps: self.tending.steps,
+            },
+        }
+    }
+
+    /// The same with so many steps of the collector after a commit.
+    pub fn with_collector_steps(self, steps: u32) -> Options
+        ensures pages { result.pages ≡ self.pages }
+        ensures limits { result.limits ≡ self.limits }
+        ensures tending { result.tending ≡ record self.tending { steps = steps } }
+    {
+        Options {
+            pages: self.pages,
+            limits: self.limits,
+            tending: Tending {
+                log: self.tending.log,
+                steps,
             },
         }
     }
@@ -82,5 +131,12 @@ impl Options {
         ensures within { AreLimits result }
     {
         self.limits
+    }
+
+    /// What the store sees to by itself.
+    pub(crate) fn tending(self) -> Tending
+        ensures { result ≡ self.tending }
+    {
+        self.tending
     }
 }

@@ -9,6 +9,7 @@ ghost use Rattle.object_store.specs.Seen.{object_slots, client};
 use crate::error::StoreError;
 use crate::options::Options;
 use crate::table::Table;
+use crate::tending::Tending;
 use crate::transaction::Transaction;
 use crate::{SLOTS, ending};
 use disk_model::Disk;
@@ -25,15 +26,16 @@ use store_opening::OpenRefusal;
 pub struct Store<D: Disk> {
     pub(crate) framed: FramedJournal<SLOTS, D>,
     pub(crate) table: Table,
+    pub(crate) tending: Tending,
 }
 
-/// Contracts see the journal with its log and its disk, and what the open transaction holds.
+/// Contracts see the journal with its log and its disk, what the open transaction holds, and what the store sees to by itself.
 impl<D: Disk> Model for Store<D> {
     ghost use Rattle.object_store.specs.Handles.{StoreView, store_at, IsKept};
 
     ghost Value = { StoreView D };
 
-    ghost view = { λ s. store_at s.framed s.table };
+    ghost view = { λ s. store_at s.tending s.framed s.table };
 
     ghost invariant = { λ s. IsKept s.framed s.table };
 }
@@ -43,6 +45,7 @@ impl<D: Disk> Store<D> {
     ghost use Rattle.object_store.specs.contracts.store.Store.{the_row};
     ghost use Rattle.object_store.specs.Handles.{graph_of, committed_of, is_live, IsClosed};
     ghost use Rattle.object_store.specs.Steps.{Begins, FailsToBegin, Aborts, Commits, FailsToCommit};
+    ghost use Rattle.object_store.specs.Tended.{Starts, FailsToStart, CommitsAndCollects};
 
     /// Opens the store that the disk holds. Where it isn't opened the disk is handed back.
     ///
@@ -51,6 +54,7 @@ impl<D: Disk> Store<D> {
         ensures opened { IfOk result (λ s. OpensAs D.content D.faults object_slots disk options.limits s.below) }
         ensures graph { IfOk result (λ s. committed_of s ≡ graph_of_cells s.below.journal.opening) }
         ensures closed { IfOk result (λ s. IsClosed s) }
+        ensures tending { IfOk result (λ s. s.tending ≡ options.tending) }
         ensures meanwhile { IfOk result (λ s. OpensMeanwhile D.content D.may_leave D.moment D.left_since object_slots disk s.below.disk) }
         ensures refused { IfErr result (λ e. RefusesToOpen D.content D.may_leave D.moment D.left_since object_slots disk e.0 e.1) }
         ensures meanwhile_refused { IfErr result (λ e. OpensMeanwhile D.content D.may_leave D.moment D.left_since object_slots disk e.1) }
@@ -60,6 +64,7 @@ impl<D: Disk> Store<D> {
             Ok(framed) => Ok(Store {
                 framed,
                 table: Table::new(),
+                tending: options.tending(),
             }),
             Err(refused) => Err(refused),
         }
@@ -76,21 +81,37 @@ impl<D: Disk> Store<D> {
     pub fn close(self) -> D
         ensures { result ≡ self.below.disk }
     {
-        let Store { framed, table: _ } = self;
+        let Store {
+            framed,
+            table: _,
+            tending: _,
+        } = self;
         framed.into_logged().into_disk()
     }
 
     /// Begins a transaction. It sees what is committed, and holds the root.
     ///
-    /// [`StoreError::Stopped`] comes exactly where the disk failed a call before. Else the transaction begins, unless memory, the
+    /// Where more of the log is in use than the soft limit of the options, a checkpoint is made first; its error is answered. Else
+    /// [`StoreError::Stopped`] comes exactly where the disk failed a call before, and otherwise the transaction begins, unless memory, the
     /// history or the log is short. What a handle left without a commit is ended first, without its writes.
     pub fn begin(&mut self) -> Result<Transaction<'_, D>, StoreError>
-        ensures* refused { sem 𝓛 (RestsIfErr (the_row D.row D.Disk) self.entry (λ t. t.store.ghost_name) result (λ last. IfErr result (λ why. FailsToBegin why self.old last))) }
+        ensures* refused { sem 𝓛 (RestsIfErr (the_row D.row D.Disk) self.entry (λ t. t.store.ghost_name) result (λ last. IfErr result (λ why. FailsToStart D.faults D.may_leave why self.old last))) }
         ensures same_reference { IfOk result (λ t. t.store.ghost_name ≡ self.entry.ghost_name) }
-        ensures begun { IfOk result (λ t. Begins self.old t.store.now) }
+        ensures begun { IfOk result (λ t. Starts D.may_leave self.old t.store.now) }
     {
-        self.start()?;
+        self.start_ready()?;
         Ok(Transaction::new(self))
+    }
+
+    /// Makes the store ready, and begins a transaction.
+    fn start_ready(&mut self) -> Result<(), StoreError>
+        ensures begun { OnOk result (Starts D.may_leave self.old self.new) }
+        ensures refused { IfErr result (λ why. FailsToStart D.faults D.may_leave why self.old self.new) }
+    {
+        match self.ready() {
+            Ok(()) => self.start(),
+            Err(why) => Err(why),
+        }
     }
 
     /// Begins a transaction.
@@ -124,5 +145,23 @@ impl<D: Disk> Store<D> {
         ensures opens { LeavesOnlyImages D.moment D.left_since self.old.below.disk self.new.below.disk (OpensDuring object_slots self.old.below client Call.Commit) }
     {
         ending::commit(&mut self.framed)
+    }
+
+    /// Commits the open transaction, and makes so many steps of the collector then as the options say.
+    pub(crate) fn commit_and_collect(&mut self) -> Result<(), StoreError>
+        requires live { is_live self.old ≡ true }
+        ensures done { OnOk result (CommitsAndCollects self.old self.new) }
+        ensures failed { IfErr result (λ why. FailsToCommit D.faults self.old self.new why) }
+        ensures opens { LeavesOnlyImages D.moment D.left_since self.old.below.disk self.new.below.disk (OpensDuring object_slots self.old.below client Call.Commit) }
+    {
+        let steps = self.tending.steps;
+        match self.commit() {
+            Ok(()) => {
+                // The commit is done, whatever comes of these steps.
+                let _ = self.collect(steps);
+                Ok(())
+            }
+            Err(why) => Err(why),
+        }
     }
 }

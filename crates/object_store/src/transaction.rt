@@ -6,7 +6,8 @@ ghost use Rattle.plain_model.specs.Graphs.{root, has_object};
 ghost use Rattle.logged_journal.specs.Opens.{OpensDuring};
 ghost use Rattle.object_store.specs.Seen.{object_slots, client};
 ghost use Rattle.object_store.specs.Handles.{is_live, graph_of, Holds};
-ghost use Rattle.object_store.specs.Steps.{id_of, register_of, Keeps, Gets, Shows, Sets, MakesObject, IsObjectError, IsGetError, IsSetError, IsMakeError, Forgets, Aborts, Commits, FailsToCommit};
+ghost use Rattle.object_store.specs.Steps.{id_of, register_of, Keeps, Gets, Shows, Sets, MakesObject, IsObjectError, IsGetError, IsSetError, IsMakeError, Forgets, Aborts, FailsToCommit};
+ghost use Rattle.object_store.specs.Tended.{CommitsAndCollects};
 
 use crate::error::StoreError;
 use crate::reference::{Held, Ref};
@@ -158,13 +159,14 @@ impl<'t, D: Disk> Transaction<'t, D> {
         }
     }
 
-    /// Commits the transaction. At `Ok` what it wrote is durable.
+    /// Commits the transaction. At `Ok` what it wrote is durable. Then so many steps of the collector are made as the options say, or fewer
+    /// where nothing is left to do or something is short.
     ///
     /// [`StoreError::Disk`] comes only where the disk's count of faults rose in this call; then the next opening finds all of the
     /// transaction or nothing of it. At each other error it was aborted.
     pub fn commit(self) -> Result<(), StoreError>
         ensures ended { is_live self.entry.store.now ≡ false → IsErrOf result StoreError.Ended }
-        ensures done { OnOk result (Commits self.entry.store.now self.exit.0.now) }
+        ensures done { OnOk result (CommitsAndCollects self.entry.store.now self.exit.0.now) }
         ensures failed { IfErr result (λ why. FailsToCommit D.faults self.entry.store.now self.exit.0.now why) }
 
         // At each moment of the call a power loss leaves a disk that opens, to a graph that a crash before the call may leave, or, where
@@ -175,7 +177,7 @@ impl<'t, D: Disk> Transaction<'t, D> {
         if !store.is_open() {
             return Err(StoreError::Ended);
         }
-        store.commit()
+        store.commit_and_collect()
     }
 
     /// Ends the transaction without its writes.

@@ -1,5 +1,5 @@
 use Rattle.std.proofs.Common.{Ok, ap, ◌∙◌}
-use Rattle.object_store.proofs.CollectLaws.{makes_none, makes_then, makes_still, up_to_idle, up_to_all}
+use Rattle.object_store.proofs.CollectLaws.{makes_none, makes_then}
 use Rattle.object_store.proofs.upkeep.collect_some.Goals as goal
 
 pub steps-init : goal.steps-init

@@ -1,5 +1,4 @@
-use Rattle.object_store.proofs.CollectLaws.{not_failed}
-use Rattle.object_store.proofs.TurnLaws.{turned, unturned_full, unturned_log, unturned_memory, no_least, turn_opens}
+use Rattle.object_store.proofs.TurnLaws.{turned, unturned_full, unturned_log, unturned_memory, turn_opens}
 use Rattle.object_store.proofs.upkeep.turn.Goals as goal
 
 pub returns-in-Done-clause-turns : goal.returns-in-Done-clause-turns

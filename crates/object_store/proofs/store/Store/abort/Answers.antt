@@ -11,5 +11,5 @@ invariant_of-self g c = kept_ended c.self.inside.framed c.end_open.new.below c.s
 pub returns : goal.returns
 returns g c =
     let l = live_open c.self.inside.framed c.self.inside.table c.self.invariant (subst (λ (s : StoreView g.row.D.Denot). is_live s ≡ true) (sym c.self.view_is) c.requires.live) in
-    subst (λ (s : StoreView g.row.D.Denot). Aborts s (store_at c.end_open.new.below c.self.inside.table)) c.self.view_is
-    (aborts_of c.self.inside.framed c.end_open.new.below c.self.inside.table l.running c.end_open.ensures)
+    subst (λ (s : StoreView g.row.D.Denot). Aborts s (store_at c.self.inside.tending c.end_open.new.below c.self.inside.table)) c.self.view_is
+    (aborts_of {n = c.self.inside.tending} c.self.inside.framed c.end_open.new.below c.self.inside.table l.running c.end_open.ensures)

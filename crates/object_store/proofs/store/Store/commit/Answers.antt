@@ -14,8 +14,8 @@ invariant_of-self g c = kept_committed g.D.Disk.faults c.self.inside.framed c.co
 pub returns : goal.returns
 returns g c =
     let l = live_open c.self.inside.framed c.self.inside.table c.self.invariant (subst (λ (s : StoreView g.row.D.Denot). is_live s ≡ true) (sym c.self.view_is) c.requires.live) in
-    let told = commit_told g.D.Disk.faults c.self.inside.framed c.commit.new.below c.self.inside.table c.commit.result l.running c.commit.ensures.done c.commit.ensures.failed in
-    let t = subst (λ (s : StoreView g.row.D.Denot). CommitTold g.D.Disk.faults c.commit.result s (store_at c.commit.new.below c.self.inside.table)) c.self.view_is told in
+    let told = commit_told {n = c.self.inside.tending} g.D.Disk.faults c.self.inside.framed c.commit.new.below c.self.inside.table c.commit.result l.running c.commit.ensures.done c.commit.ensures.failed in
+    let t = subst (λ (s : StoreView g.row.D.Denot). CommitTold g.D.Disk.faults c.commit.result s (store_at c.self.inside.tending c.commit.new.below c.self.inside.table)) c.self.view_is told in
     record {
       done = t.done;
       failed = t.failed;

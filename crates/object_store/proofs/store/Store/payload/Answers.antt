@@ -10,6 +10,6 @@ invariant_of-self g c =
 
 pub returns : goal.returns
 returns g c =
-    let told = payload_told c.args.object c.self.inside.framed c.get_pay.new.below c.self.inside.table c.get_pay.result (c.holds.ensures.holds.0 c.if-not-holds.false) c.get_pay.ensures.live c.get_pay.ensures.looks c.get_pay.ensures.short in
-    let t = subst (λ (s : StoreView g.row.D.Denot). PayloadTold c.args.object c.get_pay.result s (store_at c.get_pay.new.below c.self.inside.table)) c.self.view_is told in
+    let told = payload_told {n = c.self.inside.tending} c.args.object c.self.inside.framed c.get_pay.new.below c.self.inside.table c.get_pay.result (c.holds.ensures.holds.0 c.if-not-holds.false) c.get_pay.ensures.live c.get_pay.ensures.looks c.get_pay.ensures.short in
+    let t = subst (λ (s : StoreView g.row.D.Denot). PayloadTold c.args.object c.get_pay.result s (store_at c.self.inside.tending c.get_pay.new.below c.self.inside.table)) c.self.view_is told in
     record { live = t.live; shows = t.shows; refused = t.refused; keeps = t.keeps }

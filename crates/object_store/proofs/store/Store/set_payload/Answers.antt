@@ -23,6 +23,6 @@ returns g c =
     let k = call.SetPay h.register c.args.value in
     let holds = c.holds.ensures.holds.0 c.if-not-holds.false in
     let E : StoreView g.row.D.Denot → StoreError → Type 0 = λ s why. IsObjectError h k s why in
-    let told = write_told h Payload c.args.value k E v w held c.set_pay.result c.set_pay.ensures.live c.set_pay.ensures.writes c.set_pay.ensures.short (λ why short. object_error h k (store_at v held) why holds short) in
-    let t = subst (λ (s : StoreView g.row.D.Denot). WriteTold h Payload c.args.value k E c.set_pay.result s (store_at w held)) c.self.view_is told in
+    let told = write_told {n = c.self.inside.tending} h Payload c.args.value k E v w held c.set_pay.result c.set_pay.ensures.live c.set_pay.ensures.writes c.set_pay.ensures.short (λ why short. object_error h k (store_at c.self.inside.tending v held) why holds short) in
+    let t = subst (λ (s : StoreView g.row.D.Denot). WriteTold h Payload c.args.value k E c.set_pay.result s (store_at c.self.inside.tending w held)) c.self.view_is told in
     record { live = t.live; sets = t.sets; refused = t.refused; keeps = t.keeps }
