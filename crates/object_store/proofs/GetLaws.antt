@@ -10,7 +10,7 @@ use Rattle.object_store.specs.Seen.{object_slots, IsLive}
 use Rattle.object_store.specs.Calls.{IsShort, Reads, Makes, IsMakeShort, Loads}
 use Rattle.object_store.specs.Handles.{StoreView, store_at, is_live, held_at, IsKept}
 use Rattle.object_store.specs.Steps.{Keeps, Gets, MakesObject, IsGetError, IsMakeError}
-use Rattle.object_store.proofs.KeptLaws.{LiveOpen, is_live_of, kept_of, open_loaded, open_joined, open_short, nonzero_some, still_put, only_put, keeps_same, gets_none, gets_some, makes_of, get_error, NotMade, make_error}
+use Rattle.object_store.proofs.KeptLaws.{LiveOpen, is_live_of, kept_of, open_loaded, open_joined, open_short, nonzero_some, still_put, only_put, keeps_same, gets_none, gets_some, makes_of, get_error, NotMade, make_same, make_error}
 
 -- ---- a read
 
@@ -63,7 +63,7 @@ pub made_told : {D : Type 0} {n : Tending} (v w : LoggedView D) (old new : List 
 made_told v w old new into id live free makes here others = record { live = is_live_of w new live; makes = makes_of v w old new into id makes here (still_put old new into id free others); refused = tt; keeps = tt }
 
 pub kept_unmade : {D : Type 0} (v w : LoggedView D) (held : List (Option ℕ)) (into : ℕ) (why : StoreError) → LiveOpen v held → IsLive w → into < 8 → held_at held into ≡ None → IsMakeShort into why v w → IsKept w held
-kept_unmade v w held into why l live small free short = kept_of (open_short l.opened live (make_error {n = record { log = 0; steps = 0 }} v w held into why (record { register = into; small = small; none = free }) short).same)
+kept_unmade v w held into why l live small free short = kept_of (open_short l.opened live (make_same v w into why short))
 
 pub unmade_told : {D : Type 0} {n : Tending} (v w : LoggedView D) (held : List (Option ℕ)) (into : ℕ) (why : StoreError) → IsLive w → into < 8 → held_at held into ≡ None → IsMakeShort into why v w → MakeTold (Err why) (store_at n v held) (store_at n w held)
 unmade_told {D} {n} v w held into why live small free short =

@@ -125,7 +125,7 @@ only_put old new into id here others r i e = by (r == into) refl
 -- ---- what the calls come to
 
 pub keeps_same : {D : Type 0} {n : Tending} (v w : LoggedView D) (held : List (Option ℕ)) → state_of w ≡ state_of v → Keeps (store_at n v held) (store_at n w held)
-keeps_same v w held same = record { graph = ap (λ s. graph_in s) same; committed = ap (λ (s : State). s.committed) same; held = refl }
+keeps_same v w held same = record { graph = ap (λ s. graph_in s) same; committed = ap (λ (s : State). s.committed) same; held = refl; tending = refl }
 
 pub gets_none : {D : Type 0} {n : Tending} (v w : LoggedView D) (held : List (Option ℕ)) (h : Held) (slot into id : ℕ) → Reads h slot into id v w → id ≡ 0 → Gets h slot None (store_at n v held) (store_at n w held)
 gets_none v w held h slot into id reads zero = record {
@@ -135,6 +135,7 @@ gets_none v w held h slot into id reads zero = record {
   committed = reads.same.committed;
   still = λ r i e. e;
   again = λ r small e. refl;
+  tending = refl;
   made = (into, subst (λ n. Does (call.Read h.register slot into) (reply.Id n) v w) zero reads.does);
 }
 
@@ -147,14 +148,15 @@ gets_some v w old new h slot into id found reads is holds still once = record {
   committed = reads.same.committed;
   still = still;
   again = λ r small e. once r small (e ∙ ap (λ n. Some n) is);
+  tending = refl;
   made = (into, subst (λ n. Does (call.Read h.register slot into) (reply.Id n) v w) (sym is) reads.does);
 }
 
 pub shows_of : {D : Type 0} {n : Tending} (v w : LoggedView D) (held : List (Option ℕ)) (h : Held) (payload : ℕ) → Looks h payload v w → Shows h payload (store_at n v held) (store_at n w held)
-shows_of v w held h payload looks = record { value = looks.value; keeps = record { graph = looks.same.graph; committed = looks.same.committed; held = refl }; made = looks.does }
+shows_of v w held h payload looks = record { value = looks.value; keeps = record { graph = looks.same.graph; committed = looks.same.committed; held = refl; tending = refl }; made = looks.does }
 
 pub sets_of : {D : Type 0} {n : Tending} (v w : LoggedView D) (held : List (Option ℕ)) (h : Held) (place : Place) (value : ℕ) (c : TransactionCall) → Writes c (after_set h.id place value (graph_in (state_of v))) v w → Sets h place value c (store_at n v held) (store_at n w held)
-sets_of v w held h place value c writes = record { graph = writes.graph; committed = writes.committed; held = refl; made = writes.does }
+sets_of v w held h place value c writes = record { graph = writes.graph; committed = writes.committed; held = refl; tending = refl; made = writes.does }
 
 pub makes_of : {D : Type 0} {n : Tending} (v w : LoggedView D) (old new : List (Option ℕ)) (into id : ℕ) → Makes into id v w → held_at new into ≡ Some id → ((r i : ℕ) → held_at old r ≡ Some i → held_at new r ≡ Some i)
     → MakesObject (record { id = id; register = into }) (store_at n v old) (store_at n w new)
@@ -165,6 +167,7 @@ makes_of v w old new into id makes here still = record {
   committed = makes.committed;
   holds = here;
   still = still;
+  tending = refl;
   made = makes.does;
 }
 
@@ -211,6 +214,18 @@ pub record NotMade {D : Type 0} (n : Tending) (v w : LoggedView D) (held : List 
   pub same : state_of w ≡ state_of v
   pub cause : IsMakeError (store_at n v held) why
 
+pub make_same : {D : Type 0} (v w : LoggedView D) (into : ℕ) (why : StoreError) → IsMakeShort into why v w → state_of w ≡ state_of v
+make_same v w into error.Full short = short.same
+make_same v w into error.Memory short = short.same
+make_same v w into error.HistoryFull short = short.same
+make_same v w into error.LogFull short = short.same
+make_same v w into error.NotHeld short = absurd short.cause
+make_same v w into error.NoSuchSlot short = absurd short.cause
+make_same v w into error.TooManyReferences short = absurd short.cause
+make_same v w into error.Disk short = absurd short.cause
+make_same v w into error.Stopped short = absurd short.cause
+make_same v w into error.Ended short = absurd short.cause
+
 pub make_error : {D : Type 0} {n : Tending} (v w : LoggedView D) (held : List (Option ℕ)) (into : ℕ) (why : StoreError) → HasRoom held → IsMakeShort into why v w → NotMade n v w held why
 make_error v w held into error.Full room short = record { same = short.same; cause = (room, short.none) }
 make_error v w held into error.Memory room short = record { same = short.same; cause = (room, (into, short.cause)) }
@@ -226,7 +241,7 @@ make_error v w held into error.Ended room short = absurd short.cause
 -- ---- what a method tells, clause by clause
 
 pub keeps_self : {D : Type 0} (v : StoreView D) → Keeps v v
-keeps_self v = record { graph = refl; committed = refl; held = refl }
+keeps_self v = record { graph = refl; committed = refl; held = refl; tending = refl }
 
 pub record PayloadTold {D : Type 0} (h : Held) (r : Result ℕ StoreError) (old new : StoreView D) : Type 0 where
   pub live : is_live new ≡ true
@@ -272,6 +287,7 @@ pub forgets_of : {D : Type 0} {n : Tending} (v : LoggedView D) (old new : List (
     → ((r i : ℕ) → held_at new r ≡ Some i → held_at old r ≡ Some i) → held_at new 0 ≡ held_at old 0 → (held_at old h.register ≡ Some h.id → h.register < 8) → Forgets h (store_at n v old) (store_at n v new)
 forgets_of v old new h gone others only rooted small = record {
   below = refl;
+  tending = refl;
   gone = λ n e. absurd (let none : held_at new h.register ≡ None = gone n (only h.register h.id e) in cc);
   room = λ n e. record { register = h.register; small = small e; none = gone n e };
   others = others;

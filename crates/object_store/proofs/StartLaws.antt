@@ -4,6 +4,7 @@ use Rattle.std.specs.Prelude.{IfErr, OnOk}
 use Rattle.plain_model.specs.declared.calls.Call.TheVariants as call
 use Rattle.plain_model.specs.declared.calls.Reply.TheVariants as reply
 use Rattle.plain_model.specs.Machine.{State}
+use Rattle.gate_log.specs.State.{used}
 use Rattle.logged_journal.specs.View.{LoggedView}
 use Rattle.logged_journal.specs.Calls.{KeepsDisk}
 use Rattle.object_store.specs.declared.tending.Tending.{Tending}
@@ -31,12 +32,19 @@ quiet_between u m e f = e.quiet (sym e.failed ∙ f)
 pub kept_begun : {D : Type 0} (m w : LoggedView D) → HasBegun m w → IsKept w only_root
 kept_begun m w b = kept_of (record { alone = b.live.alone; rooted = refl; known = λ r id e. b.registers r ∙ e })
 
-pub begins_of : {D : Type 0} {n : Tending} (u m w : LoggedView D) (held : List (Option ℕ)) → Ends u m → HasBegun m w → Begins (store_at n u held) (store_at n w only_root)
-begins_of {D} u m w held e b = record {
+-- where nothing is open, nothing is to be ended
+pub ends_self : {D : Type 0} (u : LoggedView D) → (u.failed ≡ None → IsQuiet (state_of u)) → Ends u u
+ends_self u quiet = record { quiet = quiet; committed = refl; failed = refl; disk = record { disk = refl; durable = refl }; same = λ q. refl }
+
+pub begins_of : {D : Type 0} (n k : Tending) (u m w : LoggedView D) (held : List (Option ℕ)) → Ends u m → HasBegun m w → k.begun ≡ used u.log → k.log ≡ n.log → k.steps ≡ n.steps → Begins (store_at n u held) (store_at k w only_root)
+begins_of {D} n k u m w held e b begun soft steps = record {
   live = is_live_of w only_root b.live;
   graph = b.graph ∙ e.committed;
   committed = b.committed ∙ e.committed;
   held = refl;
+  begun = begun;
+  soft_limit = soft;
+  steps = steps;
   disk = disk_more u m w e.disk b.does.disk;
   made = λ q. subst (λ (x : LoggedView D). Does call.Begin reply.Done x w) (e.same q) b.does;
 }
@@ -57,6 +65,7 @@ not_short {D} u m w held why other e f s =
         cause = λ _ q. subst (λ (x : LoggedView D). IsShortOf call.Begin why x) (e.same q) s.cause;
         closed = λ _. quiet;
         committed = ap (λ (x : State). x.committed) s.same ∙ e.committed;
+        tending = refl;
         disk = disk_more u m w e.disk s.disk;
       };
     }
@@ -72,6 +81,7 @@ fails_of {D} u m w held error.Stopped e h =
         cause = λ n. absurd (n refl);
         closed = λ n. absurd (n refl);
         committed = ap (λ (x : LoggedView D). (state_of x).committed) same ∙ e.committed;
+        tending = refl;
         disk = record { disk = ap (λ (x : LoggedView D). x.disk) same ∙ e.disk.disk; durable = ap (λ (x : LoggedView D). x.durable) same ∙ e.disk.durable };
       };
     }
@@ -91,7 +101,7 @@ pub kept_ended : {D : Type 0} (v w : LoggedView D) (held : List (Option ℕ)) �
 kept_ended v w held e = λ f. inl (e.quiet (sym e.failed ∙ f))
 
 pub aborts_of : {D : Type 0} {n : Tending} (v w : LoggedView D) (held : List (Option ℕ)) → v.failed ≡ None → Ends v w → Aborts (store_at n v held) (store_at n w held)
-aborts_of v w held running e = record { closed = e.quiet running; committed = e.committed; running = e.failed ∙ running; disk = e.disk }
+aborts_of v w held running e = record { closed = e.quiet running; committed = e.committed; running = e.failed ∙ running; tending = refl; disk = e.disk }
 
 pub record CommitTold {D : Type 0} (faults : D → ℕ) (r : Result (Unit {0}) StoreError) (old new : StoreView D) : Type 0 where
   pub done : OnOk r (Commits old new)
@@ -111,7 +121,7 @@ not_told n faults v w held error.Ended running h = absurd h.0
 
 pub commit_told : {D : Type 0} {n : Tending} (faults : D → ℕ) (v w : LoggedView D) (held : List (Option ℕ)) (r : Result (Unit {0}) StoreError) → v.failed ≡ None → OnOk r (HasCommitted v w) → IfErr r (λ why. HasNotCommitted faults why v w) → CommitTold faults r (store_at n v held) (store_at n w held)
 commit_told faults v w held (Ok x) running done failed = record {
-  done = record { closed = done.quiet; committed = done.committed; durable = done.durable; running = done.running; made = done.does };
+  done = record { closed = done.quiet; committed = done.committed; durable = done.durable; running = done.running; tending = refl; made = done.does };
   failed = tt;
 }
 commit_told faults v w held (Err why) running done failed = record { done = tt; failed = not_told _ faults v w held why running failed }

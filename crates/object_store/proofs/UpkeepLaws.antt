@@ -49,6 +49,7 @@ collects_of events u m w held e makes reach = record {
   reach = subst (λ (g : List Object). SameReachable (state_of w).committed g) e.committed reach;
   removes = λ id o there. subst (λ (g : List Object). object_at g id ≡ Some o) e.committed (makes.removes id o there);
   running = makes.running;
+  tending = refl;
   disk = record { disk = makes.disk.disk ∙ e.disk.disk; durable = makes.disk.durable ∙ e.disk.durable };
 }
 
@@ -99,6 +100,7 @@ misses : {D : Type 0} {n : Tending} (faults : D → ℕ) (why : StoreError) (u m
 misses faults why u m w held e same q t = record {
   closed = ap (λ (s : State). s.active) same ∙ q;
   committed = ap (λ (s : State). s.committed) same ∙ e.committed;
+  tending = refl;
   ended = m;
   ends = e;
   turns = t;
@@ -128,6 +130,7 @@ checkpoint_told faults may_leave u m w held (Ok x) e q turns fails = record {
   done = record {
     closed = ap (λ (n : Moment). n.state.active) turns.same ∙ q;
     committed = ap (λ (n : Moment). n.state.committed) turns.same ∙ e.committed;
+    tending = refl;
     ended = m;
     ends = e;
     turns = turns;

@@ -7,6 +7,7 @@ use Rattle.plain_model.specs.declared.calls.Call.TheVariants as call
 use Rattle.plain_model.specs.declared.calls.Reply.TheVariants as reply
 use Rattle.plain_model.specs.Graphs.{has_object, put_object, after_set, blank}
 use Rattle.plain_model.specs.Machine.{free_id}
+use Rattle.gate_log.specs.State.{used}
 use Rattle.logged_journal.specs.Calls.{DoesCall, FailsCommit, KeepsDisk}
 use Rattle.object_store.specs.declared.error.StoreError.{StoreError}
 use Rattle.object_store.specs.declared.error.StoreError.TheVariants as error
@@ -28,6 +29,7 @@ pub record Keeps {D : Type 0} (old new : StoreView D) : Type 0 where
   pub graph : graph_of new ≡ graph_of old
   pub committed : committed_of new ≡ committed_of old
   pub held : new.held ≡ old.held
+  pub tending : new.tending ≡ old.tending
 
 -- ---- the calls
 
@@ -40,6 +42,7 @@ pub record Gets {D : Type 0} (h : Held) (slot : ℕ) (found : Option Held) (old 
   pub committed : committed_of new ≡ committed_of old
   pub still : StillHolds old new
   pub again : (r : ℕ) → r < 8 → held_at old.held r ≡ Some (id_of found) → new.held ≡ old.held
+  pub tending : new.tending ≡ old.tending
   pub made : (into : ℕ) × Does (call.Read h.register slot into) (reply.Id (id_of found)) old.below new.below
 
 -- the payload of the object was read, and is this; all is as before
@@ -53,6 +56,7 @@ pub record Sets {D : Type 0} (h : Held) (place : Place) (value : ℕ) (c : Trans
   pub graph : graph_of new ≡ after_set h.id place value (graph_of old)
   pub committed : committed_of new ≡ committed_of old
   pub held : new.held ≡ old.held
+  pub tending : new.tending ≡ old.tending
   pub made : Does c reply.Done old.below new.below
 
 -- an object was made under an id that the graph didn't have, and the handle holds it
@@ -63,6 +67,7 @@ pub record MakesObject {D : Type 0} (h : Held) (old new : StoreView D) : Type 0 
   pub committed : committed_of new ≡ committed_of old
   pub holds : Holds new h
   pub still : StillHolds old new
+  pub tending : new.tending ≡ old.tending
   pub made : Does (call.Make h.register) (reply.Id h.id) old.below new.below
 
 -- ---- why a call isn't done: in each definition the first error that applies
@@ -97,12 +102,15 @@ IsMakeError v why = HasRoom v.held × ((into : ℕ) × IsShortOf (call.Make into
 
 -- ---- beginning and ending
 
--- a transaction has begun: it sees the committed graph, and holds the root
+-- a transaction has begun: it sees the committed graph, and holds the root; how much of the log was in use is kept
 pub record Begins {D : Type 0} (old new : StoreView D) : Type 0 where
   pub live : is_live new ≡ true
   pub graph : graph_of new ≡ committed_of old
   pub committed : committed_of new ≡ committed_of old
   pub held : new.held ≡ only_root
+  pub begun : new.tending.begun ≡ used old.below.log
+  pub soft_limit : new.tending.log ≡ old.tending.log
+  pub steps : new.tending.steps ≡ old.tending.steps
   pub disk : KeepsDisk old.below new.below
   pub made : IsClosed old → Does call.Begin reply.Done old.below new.below
 
@@ -113,6 +121,7 @@ pub record FailsToBegin {D : Type 0} (why : StoreError) (old new : StoreView D) 
   pub cause : why ≢ error.Stopped → IsClosed old → IsShortOf call.Begin why old.below
   pub closed : why ≢ error.Stopped → IsClosed new
   pub committed : committed_of new ≡ committed_of old
+  pub tending : new.tending ≡ old.tending
   pub disk : KeepsDisk old.below new.below
 
 -- the transaction was ended without its writes: what is committed is as before, and so is the disk
@@ -120,6 +129,7 @@ pub record Aborts {D : Type 0} (old new : StoreView D) : Type 0 where
   pub closed : IsClosed new
   pub committed : committed_of new ≡ committed_of old
   pub running : new.below.failed ≡ None
+  pub tending : new.tending ≡ old.tending
   pub disk : KeepsDisk old.below new.below
 
 -- the transaction was committed: what it saw is committed now, and durable
@@ -128,6 +138,7 @@ pub record Commits {D : Type 0} (old new : StoreView D) : Type 0 where
   pub committed : committed_of new ≡ graph_of old
   pub durable : new.below.durable ≡ length new.below.journal.notes
   pub running : new.below.failed ≡ None
+  pub tending : new.tending ≡ old.tending
   pub made : DoesCall object_slots old.below.journal new.below.journal client call.Commit reply.Done
 
 -- The commit failed. No transaction was open. Or the disk failed a call: the store is stopped, and the next opening finds whether the
@@ -143,6 +154,7 @@ FailsToCommit faults old new why = IsShortOf call.Commit why old.below × Aborts
 -- is as before.
 pub record Forgets {D : Type 0} (h : Held) (old new : StoreView D) : Type 0 where
   pub below : new.below ≡ old.below
+  pub tending : new.tending ≡ old.tending
   pub gone : h.register ≢ 0 → Holds new h → ⊥
   pub room : h.register ≢ 0 → Holds old h → HasRoom new.held
   pub others : (r : ℕ) → r ≢ h.register → held_at new.held r ≡ held_at old.held r

@@ -126,6 +126,7 @@ pub record Collects {D : Type 0} (old new : StoreView D) : Type 0 where
   pub reach : SameReachable (committed_of new) (committed_of old)
   pub removes : OnlyRemoves (committed_of old) (committed_of new)
   pub running : new.below.failed ≡ None
+  pub tending : new.tending ≡ old.tending
   pub disk : KeepsDisk old.below new.below
 
 -- so many steps of it were asked for, and so many objects wait now
@@ -152,6 +153,7 @@ FailsToCollect steps why old new = CollectsShort steps why old new
 pub record Checkpoints {D : Type 0} (may_leave : D → Area → List ℕ → Type 0) (old new : StoreView D) : Type 0 where
   pub closed : IsClosed new
   pub committed : committed_of new ≡ committed_of old
+  pub tending : new.tending ≡ old.tending
   pub ended : LoggedView D
   pub ends : Ends old.below ended
   pub turns : TurnsLog may_leave ended new.below
@@ -160,6 +162,7 @@ pub record Checkpoints {D : Type 0} (may_leave : D → Area → List ℕ → Typ
 pub record MissesCheckpoint {D : Type 0} (faults : D → ℕ) (why : StoreError) (old new : StoreView D) : Type 0 where
   pub closed : IsClosed new
   pub committed : committed_of new ≡ committed_of old
+  pub tending : new.tending ≡ old.tending
   pub ended : LoggedView D
   pub ends : Ends old.below ended
   pub turns : TurnsNot faults why ended new.below

@@ -22,7 +22,7 @@ pub enum StoreError {
     /// The history of this opening is full. Close the store and open it again.
     #[error("the history of this opening is full")]
     HistoryFull,
-    /// The log is full.
+    /// The log is full. In a transaction that comes only where it alone has more bytes than the limit of the log has beside the soft one.
     #[error("the log is full")]
     LogFull,
     /// The disk failed a call. Of a commit the next opening finds all or nothing, and a checkpoint loses nothing.

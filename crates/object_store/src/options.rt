@@ -22,7 +22,8 @@ impl Options {
     pub fn new() -> Options
         ensures pages { result.pages ≡ 1024 }
         ensures limits { result.limits ≡ record { trace = 1048576; log = 1071644672 } }
-        ensures tending { result.tending ≡ record { log = 535822336; steps = 16 } }
+        ensures soft_limit { result.tending.log ≡ 535822336 }
+        ensures steps { result.tending.steps ≡ 16 }
     {
         Limits::greatest();
         Options {
@@ -31,6 +32,7 @@ impl Options {
             tending: Tending {
                 log: 535_822_336,
                 steps: 16,
+                begun: 0,
             },
         }
     }
@@ -68,7 +70,8 @@ impl Options {
     pub fn with_log_limit(self, bytes: u64) -> Options
         ensures pages { result.pages ≡ self.pages }
         ensures limits { result.limits ≡ record self.limits { log = min bytes 1071644672 } }
-        ensures tending { result.tending ≡ record self.tending { log = min bytes 1071644672 / 2 } }
+        ensures soft_limit { result.tending.log ≡ min bytes 1071644672 / 2 }
+        ensures steps { result.tending.steps ≡ self.tending.steps }
     {
         let most = bytes.min(1_071_644_672);
         Options {
@@ -80,6 +83,7 @@ impl Options {
             tending: Tending {
                 log: most / 2,
                 steps: self.tending.steps,
+                begun: 0,
             },
         }
     }
@@ -88,7 +92,8 @@ impl Options {
     pub fn with_soft_log_limit(self, bytes: u64) -> Options
         ensures pages { result.pages ≡ self.pages }
         ensures limits { result.limits ≡ self.limits }
-        ensures tending { result.tending ≡ record self.tending { log = bytes } }
+        ensures soft_limit { result.tending.log ≡ bytes }
+        ensures steps { result.tending.steps ≡ self.tending.steps }
     {
         Options {
             pages: self.pages,
@@ -96,6 +101,7 @@ impl Options {
             tending: Tending {
                 log: bytes,
                 steps: self.tending.steps,
+                begun: 0,
             },
         }
     }
@@ -104,7 +110,8 @@ impl Options {
     pub fn with_collector_steps(self, steps: u32) -> Options
         ensures pages { result.pages ≡ self.pages }
         ensures limits { result.limits ≡ self.limits }
-        ensures tending { result.tending ≡ record self.tending { steps = steps } }
+        ensures soft_limit { result.tending.log ≡ self.tending.log }
+        ensures steps { result.tending.steps ≡ steps }
     {
         Options {
             pages: self.pages,
@@ -112,6 +119,7 @@ impl Options {
             tending: Tending {
                 log: self.tending.log,
                 steps,
+                begun: 0,
             },
         }
     }

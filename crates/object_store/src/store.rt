@@ -1,8 +1,9 @@
 //! A store, and how a transaction of it begins and ends.
-ghost use Rattle.std.specs.Prelude.{◌≡◌, true, IfOk, IfErr, OnOk};
+ghost use Rattle.std.specs.Prelude.{◌≡◌, ◌≤◌, max, true, None, IfOk, IfErr, OnOk};
 ghost use Rattle.disk_model.specs.Time.{LeavesOnlyImages};
 ghost use Rattle.cell_model.specs.Graph.{graph_of as graph_of_cells};
 ghost use Rattle.journal_opening.specs.Openings.{OpensAs, RefusesToOpen, OpensMeanwhile, HasFault};
+ghost use Rattle.gate_log.specs.State.{used};
 ghost use Rattle.logged_journal.specs.Opens.{OpensDuring};
 ghost use Rattle.object_store.specs.Seen.{object_slots, client};
 
@@ -45,7 +46,8 @@ impl<D: Disk> Store<D> {
     ghost use Rattle.object_store.specs.contracts.store.Store.{the_row};
     ghost use Rattle.object_store.specs.Handles.{graph_of, committed_of, is_live, IsClosed};
     ghost use Rattle.object_store.specs.Steps.{Begins, FailsToBegin, Aborts, Commits, FailsToCommit};
-    ghost use Rattle.object_store.specs.Tended.{Starts, FailsToStart, CommitsAndCollects};
+    ghost use Rattle.object_store.specs.Upkeep.{soft_limit};
+    ghost use Rattle.object_store.specs.Tended.{EndsLeft, Starts, FailsToStart, CommitsAndCollects};
 
     /// Opens the store that the disk holds. Where it isn't opened the disk is handed back.
     ///
@@ -91,9 +93,10 @@ impl<D: Disk> Store<D> {
 
     /// Begins a transaction. It sees what is committed, and holds the root.
     ///
-    /// Where more of the log is in use than the soft limit of the options, a checkpoint is made first; its error is answered. Else
-    /// [`StoreError::Stopped`] comes exactly where the disk failed a call before, and otherwise the transaction begins, unless memory, the
-    /// history or the log is short. What a handle left without a commit is ended first, without its writes.
+    /// What a handle left without a commit is ended first, without its writes. Where more of the log is in use then than the soft limit of
+    /// the options, a checkpoint is made, and its error is answered. Else [`StoreError::Stopped`] comes exactly where the disk failed a call
+    /// before, and otherwise the transaction begins, unless memory or the history is short. [`StoreError::LogFull`] comes only from the
+    /// checkpoint, and where the soft limit and nine bytes more pass the limit of the log.
     pub fn begin(&mut self) -> Result<Transaction<'_, D>, StoreError>
         ensures* refused { sem 𝓛 (RestsIfErr (the_row D.row D.Disk) self.entry (λ t. t.store.ghost_name) result (λ last. IfErr result (λ why. FailsToStart D.faults D.may_leave why self.old last))) }
         ensures same_reference { IfOk result (λ t. t.store.ghost_name ≡ self.entry.ghost_name) }
@@ -103,26 +106,37 @@ impl<D: Disk> Store<D> {
         Ok(Transaction::new(self))
     }
 
-    /// Makes the store ready, and begins a transaction.
+    /// Ends what was left open, makes the store ready, and begins a transaction.
     fn start_ready(&mut self) -> Result<(), StoreError>
         ensures begun { OnOk result (Starts D.may_leave self.old self.new) }
         ensures refused { IfErr result (λ why. FailsToStart D.faults D.may_leave why self.old self.new) }
     {
+        self.end_left();
         match self.ready() {
             Ok(()) => self.start(),
             Err(why) => Err(why),
         }
     }
 
+    /// Ends the transaction that a handle left open, if there is one.
+    fn end_left(&mut self)
+        ensures { EndsLeft self.old self.new }
+    {
+        ending::end_open(&mut self.framed);
+    }
+
     /// Begins a transaction.
     fn start(&mut self) -> Result<(), StoreError>
+        requires closed { self.old.below.failed ≡ None → IsClosed self.old }
+        requires room { used self.old.below.log ≤ max 15 (soft_limit self.old) }
         ensures begun { OnOk result (Begins self.old self.new) }
         ensures refused { IfErr result (λ why. FailsToBegin why self.old self.new) }
     {
-        ending::end_open(&mut self.framed);
+        let used = self.framed.logged().log_used();
         match ending::begin(&mut self.framed) {
             Ok(()) => {
                 self.table = Table::new();
+                self.tending = self.tending.at_beginning(used);
                 Ok(())
             }
             Err(why) => Err(why),

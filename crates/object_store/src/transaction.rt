@@ -7,7 +7,7 @@ ghost use Rattle.logged_journal.specs.Opens.{OpensDuring};
 ghost use Rattle.object_store.specs.Seen.{object_slots, client};
 ghost use Rattle.object_store.specs.Handles.{is_live, graph_of, Holds};
 ghost use Rattle.object_store.specs.Steps.{id_of, register_of, Keeps, Gets, Shows, Sets, MakesObject, IsObjectError, IsGetError, IsSetError, IsMakeError, Forgets, Aborts, FailsToCommit};
-ghost use Rattle.object_store.specs.Tended.{CommitsAndCollects};
+ghost use Rattle.object_store.specs.Tended.{IsTooLong, CommitsAndCollects};
 
 use crate::error::StoreError;
 use crate::reference::{Held, Ref};
@@ -73,6 +73,7 @@ impl<'t, D: Disk> Transaction<'t, D> {
         ensures makes { IfOk result (λ made. MakesObject made.held self.old.store.now self.new.store.now) }
         ensures refused { IfErr result (λ why. IsMakeError self.old.store.now why) }
         ensures keeps { IfErr result (λ _. Keeps self.old.store.now self.new.store.now) }
+        ensures alone { IfErr result (λ why. why ≡ StoreError.LogFull → IsTooLong self.old.store.now (Call.Make 0)) }
     {
         if !self.store.is_open() {
             return Err(StoreError::Ended);
@@ -91,6 +92,7 @@ impl<'t, D: Disk> Transaction<'t, D> {
         ensures gets { IfOk result (λ found. Gets object.entry.held slot (option_map (λ r. r.held) found) self.old.store.now self.new.store.now) }
         ensures refused { IfErr result (λ why. IsGetError object.entry.held slot self.old.store.now why) }
         ensures keeps { IfErr result (λ _. Keeps self.old.store.now self.new.store.now) }
+        ensures alone { IfErr result (λ why. why ≡ StoreError.LogFull → IsTooLong self.old.store.now (Call.Read object.entry.held.register slot 0)) }
     {
         if !self.store.is_open() {
             return Err(StoreError::Ended);
@@ -110,6 +112,7 @@ impl<'t, D: Disk> Transaction<'t, D> {
         ensures sets { OnOk result (Sets object.entry.held (Slot slot) (id_of (option_map (λ r. r.held) to.entry)) (Call.Store object.entry.held.register slot (register_of (option_map (λ r. r.held) to.entry))) self.old.store.now self.new.store.now) }
         ensures refused { IfErr result (λ why. IsSetError object.entry.held slot (option_map (λ r. r.held) to.entry) self.old.store.now why) }
         ensures keeps { IfErr result (λ _. Keeps self.old.store.now self.new.store.now) }
+        ensures alone { IfErr result (λ why. why ≡ StoreError.LogFull → IsTooLong self.old.store.now (Call.Store object.entry.held.register slot (register_of (option_map (λ r. r.held) to.entry)))) }
     {
         if !self.store.is_open() {
             return Err(StoreError::Ended);
@@ -125,6 +128,7 @@ impl<'t, D: Disk> Transaction<'t, D> {
         ensures shows { IfOk result (λ payload. Shows object.entry.held payload self.old.store.now self.new.store.now) }
         ensures refused { IfErr result (λ why. IsObjectError object.entry.held (Call.GetPay object.entry.held.register) self.old.store.now why) }
         ensures keeps { IfErr result (λ _. Keeps self.old.store.now self.new.store.now) }
+        ensures alone { IfErr result (λ why. why ≡ StoreError.LogFull → IsTooLong self.old.store.now (Call.GetPay object.entry.held.register)) }
     {
         if !self.store.is_open() {
             return Err(StoreError::Ended);
@@ -140,6 +144,7 @@ impl<'t, D: Disk> Transaction<'t, D> {
         ensures sets { OnOk result (Sets object.entry.held Payload value (Call.SetPay object.entry.held.register value) self.old.store.now self.new.store.now) }
         ensures refused { IfErr result (λ why. IsObjectError object.entry.held (Call.SetPay object.entry.held.register value) self.old.store.now why) }
         ensures keeps { IfErr result (λ _. Keeps self.old.store.now self.new.store.now) }
+        ensures alone { IfErr result (λ why. why ≡ StoreError.LogFull → IsTooLong self.old.store.now (Call.SetPay object.entry.held.register value)) }
     {
         if !self.store.is_open() {
             return Err(StoreError::Ended);
@@ -168,6 +173,7 @@ impl<'t, D: Disk> Transaction<'t, D> {
         ensures ended { is_live self.entry.store.now ≡ false → IsErrOf result StoreError.Ended }
         ensures done { OnOk result (CommitsAndCollects self.entry.store.now self.exit.0.now) }
         ensures failed { IfErr result (λ why. FailsToCommit D.faults self.entry.store.now self.exit.0.now why) }
+        ensures alone { IfErr result (λ why. why ≡ StoreError.LogFull → IsTooLong self.entry.store.now Call.Commit) }
 
         // At each moment of the call a power loss leaves a disk that opens, to a graph that a crash before the call may leave, or, where
         // the commit is granted, one after the disk failed it.
