@@ -22,8 +22,8 @@ use Rattle.object_store.specs.Handles.{StoreView, committed_of, IsClosed}
 use Rattle.object_store.specs.Seen.{client, state_of, IsQuiet}
 use Rattle.object_store.specs.Calls.{IsShortOf}
 use Rattle.object_store.specs.Steps.{register_of, IsGetError, IsSetError, IsMakeError, IsObjectError, Begins, FailsToBegin, Commits, FailsToCommit}
-use Rattle.object_store.specs.Upkeep.{MakesEvents, CollectsUpTo, CollectsShort, FailsToCollect, soft_limit, Readies}
-use Rattle.object_store.specs.Tended.{EndsLeft, Starts, HasNoRoom, IsTooLong, FailsToStart, refused, CollectsAtMost, CommitsAndCollects}
+use Rattle.object_store.specs.Upkeep.{waiting_of, CollectsUpTo, CollectsShort, FailsToCollect, Collects, soft_limit, Readies}
+use Rattle.object_store.specs.Tended.{EndsLeft, Starts, HasNoRoom, IsTooLong, FailsToStart, refused, CollectsAfter, made, short, CommitsAndCollects}
 
 -- ---- beginning
 
@@ -146,30 +146,23 @@ short_of steps error.Disk m w running c = c
 short_of steps error.Ended m w running c = c
 short_of steps error.Stopped m w running c = absurd (c.0 running)
 
-at_most : {D : Type 0} (steps : ℕ) (u m w : StoreView D) (r : Result ℕ StoreError) → Commits u m → IfOk r (λ left. CollectsUpTo steps left m w) → IfErr r (λ why. FailsToCollect steps why m w) → CollectsAtMost steps m w
-at_most {D} steps u m w (Ok left) c up short = record {
-  collects = up.collects;
-  events = up.makes.events;
-  within = up.makes.within;
-  makes = subst (λ (x : LoggedView D). MakesEvents up.makes.events x w.below) (up.ends.same c.closed) up.makes.makes;
-}
-at_most {D} steps u m w (Err why) c up fails =
-    let short = short_of steps why m w c.running fails in
-    record {
-      collects = short.collects;
-      events = short.makes.events;
-      within = omega (arith, short.makes.within);
-      makes = subst (λ (x : LoggedView D). MakesEvents short.makes.events x w.below) (short.ends.same c.closed) short.makes.makes;
-    }
+collects_after : {D : Type 0} (steps : ℕ) (m w : StoreView D) (r : Result ℕ StoreError) → m.below.failed ≡ None → IfOk r (λ left. CollectsUpTo steps left m w) → IfOk r (λ left. left ≡ waiting_of w) → IfErr r (λ why. FailsToCollect steps why m w) → CollectsAfter steps m w
+collects_after {D} steps m w (Ok left) running up waits fails = made (subst (λ (n : ℕ). CollectsUpTo steps n m w) waits up)
+collects_after {D} steps m w (Err why) running up waits fails = short why (short_of steps why m w running fails)
 
-pub collected : {D : Type 0} (u m w : StoreView D) (r : Result ℕ StoreError) → Commits u m → IfOk r (λ left. CollectsUpTo u.tending.steps left m w) → IfErr r (λ why. FailsToCollect u.tending.steps why m w) → CommitsAndCollects u w
-collected u m w r c up fails =
-    let most = at_most u.tending.steps u m w r c up fails in
+collects_so : {D : Type 0} (steps : ℕ) (m w : StoreView D) → CollectsAfter steps m w → Collects m w
+collects_so steps m w (made up) = up.collects
+collects_so steps m w (short why s) = s.collects
+
+pub collected : {D : Type 0} (u m w : StoreView D) (r : Result ℕ StoreError) → Commits u m → IfOk r (λ left. CollectsUpTo u.tending.steps left m w) → IfOk r (λ left. left ≡ waiting_of w) → IfErr r (λ why. FailsToCollect u.tending.steps why m w) → CommitsAndCollects u w
+collected u m w r c up waits fails =
+    let after = collects_after u.tending.steps m w r c.running up waits fails in
+    let so = collects_so u.tending.steps m w after in
     record {
-      closed = most.collects.closed;
-      reach = subst (λ (g : List Object). SameReachable (committed_of w) g) c.committed most.collects.reach;
-      removes = λ id o there. subst (λ (g : List Object). object_at g id ≡ Some o) c.committed (most.collects.removes id o there);
+      closed = so.closed;
+      reach = subst (λ (g : List Object). SameReachable (committed_of w) g) c.committed so.reach;
+      removes = λ id o there. subst (λ (g : List Object). object_at g id ≡ Some o) c.committed (so.removes id o there);
       committed = m;
       commits = c;
-      collects = most;
+      collects = after;
     }

@@ -1,5 +1,5 @@
 -- A store that makes checkpoints and collects by itself.
-use Rattle.std.specs.Prelude.{◌≡◌, ℕ, ◌+◌, ◌-◌, ◌<◌, ◌≤◌, max, List}
+use Rattle.std.specs.Prelude.{◌≡◌, ℕ, ◌+◌, ◌-◌, ◌<◌, max, List}
 use Rattle.plain_model.specs.declared.calls.Call.{Call as TransactionCall}
 use Rattle.plain_model.specs.History.{end_of, SameReachable}
 use Rattle.disk_model.specs.declared.area.Area.{Area}
@@ -10,7 +10,7 @@ use Rattle.object_store.specs.declared.error.StoreError.TheVariants as error
 use Rattle.object_store.specs.Ends.{Ends}
 use Rattle.object_store.specs.Handles.{StoreView, graph_of, committed_of, IsClosed}
 use Rattle.object_store.specs.Steps.{Begins, FailsToBegin, Commits}
-use Rattle.object_store.specs.Upkeep.{OnlyRemoves, MakesEvents, Collects, FailsToCheckpoint, soft_limit, Readies}
+use Rattle.object_store.specs.Upkeep.{OnlyRemoves, waiting_of, CollectsUpTo, CollectsShort, FailsToCheckpoint, soft_limit, Readies}
 
 -- ---- beginning
 
@@ -51,12 +51,10 @@ IsTooLong v c = v.below.journal.limits.log < max 15 (soft_limit v) + own_bytes v
 
 -- ---- committing
 
--- the collector made so many steps at most
-pub record CollectsAtMost {D : Type 0} (steps : ℕ) (old new : StoreView D) : Type 0 where
-  pub collects : Collects old new
-  pub events : ℕ
-  pub within : events ≤ steps
-  pub makes : MakesEvents events old.below new.below
+-- the collector made so many steps, or fewer where no object waits any more, or where something is short
+pub data CollectsAfter {D : Type 0} (steps : ℕ) (old new : StoreView D) : Type 0 where
+  made : CollectsUpTo steps (waiting_of new) old new → CollectsAfter steps old new
+  short : (why : StoreError) → CollectsShort steps why old new → CollectsAfter steps old new
 
 -- The transaction was committed, and then the collector made some steps. What is committed now is what the transaction saw, but for
 -- objects that the root doesn't reach.
@@ -66,4 +64,4 @@ pub record CommitsAndCollects {D : Type 0} (old new : StoreView D) : Type 0 wher
   pub removes : OnlyRemoves (graph_of old) (committed_of new)
   pub committed : StoreView D
   pub commits : Commits old committed
-  pub collects : CollectsAtMost old.tending.steps committed new
+  pub collects : CollectsAfter old.tending.steps committed new

@@ -10,4 +10,4 @@ returns-in-Ok-clause-done g c =
     let u = store_at c.self.inside.tending c.self.inside.framed c.self.inside.table in
     let m = c.commit.new.self in
     let w = c.collect.new.self in
-    (subst (λ (s : StoreView g.row.D.Denot). Commits s m → CommitsAndCollects s w) c.self.view_is (λ k. collected u m w c.collect.result k c.collect.ensures.collects c.collect.ensures.failed)) c.in-Ok.ensures.done
+    (subst (λ (s : StoreView g.row.D.Denot). Commits s m → CommitsAndCollects s w) c.self.view_is (λ k. collected u m w c.collect.result k c.collect.ensures.collects c.collect.ensures.waiting c.collect.ensures.failed)) c.in-Ok.ensures.done
